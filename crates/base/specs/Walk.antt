@@ -1,0 +1,68 @@
+-- The first place at which a test fails: what a loop finds that tests the places in order and stops by `break`.
+-- The loop's invariant is `Walked`, its turn `walk-next`, its ways out `walk-end` and `walk-found`.
+use Prim.Native.Nat.{ℕ, zero, suc, _+_, _-_, _<_, _≤_}
+use mathlib.Core.Path.{_≡_, refl, sym, _∙_}
+use mathlib.Core.Bool.{Bool, true, false, cond, not}
+use native.Mathlib.Omega.{arith}
+use native.Mathlib.Numerals.{add-one}
+use native.Mathlib.Decide.{ℕ-discrete}
+use borrow.Author.Tests.{not-true, not-false}
+
+-- the first of the k places from i on at which f is false, or i + k
+unfoldable pub firstFrom : (ℕ → Bool) → ℕ → ℕ → ℕ
+firstFrom f i zero = i
+firstFrom f i (suc k) = cond (f i) (firstFrom f (suc i) k) i
+
+-- the first of n places at which f is false, or n
+abbrev pub first : (ℕ → Bool) → ℕ → ℕ
+first f n = firstFrom f 0 n
+
+-- the places before i passed the test
+pub record Walked (f : ℕ → Bool) (n i : ℕ) : Type 0 where
+  pub within : i ≤ n
+  pub so-far : first f n ≡ firstFrom f i (n - i)
+
+pub walk-start : (f : ℕ → Bool) (n : ℕ) → Walked f n 0
+walk-start f n = let e : n - 0 ≡ n = omega arith in record { within = omega arith; so-far = rw e }
+
+module _ {f : ℕ → Bool} {n i : ℕ} (w : Walked f n i) where
+  pub walk-end : n ≤ i → i ≡ first f n
+  unfolding firstFrom
+  walk-end h = let k : n - i ≡ 0 = omega arith in sym (w .so-far ∙ rw k)
+
+  pub walk-stop : i < n → f i ≡ false → i ≡ first f n
+  unfolding firstFrom
+  walk-stop h e = let k : n - i ≡ suc (n - i - 1) = omega arith in sym (w .so-far ∙ rw (k, e))
+
+  pub walk-pass : i < n → f i ≡ true → Walked f n (i + 1)
+  unfolding firstFrom
+  walk-pass h e =
+      let k : n - i ≡ suc (n - (i + 1)) = omega arith in
+      record { within = omega arith; so-far = w .so-far ∙ rw (k, e, add-one) }
+
+  -- the same where a function answers the test, as `if !f(i) { break i; }`
+  pub walk-found : (t : Bool) → t ≡ f i → i < n → not t ≡ true → i ≡ first f n
+  walk-found t a h e = walk-stop h (sym a ∙ not-true t e)
+
+  pub walk-next : (t : Bool) → t ≡ f i → i < n → not t ≡ false → Walked f n (i + 1)
+  walk-next t a h e = walk-pass h (sym a ∙ not-false t e)
+
+-- where the walk came to the end, every test held
+all-from : (f : ℕ → Bool) (k i j : ℕ) → i + k ≤ firstFrom f i k → i ≤ j → j < i + k → f j ≡ true
+unfolding firstFrom
+all-from f zero i j e h g = absurd (omega arith)
+all-from f (suc k) i j e h g = go (all-from f k (suc i) j) (f i) refl e
+  where
+    Rest : Type 0
+    Rest = suc i + k ≤ firstFrom f (suc i) k → suc i ≤ j → j < suc i + k → f j ≡ true
+
+    from : Rest → i + suc k ≤ firstFrom f (suc i) k → f i ≡ true → Dec (i ≡ j) → f j ≡ true
+    from rest x y (yes p) = rw p at y
+    from rest x y (no p) = rest (omega arith) (omega arith) (omega arith)
+
+    go : Rest → (t : Bool) → f i ≡ t → i + suc k ≤ cond t (firstFrom f (suc i) k) i → f j ≡ true
+    go rest true y x = from rest x y (ℕ-discrete i j)
+    go rest false y x = absurd (omega arith)
+
+pub first-all : (f : ℕ → Bool) (n : ℕ) → n ≤ first f n → (j : ℕ) → j < n → f j ≡ true
+first-all f n h j g = all-from f n 0 j (omega arith) (omega arith) (omega arith)

@@ -1,0 +1,4 @@
+pub mod Stores
+pub mod Laws
+pub mod Parts
+pub mod Outcome

@@ -1,0 +1,4 @@
+pub mod Limits
+pub mod Fields
+pub mod Words
+pub mod Laws

@@ -1,0 +1,58 @@
+-- The paper's widths and limits. Each number has its name here and nowhere else.
+use Prim.Native.Nat.{ℕ, _-_, _^_}
+
+-- "All words are 64 bits, unsigned."
+abbrev pub wordBits : ℕ
+wordBits = 64
+
+-- "EID means epoch number, 0 to 2^24 − 1."
+abbrev pub epochBits : ℕ
+epochBits = 24
+
+abbrev pub lastEpoch : ℕ
+lastEpoch = 2 ^ epochBits - 1
+
+-- "address 16"
+abbrev pub addressBits : ℕ
+addressBits = 16
+
+-- control word: "log start 20, log length 20"
+abbrev pub ringBits : ℕ
+ringBits = 20
+
+-- shape word: "zero 24, N 20, L 20"
+abbrev pub versionBits : ℕ
+versionBits = 24
+
+abbrev pub sizeBits : ℕ
+sizeBits = 20
+
+-- slot word: "valid 1, dirty 1, .., zero 22"
+abbrev pub flagBits : ℕ
+flagBits = 1
+
+abbrev pub spareBits : ℕ
+spareBits = 22
+
+-- the shape word's first field: "zero 24"
+abbrev pub boardVersion : ℕ
+boardVersion = 0
+
+-- "N lines, 1 to 65,536. L log entries, 1 to 65,536."
+abbrev pub mostLines : ℕ
+mostLines = 65536
+
+abbrev pub mostEntries : ℕ
+mostEntries = 65536
+
+-- "S slots from 1 to 256"
+abbrev pub mostSlots : ℕ
+mostSlots = 256
+
+-- "32 places for undo entries"
+abbrev pub bufferPlaces : ℕ
+bufferPlaces = 32
+
+-- "s − P ≤ 16": how far the running epoch may be ahead of the persisted one
+abbrev pub mostAhead : ℕ
+mostAhead = 16

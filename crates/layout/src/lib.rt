@@ -1,0 +1,190 @@
+// The packed words of the board and of the work memory, and the widths and limits that they have.
+// No other crate knows where a field stands in its word.
+ghost use Rattle.layout.specs.Words.{Decoded};
+ghost use Rattle.layout.specs.Words.{encodeControl, decodeControl, ControlFits};
+ghost use Rattle.layout.specs.Words.{encodeShape, decodeShape, ShapeFits};
+ghost use Rattle.layout.specs.Words.{encodeEntry, decodeEntry, EntryFits};
+ghost use Rattle.layout.specs.Words.{encodeSlot, decodeSlot, SlotFits, IsBit};
+ghost use mathlib.Core.Path.{_≡_};
+
+// Widths in bits.
+const EPOCH_BITS: u32 = 24;
+
+const ADDRESS_BITS: u32 = 16;
+
+const RING_BITS: u32 = 20;
+
+const SIZE_BITS: u32 = 20;
+
+const FLAG_BITS: u32 = 1;
+
+const SPARE_BITS: u32 = 22;
+
+// How many values a field of such a width has.
+const EPOCHS: u64 = 1 << EPOCH_BITS;
+
+const ADDRESSES: u64 = 1 << ADDRESS_BITS;
+
+const PLACES: u64 = 1 << RING_BITS;
+
+const SIZES: u64 = 1 << SIZE_BITS;
+
+const FLAGS: u64 = 1 << FLAG_BITS;
+
+const SPARES: u64 = 1 << SPARE_BITS;
+
+// Limits.
+pub const LAST_EPOCH: u64 = EPOCHS - 1;
+
+pub const BOARD_VERSION: u64 = 0;
+
+pub const MOST_LINES: u64 = 65536;
+
+pub const MOST_ENTRIES: u64 = 65536;
+
+pub const MOST_SLOTS: usize = 256;
+
+pub const BUFFER_PLACES: usize = 32;
+
+pub const MOST_AHEAD: u64 = 16;
+
+// The control word: the persisted epoch, and where in the ring the log starts and how many entries it has.
+pub struct Control {
+    pub persisted: u64,
+    pub start: u64,
+    pub length: u64,
+}
+
+// What one more in a field adds to the word.
+const CONTROL_START: u64 = PLACES;
+
+const CONTROL_PERSISTED: u64 = CONTROL_START * PLACES;
+
+impl Control {
+    pub fn decode(word: u64) -> Control
+        ensures { λ r. ⌜ Decoded ControlFits (decodeControl word) r ⌝ }
+    {
+        Control {
+            persisted: word / CONTROL_PERSISTED,
+            start: word / CONTROL_START % PLACES,
+            length: word % PLACES,
+        }
+    }
+
+    pub fn encode(self) -> u64
+        requires { ⌜ ControlFits self ⌝ }
+        ensures { λ r. ⌜ r ≡ encodeControl self ⌝ }
+    {
+        self.persisted * CONTROL_PERSISTED + self.start * CONTROL_START + self.length
+    }
+}
+
+// The shape word: the board format's version, the number of lines and the number of log entries that the board has place for.
+pub struct Shape {
+    pub version: u64,
+    pub lines: u64,
+    pub entries: u64,
+}
+
+const SHAPE_LINES: u64 = SIZES;
+
+const SHAPE_VERSION: u64 = SHAPE_LINES * SIZES;
+
+impl Shape {
+    pub fn decode(word: u64) -> Shape
+        ensures { λ r. ⌜ Decoded ShapeFits (decodeShape word) r ⌝ }
+    {
+        Shape {
+            version: word / SHAPE_VERSION,
+            lines: word / SHAPE_LINES % SIZES,
+            entries: word % SIZES,
+        }
+    }
+
+    pub fn encode(self) -> u64
+        requires { ⌜ ShapeFits self ⌝ }
+        ensures { λ r. ⌜ r ≡ encodeShape self ⌝ }
+    {
+        self.version * SHAPE_VERSION + self.lines * SHAPE_LINES + self.entries
+    }
+}
+
+// The first word of an undo entry: the old data was that of the line at address from epoch `from` on (ValidFrom)
+// until epoch `till`, that one not included (ValidTill).
+pub struct Entry {
+    pub address: u64,
+    pub from: u64,
+    pub till: u64,
+}
+
+const ENTRY_FROM: u64 = EPOCHS;
+
+const ENTRY_ADDRESS: u64 = ENTRY_FROM * EPOCHS;
+
+impl Entry {
+    pub fn decode(word: u64) -> Entry
+        ensures { λ r. ⌜ Decoded EntryFits (decodeEntry word) r ⌝ }
+    {
+        Entry {
+            address: word / ENTRY_ADDRESS,
+            from: word / ENTRY_FROM % EPOCHS,
+            till: word % EPOCHS,
+        }
+    }
+
+    pub fn encode(self) -> u64
+        requires { ⌜ EntryFits self ⌝ }
+        ensures { λ r. ⌜ r ≡ encodeEntry self ⌝ }
+    {
+        self.address * ENTRY_ADDRESS + self.from * ENTRY_FROM + self.till
+    }
+}
+
+// The slot word: whether the slot holds a line and whether that is dirty, the line's address, the epoch of its last
+// store (0 where clean), and the bits that are kept zero.
+pub struct Slot {
+    pub valid: bool,
+    pub dirty: bool,
+    pub address: u64,
+    pub tag: u64,
+    pub spare: u64,
+}
+
+const SLOT_TAG: u64 = SPARES;
+
+const SLOT_ADDRESS: u64 = SLOT_TAG * EPOCHS;
+
+const SLOT_DIRTY: u64 = SLOT_ADDRESS * ADDRESSES;
+
+const SLOT_VALID: u64 = SLOT_DIRTY * FLAGS;
+
+fn bit(flag: bool) -> u64
+    ensures { λ r. ⌜ IsBit flag r ⌝ }
+{
+    flag as u64
+}
+
+impl Slot {
+    pub fn decode(word: u64) -> Slot
+        ensures { λ r. ⌜ Decoded SlotFits (decodeSlot word) r ⌝ }
+    {
+        Slot {
+            valid: word / SLOT_VALID == 1,
+            dirty: word / SLOT_DIRTY % FLAGS == 1,
+            address: word / SLOT_ADDRESS % ADDRESSES,
+            tag: word / SLOT_TAG % EPOCHS,
+            spare: word % SPARES,
+        }
+    }
+
+    pub fn encode(self) -> u64
+        requires { ⌜ SlotFits self ⌝ }
+        ensures { λ r. ⌜ r ≡ encodeSlot self ⌝ }
+    {
+        bit(self.valid) * SLOT_VALID
+            + bit(self.dirty) * SLOT_DIRTY
+            + self.address * SLOT_ADDRESS
+            + self.tag * SLOT_TAG
+            + self.spare
+    }
+}

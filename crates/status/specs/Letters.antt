@@ -1,0 +1,16 @@
+-- A name's length, found in its row: no name has a space.
+use Prim.Native.Nat.{ℕ, _<_, _≤_}
+use mathlib.Core.Path.{_≡_, refl, sym, _∙_}
+use mathlib.Core.Bool.{Bool, not}
+use mathlib.Core.List.{List, map}
+use lib.Dec.{eqb}
+use lib.ListN.{getD}
+use Rattle.base.specs.Walk.{first}
+use Rattle.status.specs.Names.{rowBytes, space}
+
+unfoldable pub letterAt : List ℕ → ℕ → Bool
+letterAt r i = not (eqb (getD r i 0) space)
+
+-- how many bytes come before the first space of a row
+unfoldable pub lettersIn : List ℕ → ℕ
+lettersIn r = first (letterAt r) rowBytes

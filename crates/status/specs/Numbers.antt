@@ -1,0 +1,33 @@
+-- "What an answer says", the column "Returned: number, name".
+use Prim.Native.Nat.{ℕ}
+use Rattle.status.specs.declared.Status.{Status}
+use Rattle.status.specs.declared.Status.the-variants.{
+  Ok,
+  Shape,
+  Work,
+  Entry,
+  Regs,
+  Address,
+  Slot,
+  Buffer,
+  Room,
+  Waiting,
+  Last,
+  None,
+  Cut,
+}
+
+abbrev pub numberOf : Status → ℕ
+numberOf Ok = 0
+numberOf Shape = 1
+numberOf Work = 2
+numberOf Entry = 3
+numberOf Regs = 4
+numberOf Address = 5
+numberOf Slot = 6
+numberOf Buffer = 7
+numberOf Room = 8
+numberOf Waiting = 9
+numberOf Last = 10
+numberOf None = 11
+numberOf Cut = 12

@@ -1,0 +1,1 @@
+// The paper's worked examples, checked by proof: they stand in specs/.
