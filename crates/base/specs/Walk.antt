@@ -6,7 +6,8 @@ use mathlib.Core.Bool.{Bool, true, false, cond, not}
 use native.Mathlib.Omega.{arith}
 use native.Mathlib.Numerals.{add-one}
 use native.Mathlib.Decide.{ℕ-discrete}
-use borrow.Author.Tests.{not-true, not-false}
+use borrow.Author.Tests.{lt-ltb, le-ltb, le-leb, lt-leb, not-true, not-false}
+use lib.Dec.{ltb, leb}
 
 -- the first of the k places from i on at which f is false, or i + k
 unfoldable pub firstFrom : (ℕ → Bool) → ℕ → ℕ → ℕ
@@ -46,6 +47,19 @@ module _ {f : ℕ → Bool} {n i : ℕ} (w : Walked f n i) where
 
   pub walk-next : (t : Bool) → t ≡ f i → i < n → not t ≡ false → Walked f n (i + 1)
   walk-next t a h e = walk-pass h (sym a ∙ not-false t e)
+
+  -- the same for a function that only answers whether all places passed, or whether one failed
+  pub walk-all : n ≤ i → true ≡ leb n (first f n)
+  walk-all h = sym (le-leb n (first f n) (rw (← (walk-end h)) h))
+
+  pub walk-not-all : (t : Bool) → t ≡ f i → i < n → not t ≡ true → false ≡ leb n (first f n)
+  walk-not-all t a h e = sym (lt-leb n (first f n) (rw (← (walk-found t a h e)) h))
+
+  pub walk-none : n ≤ i → false ≡ ltb (first f n) n
+  walk-none h = sym (le-ltb (first f n) n (rw (← (walk-end h)) h))
+
+  pub walk-some : (t : Bool) → t ≡ f i → i < n → not t ≡ true → true ≡ ltb (first f n) n
+  walk-some t a h e = sym (lt-ltb (first f n) n (rw (← (walk-found t a h e)) h))
 
 -- where the walk came to the end, every test held
 all-from : (f : ℕ → Bool) (k i j : ℕ) → i + k ≤ firstFrom f i k → i ≤ j → j < i + k → f j ≡ true

@@ -2,3 +2,4 @@ pub mod Stores
 pub mod Laws
 pub mod Parts
 pub mod Outcome
+pub mod Kept

@@ -1,4 +1,5 @@
 pub mod Limits
 pub mod Fields
 pub mod Words
+pub mod Memory
 pub mod Laws

@@ -5,6 +5,9 @@ ghost use Rattle.layout.specs.Words.{encodeControl, decodeControl, Contr
 ghost use Rattle.layout.specs.Words.{encodeShape, decodeShape, ShapeFits};
 ghost use Rattle.layout.specs.Words.{encodeEntry, decodeEntry, EntryFits};
 ghost use Rattle.layout.specs.Words.{encodeSlot, decodeSlot, SlotFits, IsBit};
+ghost use Rattle.layout.specs.Limits.{mostEntries};
+ghost use Rattle.layout.specs.Memory.{linesAt};
+ghost use Prim.Native.Nat.{_≤_};
 ghost use mathlib.Core.Path.{_≡_};
 
 // Widths in bits.
@@ -47,6 +50,24 @@ pub const MOST_SLOTS: usize = 256;
 pub const BUFFER_PLACES: usize = 32;
 
 pub const MOST_AHEAD: u64 = 16;
+
+// Where things stand on the board: the control word, the shape word, the log's entries, and then the lines.
+pub const CONTROL_AT: usize = 0;
+
+pub const SHAPE_AT: usize = 1;
+
+pub const LOG_AT: usize = 2;
+
+// Where the lines of a board begin whose log has place for so many entries.
+pub fn lines_at(entries: u64) -> usize
+    requires { ⌜ entries ≤ mostEntries ⌝ }
+    ensures { λ r. ⌜ r ≡ linesAt entries ⌝ }
+{
+    LOG_AT + 2 * entries as usize
+}
+
+// The words of the buffer, which is the end of the work memory.
+pub const BUFFER_WORDS: usize = 2 * BUFFER_PLACES;
 
 // The control word: the persisted epoch, and where in the ring the log starts and how many entries it has.
 pub struct Control {

@@ -1,0 +1,78 @@
+-- The stores of the flush.
+use Prim.Native.Nat.{ℕ, _+_, _-_, _*_, _<_, _≤_}
+use mathlib.Core.Path.{_≡_, refl, sym, ap, _∙_}
+use mathlib.Core.List.{List, [], _++_}
+use native.Mathlib.Nat.{mod-lt}
+use native.Mathlib.Omega.{arith}
+use borrow.Author.Tests.{eq-eqb, ne-eqb}
+use lib.ListN.{length, getD, take, drop, replicate}
+use Rattle.base.specs.Parts.{setPair}
+use Rattle.board.specs.declared.Meter.{Meter}
+use Rattle.board.specs.Stores.{Store, one, shifted, each, Ran}
+use Rattle.board.specs.Laws.{ran-none, ran-then}
+use Rattle.board.specs.Parts.{ran-part}
+use Rattle.layout.specs.declared.Entry.{Entry}
+use Rattle.layout.specs.Memory.{controlAt, logAt}
+use Rattle.layout.specs.Words.{encodeControl, encodeEntry, ControlFits}
+use Rattle.undo.specs.declared.Undo.{Undo}
+use Rattle.undo.specs.declared.Progress.{Progress}
+use Rattle.undo.specs.Log.{Sound, Placed, placeOf, entryStores, flushed, flushStores, flushedBuffer, pushed, counted}
+use Rattle.undo.specs.Log.{DroppedBy, dropped, advanced, advanceStores}
+use Rattle.undo.specs.Contracts.{Flushes, FlushReady, Pushes, AdvanceReady}
+
+pub push-done : (buffer buffer′ : List ℕ) (u : Undo) (e : Entry) (old w : ℕ) (r : Undo) → w ≡ encodeEntry e
+    → buffer′ ≡ setPair buffer (2 * u .buffered) w old → r ≡ counted u → Pushes buffer u e old buffer′ r
+unfolding pushed
+push-done buffer buffer′ u e old w r h x g = record { undo = g; memory = rw (← h) x }
+
+pub entry-put : (u : Undo) (buffer : List ℕ) (i at : ℕ) {log log′ log″ : List ℕ} {m m′ m″ : Meter} → Placed u (u .control .length + i) at
+    → Ran log m (one at (getD buffer (2 * i) 0)) log′ m′ → Ran log′ m′ (one (at + 1) (getD buffer (2 * i + 1) 0)) log″ m″
+    → Ran log m (entryStores u buffer i) log″ m″
+unfolding entryStores
+entry-put u buffer i at p x y = rw (← p .is) (ran-then x y)
+
+module _ (board buffer : List ℕ) (u : Undo) (m : Meter) where
+  pub flush-none : u .buffered ≡ 0 → Flushes board buffer u m board buffer (record { undo = u; meter = m })
+  unfolding flushStores flushed flushedBuffer
+  flush-none h =
+      let k : u .control .length ≡ u .control .length + u .buffered = omega arith in
+      record {
+        ran = rw (eq-eqb (u .buffered) 0 h) (ran-none board m);
+        undo =
+            λ i.
+            record {
+              control = record { persisted = u .control .persisted; start = u .control .start; length = k i };
+              entries = u .entries;
+              buffered = h i;
+            };
+        memory = rw (eq-eqb (u .buffered) 0 h);
+      }
+
+  pub flush-some : (log board″ buffer″ : List ℕ) (m′ m″ : Meter) (u′ : Undo) (w : ℕ) → (u .buffered ≡ 0 → ⊥) → FlushReady board buffer u
+      → Ran (take (length board - logAt) (drop logAt board)) m (each (entryStores u buffer) (u .buffered)) log m′
+      → u′ ≡ flushed u → w ≡ encodeControl (u′ .control)
+      → Ran (take logAt board ++ (log ++ drop (length board - logAt) (drop logAt board))) m′ (one controlAt w) board″ m″
+      → buffer″ ≡ replicate (length buffer) 0
+      → Flushes board buffer u m board″ buffer″ (record { undo = u′; meter = m″ })
+  unfolding flushStores flushedBuffer
+  flush-some log board″ buffer″ m′ m″ u′ w n ready x e f y z =
+      let h : logAt ≤ length board = omega (arith, ready .board-words) in
+      record {
+        ran = rw (ne-eqb (u .buffered) 0 n, ← e, ← f) (ran-then (ran-part logAt h x) y);
+        undo = e;
+        memory = rw (ne-eqb (u .buffered) 0 n) z;
+      }
+
+pub flush-control : (u u′ : Undo) → Sound u → u′ ≡ flushed u → ControlFits (u′ .control)
+unfolding flushed
+flush-control u u′ s e = rw e (omega arith)
+
+-- the advance
+module _ (board : List ℕ) (u : Undo) (target run : ℕ) (ready : AdvanceReady board u target) (d : DroppedBy board u target run) where
+  pub advance-fits : ControlFits (advanced u target run)
+  advance-fits = omega (arith, ready .sound, d .within, mod-lt (u .control .start + run) (ready .sound .some))
+
+  pub advance-done : (w : ℕ) (board′ : List ℕ) (m m′ : Meter) → w ≡ encodeControl (advanced u target run)
+      → Ran board m (one controlAt w) board′ m′ → Ran board m (advanceStores board u target) board′ m′
+  unfolding advanceStores
+  advance-done w board′ m m′ h x = rw (← d .is, ← h) x

@@ -1,0 +1,53 @@
+-- What the storing functions of this crate do.
+use Prim.Native.Nat.{ℕ, _+_, _^_, _<_, _≤_}
+use mathlib.Core.Path.{_≡_}
+use mathlib.Core.List.{List}
+use lib.ListN.{length}
+use Rattle.board.specs.declared.Meter.{Meter}
+use Rattle.board.specs.Stores.{Ran}
+use Rattle.layout.specs.declared.Entry.{Entry}
+use Rattle.layout.specs.Limits.{epochBits, bufferPlaces}
+use Rattle.layout.specs.Memory.{linesAt, boardWords, bufferWords}
+use Rattle.layout.specs.Words.{EntryFits}
+use Rattle.undo.specs.declared.Undo.{Undo}
+use Rattle.undo.specs.declared.Progress.{Progress}
+use Rattle.undo.specs.Log.{Sound, entryIn, flushStores, flushed, flushedBuffer, pushed, counted}
+
+-- a flush of the buffer to the board's log
+pub record Flushes (board buffer : List ℕ) (u : Undo) (m : Meter) (board′ buffer′ : List ℕ) (r : Progress) : Type 0 where
+  pub ran : Ran board m (flushStores u buffer) board′ (r .meter)
+  pub undo : r .undo ≡ flushed u
+  pub memory : buffer′ ≡ flushedBuffer u buffer
+
+pub record FlushReady (board buffer : List ℕ) (u : Undo) : Type 0 where
+  pub sound : Sound u
+  pub board-words : linesAt (u .entries) ≤ length board
+  pub buffer-words : length buffer ≡ bufferWords
+
+-- one entry more at the buffer's end
+pub record Pushes (buffer : List ℕ) (u : Undo) (e : Entry) (old : ℕ) (buffer′ : List ℕ) (r : Undo) : Type 0 where
+  pub undo : r ≡ counted u
+  pub memory : buffer′ ≡ pushed buffer (u .buffered) e old
+
+pub record PushReady (buffer : List ℕ) (u : Undo) (e : Entry) : Type 0 where
+  pub fits : EntryFits e
+  pub place : u .buffered < bufferPlaces
+  pub buffer-words : length buffer ≡ bufferWords
+
+-- an advance of the persisted epoch
+pub record AdvanceReady (board : List ℕ) (u : Undo) (target : ℕ) : Type 0 where
+  pub sound : Sound u
+  pub board-words : linesAt (u .entries) ≤ length board
+  pub fits : target < 2 ^ epochBits
+
+-- a recovery: the log's numbers are sound, and each entry names a line
+pub record RecoverReady (board : List ℕ) (u : Undo) (lines : ℕ) : Type 0 where
+  pub sound : Sound u
+  pub board-words : boardWords lines (u .entries) ≤ length board
+  pub named : (i : ℕ) → i < u .control .length → entryIn board u i .address < lines
+
+-- the restoring of one entry
+pub record RestoreReady (board : List ℕ) (u : Undo) (i : ℕ) : Type 0 where
+  pub sound : Sound u
+  pub within : i ≤ u .entries
+  pub named : linesAt (u .entries) + entryIn board u i .address < length board

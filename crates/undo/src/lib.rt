@@ -1,0 +1,337 @@
+// The undo log on the board, and the undo buffer before it.
+ghost use Prim.Native.Nat.{_+_, _*_, _<_, _≤_};
+ghost use lib.ListN.{length};
+ghost use mathlib.Core.Path.{_≡_};
+ghost use Rattle.board.specs.Stores.{Ran, each};
+ghost use Rattle.layout.specs.Limits.{bufferPlaces};
+ghost use Rattle.layout.specs.Memory.{logAt, linesAt, bufferWords};
+ghost use Rattle.layout.specs.Words.{Decoded, EntryFits};
+ghost use Rattle.undo.specs.Entries.{covers, properEntry, properBuffered};
+ghost use Rattle.undo.specs.Log.{Sound, Placed, entryIn, firstImproper, bufferedProper, bufferProper, elsewhere};
+ghost use Rattle.undo.specs.Log.{buffers, expired, DroppedBy, entryStores, counted, flushed, advanceStores};
+ghost use Rattle.undo.specs.Log.{restoreStores, restoreTurn, recoverStores};
+ghost use Rattle.undo.specs.Contracts.{Flushes, FlushReady, Pushes, PushReady, AdvanceReady, RecoverReady, RestoreReady};
+use board::Meter;
+use layout::BUFFER_WORDS;
+use layout::CONTROL_AT;
+use layout::Control;
+use layout::Entry;
+use layout::LOG_AT;
+
+// The undo log as a call carries it: what the control word says, how many entries the ring has place for (the paper's L)
+// and how many the buffer holds.
+pub struct Undo {
+    pub control: Control,
+    pub entries: u64,
+    pub buffered: u64,
+}
+
+impl Undo {
+    // With one entry more in the buffer.
+    fn counted(self) -> Undo
+        requires { ⌜ self .buffered < bufferPlaces ⌝ }
+        ensures { λ r. ⌜ r ≡ counted self ⌝ }
+    {
+        let control = self.control;
+        Undo {
+            control,
+            entries: self.entries,
+            buffered: self.buffered + 1,
+        }
+    }
+
+    // With the buffer flushed.
+    fn flushed(self) -> Undo
+        requires { ⌜ Sound self ⌝ }
+        ensures { λ r. ⌜ r ≡ flushed self ⌝ }
+    {
+        Undo {
+            control: Control {
+                persisted: self.control.persisted,
+                start: self.control.start,
+                length: self.control.length + self.buffered,
+            },
+            entries: self.entries,
+            buffered: 0,
+        }
+    }
+}
+
+// Where a storing function has come to.
+pub struct Progress {
+    pub undo: Undo,
+    pub meter: Meter,
+}
+
+// Whether an entry's old data was its line's at the end of an epoch.
+pub fn is_covering(entry: Entry, epoch: u64) -> bool
+    ensures { λ r. ⌜ r ≡ covers entry epoch ⌝ }
+{
+    if entry.from > epoch {
+        return false;
+    }
+    epoch < entry.till
+}
+
+pub fn is_proper(entry: Entry, lines: u64, persisted: u64, older: u64) -> bool
+    ensures { λ r. ⌜ r ≡ properEntry lines persisted older entry ⌝ }
+{
+    if entry.address >= lines {
+        return false;
+    }
+    if entry.from >= entry.till {
+        return false;
+    }
+    if entry.till <= persisted {
+        return false;
+    }
+    older <= entry.till
+}
+
+pub fn is_proper_buffered(entry: Entry, lines: u64, epoch: u64) -> bool
+    ensures { λ r. ⌜ r ≡ properBuffered lines epoch entry ⌝ }
+{
+    if entry.address >= lines {
+        return false;
+    }
+    if entry.from >= entry.till {
+        return false;
+    }
+    entry.till <= epoch
+}
+
+// The first word of entry i, counted from the log's first word.
+pub fn place(undo: Undo, i: u64) -> usize
+    requires { ⌜ Sound undo ⌝ }
+    requires { ⌜ i ≤ undo .entries ⌝ }
+    ensures { λ r. ⌜ Placed undo i r ⌝ }
+{
+    let turn = undo.control.start + i;
+    if turn < undo.entries {
+        return 2 * turn as usize;
+    }
+    2 * (turn - undo.entries) as usize
+}
+
+pub fn entry_at(board: &[u64], undo: Undo, i: u64) -> Entry
+    requires { ⌜ Sound undo ⌝ }
+    requires { ⌜ i ≤ undo .entries ⌝ }
+    requires { ⌜ linesAt (undo .entries) ≤ length (now board) ⌝ }
+    ensures { λ r. ⌜ Decoded EntryFits (entryIn (now (board .entry)) undo i) r ⌝ }
+{
+    let at = place(undo, i);
+    Entry::decode(board[LOG_AT + at])
+}
+
+// The place of the first improper entry of the log, the oldest counted 0, or the log's length where all are proper.
+pub fn first_improper(board: &[u64], undo: Undo, lines: u64) -> u64
+    requires { ⌜ Sound undo ⌝ }
+    requires { ⌜ linesAt (undo .entries) ≤ length (now board) ⌝ }
+    ensures { λ r. ⌜ r ≡ firstImproper (now (board .entry)) undo lines ⌝ }
+{
+    let mut i: u64 = 0;
+    let mut older: u64 = 0;
+    let found = loop {
+        if i >= undo.control.length {
+            break i;
+        }
+        let entry = entry_at(board, undo, i);
+        if !is_proper(entry, lines, undo.control.persisted, older) {
+            break i;
+        }
+        older = entry.till;
+        i += 1;
+    };
+    found
+}
+
+fn is_expired(board: &[u64], undo: Undo, target: u64, i: u64) -> bool
+    requires { ⌜ Sound undo ⌝ }
+    requires { ⌜ i ≤ undo .entries ⌝ }
+    requires { ⌜ linesAt (undo .entries) ≤ length (now board) ⌝ }
+    ensures { λ r. ⌜ r ≡ expired (now (board .entry)) undo target i ⌝ }
+{
+    let entry = entry_at(board, undo, i);
+    entry.till <= target
+}
+
+// How many of the oldest entries no longer matter once the target is persisted.
+pub fn dropped_by(board: &[u64], undo: Undo, target: u64) -> u64
+    requires { ⌜ Sound undo ⌝ }
+    requires { ⌜ linesAt (undo .entries) ≤ length (now board) ⌝ }
+    ensures { λ r. ⌜ DroppedBy (now (board .entry)) undo target r ⌝ }
+{
+    let mut i: u64 = 0;
+    let run = loop {
+        if i >= undo.control.length {
+            break i;
+        }
+        if !is_expired(board, undo, target, i) {
+            break i;
+        }
+        i += 1;
+    };
+    run
+}
+
+fn is_buffered_proper(buffer: &[u64], lines: u64, epoch: u64, i: usize) -> bool
+    requires { ⌜ 2 * i < length (now buffer) ⌝ }
+    ensures { λ r. ⌜ r ≡ bufferedProper (now (buffer .entry)) lines epoch i ⌝ }
+{
+    let entry = Entry::decode(buffer[2 * i]);
+    is_proper_buffered(entry, lines, epoch)
+}
+
+// Whether the first entries of the buffer, count of them, are proper.
+pub fn is_buffer_proper(buffer: &[u64], count: usize, lines: u64, epoch: u64) -> bool
+    requires { ⌜ 2 * count ≤ length (now buffer) ⌝ }
+    ensures { λ r. ⌜ r ≡ bufferProper (now (buffer .entry)) count lines epoch ⌝ }
+{
+    let mut i: usize = 0;
+    while i < count {
+        if !is_buffered_proper(buffer, lines, epoch, i) {
+            return false;
+        }
+        i += 1;
+    }
+    true
+}
+
+fn is_elsewhere(buffer: &[u64], address: u64, i: usize) -> bool
+    requires { ⌜ 2 * i < length (now buffer) ⌝ }
+    ensures { λ r. ⌜ r ≡ elsewhere (now (buffer .entry)) address i ⌝ }
+{
+    let entry = Entry::decode(buffer[2 * i]);
+    entry.address != address
+}
+
+// Whether one of the first entries of the buffer, count of them, has the address.
+pub fn is_buffering(buffer: &[u64], count: usize, address: u64) -> bool
+    requires { ⌜ 2 * count ≤ length (now buffer) ⌝ }
+    ensures { λ r. ⌜ r ≡ buffers (now (buffer .entry)) count address ⌝ }
+{
+    let mut i: usize = 0;
+    while i < count {
+        if !is_elsewhere(buffer, address, i) {
+            return true;
+        }
+        i += 1;
+    }
+    false
+}
+
+// An entry to the buffer's end.
+pub fn push(buffer: &mut [u64], undo: Undo, entry: Entry, old: u64) -> Undo
+    requires { ⌜ PushReady (now buffer) undo entry ⌝ }
+    ensures { λ r. ⌜ Pushes (now (buffer .entry)) undo entry old (now (buffer .exit)) r ⌝ }
+{
+    let at = 2 * undo.buffered as usize;
+    base::set_pair(buffer, at, entry.encode(), old);
+    undo.counted()
+}
+
+// The two words of buffered entry i, to the log part of the board.
+fn put_entry(log: &mut [u64], buffer: &[u64], undo: Undo, i: u64, meter: Meter) -> Meter
+    requires { ⌜ Sound undo ⌝ }
+    requires { ⌜ i < undo .buffered ⌝ }
+    requires { ⌜ 2 * undo .entries ≤ length (now log) ⌝ }
+    requires { ⌜ length (now buffer) ≡ bufferWords ⌝ }
+    ensures { λ r. ⌜ Ran (now (log .entry)) meter (entryStores undo (now (buffer .entry)) i) (now (log .exit)) r ⌝ }
+{
+    let at = place(undo, undo.control.length + i);
+    let from = 2 * i as usize;
+    let next = board::put(log, at, buffer[from], meter);
+    board::put(log, at + 1, buffer[from + 1], next)
+}
+
+// The buffered entries, oldest first, to the log part of the board.
+fn put_entries(log: &mut [u64], buffer: &[u64], undo: Undo, meter: Meter) -> Meter
+    requires { ⌜ Sound undo ⌝ }
+    requires { ⌜ 2 * undo .entries ≤ length (now log) ⌝ }
+    requires { ⌜ length (now buffer) ≡ bufferWords ⌝ }
+    ensures { λ r. ⌜ Ran (now (log .entry)) meter (each (entryStores undo (now (buffer .entry))) (undo .buffered)) (now (log .exit)) r ⌝ }
+{
+    let mut last = meter;
+    let mut i: u64 = 0;
+    while i < undo.buffered {
+        last = put_entry(log, buffer, undo, i, last);
+        i += 1;
+    }
+    last
+}
+
+// The buffer to the board's log: the entries before the control word that counts them.
+pub fn flush(board: &mut [u64], buffer: &mut [u64], undo: Undo, meter: Meter) -> Progress
+    requires { ⌜ FlushReady (now board) (now buffer) undo ⌝ }
+    ensures { λ r. ⌜ Flushes (now (board .entry)) (now (buffer .entry)) undo meter (now (board .exit)) (now (buffer .exit)) r ⌝ }
+{
+    if undo.buffered == 0 {
+        return Progress { undo, meter };
+    }
+    let entries_put = put_entries(&mut board[LOG_AT..], buffer, undo, meter);
+    let after = undo.flushed();
+    let control = after.control;
+    let all_put = board::put(board, CONTROL_AT, control.encode(), entries_put);
+    base::clear(buffer);
+    Progress {
+        undo: after,
+        meter: all_put,
+    }
+}
+
+// The control word with the target as persisted epoch and the run of entries dropped that it makes useless.
+pub fn advance(board: &mut [u64], undo: Undo, target: u64, meter: Meter) -> Meter
+    requires { ⌜ AdvanceReady (now board) undo target ⌝ }
+    ensures { λ r. ⌜ Ran (now (board .entry)) meter (advanceStores (now (board .entry)) undo target) (now (board .exit)) r ⌝ }
+{
+    let run = dropped_by(board, undo, target);
+    let control = Control {
+        persisted: target,
+        start: (undo.control.start + run) % undo.entries,
+        length: undo.control.length - run,
+    };
+    board::put(board, CONTROL_AT, control.encode(), meter)
+}
+
+// The old data of entry i to its line, if the entry covers the persisted epoch.
+fn restore_entry(board: &mut [u64], undo: Undo, i: u64, meter: Meter) -> Meter
+    requires { ⌜ RestoreReady (now board) undo i ⌝ }
+    ensures { λ r. ⌜ Ran (now (board .entry)) meter (restoreStores (now (board .entry)) undo i) (now (board .exit)) r ⌝ }
+{
+    let at = LOG_AT + place(undo, i);
+    let entry = Entry::decode(board[at]);
+    let old = board[at + 1];
+    if !is_covering(entry, undo.control.persisted) {
+        return meter;
+    }
+    let lines = layout::lines_at(undo.entries);
+    board::put(&mut board[lines..], entry.address as usize, old, meter)
+}
+
+// From the newest entry to the oldest, so that a line gets the data of its oldest covering entry.
+fn restore(board: &mut [u64], undo: Undo, lines: u64, meter: Meter) -> Meter
+    requires { ⌜ RecoverReady (now board) undo lines ⌝ }
+    ensures { λ r. ⌜ Ran (now (board .entry)) meter (each (restoreTurn (now (board .entry)) undo) (undo .control .length)) (now (board .exit)) r ⌝ }
+{
+    let mut last = meter;
+    let mut j: u64 = 0;
+    while j < undo.control.length {
+        last = restore_entry(board, undo, undo.control.length - (j + 1), last);
+        j += 1;
+    }
+    last
+}
+
+// The lines as of the persisted epoch, and only then an empty log.
+pub fn recover(board: &mut [u64], undo: Undo, lines: u64, meter: Meter) -> Meter
+    requires { ⌜ RecoverReady (now board) undo lines ⌝ }
+    ensures { λ r. ⌜ Ran (now (board .entry)) meter (recoverStores (now (board .entry)) undo) (now (board .exit)) r ⌝ }
+{
+    let restored = restore(board, undo, lines, meter);
+    let control = Control {
+        persisted: undo.control.persisted,
+        start: 0,
+        length: 0,
+    };
+    board::put(board, CONTROL_AT, control.encode(), restored)
+}
