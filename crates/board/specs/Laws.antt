@@ -1,8 +1,8 @@
 -- How runs compose: none, one after another, one store, a loop of them. Callers cite these and do not unfold `Ran`.
 use Prim.Native.Nat.{ℕ, zero, suc, _+_, _-_, _<_, _≤_}
-use mathlib.Core.Path.{_≡_, refl, sym, _∙_}
+use mathlib.Core.Path.{_≡_, refl, sym, ap, _∙_}
 use mathlib.Core.Bool.{Bool, true, false, _||_}
-use mathlib.Core.List.{List, [], _∷_, _++_}
+use mathlib.Core.List.{List, [], _∷_, _++_, append-nil}
 use native.Mathlib.Nat.{zero-sub, sub-zero, suc-sub-suc}
 use native.Mathlib.Numerals.{add-one}
 use native.Mathlib.Omega.{arith}
@@ -99,6 +99,39 @@ ran-cut b m at w h =
 pub ran-length : {b b′ : List ℕ} {m m′ : Meter} (ss : List Store) → Ran b m ss b′ m′ → length b′ ≡ length b
 unfolding stored
 ran-length {b} {b′} {m} ss p = rw (p .memory) (length-applied (take (m .left) ss) b)
+
+-- with more due than left, what comes then changes nothing
+behind-cut : {b b′ b″ : List ℕ} {m m′ m″ : Meter} (xs ys zs : List Store) → Ran b m xs b′ m′ → Ran b′ m′ zs b″ m″
+    → m .left < length xs → Ran b m (xs ++ ys) b″ m″
+unfolding stored spent applied
+behind-cut {b} {b′} {b″} {m} {m′} {m″} xs ys zs p q h =
+    let l : m′ .left ≡ 0 = rw (p .meter) (omega arith) in
+    let n : m .left - length xs ≡ 0 = omega arith in
+    let z : m″ .left ≡ m .left - (length xs + length ys) = rw (q .meter) (omega arith) in
+    let c : m″ .cut ≡ m .cut || ltb (m .left) (length xs + length ys) =
+    ap (λ (x : Meter). x .cut) (q .meter) ∙ rw (p .meter) (both (m .cut) (length zs)) in
+    record {
+      memory = q .memory ∙ rw (l, p .memory, take-append, n, append-nil);
+      meter = rw length-append (λ i. record { left = z i; cut = c i });
+    }
+  where
+    both : (c : Bool) (k : ℕ) → c || ltb (m .left) (length xs) || ltb (m .left - length xs) k ≡ c || ltb (m .left) (length xs + length ys)
+    both true k = refl
+    both false k = rw (lt-ltb (m .left) (length xs) h, lt-ltb (m .left) (length xs + length ys) (omega arith))
+
+-- every store was allowed
+pub ran-all : {b b′ : List ℕ} {m m′ : Meter} (ss : List Store) → Ran b m ss b′ m′ → length ss ≤ m .left → b′ ≡ applied b ss
+unfolding stored
+ran-all {b} {b′} {m} ss p h = p .memory ∙ rw take-all
+
+-- One run after another that owes by what it read of the board. Behind a cut that may be anything: nothing is stored any more.
+pub ran-read : {b b′ b″ : List ℕ} {m m′ m″ : Meter} (xs : List Store) {ys zs : List Store} → Ran b m xs b′ m′ → Ran b′ m′ zs b″ m″
+    → (length xs ≤ m .left → zs ≡ ys) → Ran b m (xs ++ ys) b″ m″
+ran-read {b} {b′} {b″} {m} {m′} {m″} xs {ys} {zs} p q same = go (ltb (m .left) (length xs)) refl
+  where
+    go : (t : Bool) → ltb (m .left) (length xs) ≡ t → Ran b m (xs ++ ys) b″ m″
+    go false e = rw (same (ltb-false (m .left) (length xs) e)) at (ran-then p q)
+    go true e = behind-cut xs ys zs p q (ltb-true (m .left) (length xs) e)
 
 -- a loop: before its first turn, after one more, and at its end
 pub each-none : (f : ℕ → List Store) (b : List ℕ) (m : Meter) → Ran b m (each f 0) b m

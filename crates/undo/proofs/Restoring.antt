@@ -15,7 +15,7 @@ use Rattle.board.specs.Parts.{ran-part}
 use Rattle.board.specs.Kept.{Beyond, beyond-none, beyond-one, beyond-each, ran-kept}
 use Rattle.layout.specs.declared.Entry.{Entry}
 use Rattle.layout.specs.Memory.{controlAt, logAt, linesAt}
-use Rattle.layout.specs.Words.{Decoded, EntryFits, ControlFits, decodeEntry, encodeControl}
+use Rattle.layout.specs.Words.{Decoded, EntryFits, decodeEntry, encodeControl}
 use Rattle.undo.specs.declared.Undo.{Undo}
 use Rattle.undo.specs.Entries.{covers}
 use Rattle.undo.specs.Log.{Sound, Placed, placeOf, entryIn, oldIn, restoreStores, restoreTurn, emptied, recoverStores}
@@ -108,9 +108,6 @@ module _ (board₀ : List ℕ) (u : Undo) (lines : ℕ) (ready : RecoverReady bo
   restore-end h = each-done (restoreTurn board₀ u) j (u .control .length) (so-far .within) h (so-far .ran)
 
 -- and then the control word
-pub recover-fits : (u : Undo) → Sound u → ControlFits (emptied (u .control))
-recover-fits u s = omega arith
-
 pub recover-done : (u : Undo) (w : ℕ) {board board′ board″ : List ℕ} {m m′ m″ : Meter}
     → Ran board m (each (restoreTurn board u) (u .control .length)) board′ m′ → w ≡ encodeControl (emptied (u .control))
     → Ran board′ m′ (one controlAt w) board″ m″ → Ran board m (recoverStores board u) board″ m″

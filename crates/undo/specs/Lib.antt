@@ -1,3 +1,4 @@
 pub mod Entries
 pub mod Log
 pub mod Contracts
+pub mod Laws

@@ -1,0 +1,83 @@
+-- Lines on their way between the slots and the board: one law for each way out of a function.
+use Prim.Native.Nat.{ℕ, _+_, _-_, _*_, _<_, _≤_}
+use mathlib.Core.Path.{_≡_, refl, sym, ap, _∙_}
+use mathlib.Core.Bool.{Bool, true, false, not}
+use mathlib.Core.List.{List, [], _++_}
+use native.Mathlib.Omega.{arith}
+use borrow.Author.Tests.{not-true, not-false}
+use lib.ListN.{length, getD, take, drop}
+use Rattle.base.specs.Parts.{setPair, rest-lent, rest-back}
+use Rattle.board.specs.declared.Meter.{Meter}
+use Rattle.board.specs.Stores.{Store, one, shifted, Ran}
+use Rattle.board.specs.Laws.{ran-none, ran-then, ran-length}
+use Rattle.board.specs.Parts.{ran-part}
+use Rattle.layout.specs.declared.Slot.{Slot}
+use Rattle.layout.specs.Memory.{linesAt, bufferWords, slotIn, dataIn}
+use Rattle.layout.specs.Words.{Decoded, SlotFits, encodeSlot}
+use Rattle.undo.specs.declared.Undo.{Undo}
+use Rattle.undo.specs.declared.Progress.{Progress}
+use Rattle.undo.specs.Log.{buffers}
+use Rattle.undo.specs.Contracts.{Flushes}
+use Rattle.cache.specs.Slots.{cleanSlot, zeroed, filled}
+use Rattle.cache.specs.Effects.{withBuffer, flushingIf, writingOut, clearing, emptying, lineIn}
+use Rattle.cache.specs.Contracts.{Acts, Brings, LineReady, SlotReady}
+
+module _ (due : Bool) (board work : List ℕ) (u : Undo) (m : Meter) where
+  pub flush-spared : not due ≡ true → Acts board m (flushingIf due u work) board work (record { undo = u; meter = m })
+  unfolding flushingIf
+  flush-spared h = rw (not-true due h) record { ran = ran-none board m; undo = refl; memory = refl }
+
+  -- the buffer is the end of the work memory, lent and taken back
+  pub flush-made : (board′ buffer′ : List ℕ) (r : Progress) → not due ≡ false
+      → Flushes board (take (length work - (length work - bufferWords)) (drop (length work - bufferWords) work)) u m board′ buffer′ r
+      → Acts board m (flushingIf due u work) board′
+      (take (length work - bufferWords) work
+      ++ (buffer′ ++ drop (length work - (length work - bufferWords)) (drop (length work - bufferWords) work)))
+      r
+  unfolding flushingIf withBuffer
+  flush-made board′ buffer′ r h x =
+      let e = rest-lent (length work - bufferWords) work in
+      rw (not-false due h) record {
+        ran = rw e at (x .ran);
+        undo = x .undo;
+        memory = rw (rest-back (length work - bufferWords) work buffer′, x .memory, e);
+      }
+
+pub written : (board work : List ℕ) (u : Undo) (address value : ℕ) (m m′ : Meter) (due : Bool) (board′ work′ part : List ℕ) (f : Progress) (lines : ℕ)
+    → LineReady board work u address
+    → due ≡ buffers (take (length work - (length work - bufferWords)) (drop (length work - bufferWords) work)) (u .buffered) address
+    → Acts board m (flushingIf due u work) board′ work′ f → lines ≡ linesAt (u .entries)
+    → Ran (take (length board′ - lines) (drop lines board′)) (f .meter) (one address value) part m′
+    → Acts board m (writingOut u work address value) (take lines board′ ++ (part ++ drop (length board′ - lines) (drop lines board′))) work′
+    (record { undo = f .undo; meter = m′ })
+unfolding writingOut shifted
+written board work u address value m m′ due board′ work′ part f lines ready d x l y =
+    let e : due ≡ buffers (drop (length work - bufferWords) work) (u .buffered) address = rw (rest-lent (length work - bufferWords) work) at d in
+    let h : lines ≤ length board′ = omega (arith, ready .named, ran-length (flushingIf due u work .stores) (x .ran)) in
+    rw (← e, ← l) record { ran = ran-then (x .ran) (ran-part lines h y); undo = x .undo; memory = x .memory }
+
+-- emptying a slot
+module _ (board work : List ℕ) (u : Undo) (k : ℕ) (s : Slot) (read : Decoded SlotFits (slotIn work k) s) where
+  pub slot-line : SlotReady board work u k → LineReady board work u (s .address)
+  slot-line h = rw (read .is) record { ready = h .ready; named = h .named }
+
+  module _ (m : Meter) (work″ : List ℕ) where
+    pub empty-clean : not (s .dirty) ≡ true → work″ ≡ setPair work (2 * k) 0 0
+        → Acts board m (emptying u work k) board work″ (record { undo = u; meter = m })
+    unfolding emptying clearing zeroed
+    empty-clean h z = rw (← read .is, not-true (s .dirty) h) record { ran = ran-none board m; undo = refl; memory = z }
+
+    pub empty-dirty : (board′ work′ : List ℕ) (r : Progress) → not (s .dirty) ≡ false
+        → Acts board m (writingOut u work (s .address) (dataIn work k)) board′ work′ r → work″ ≡ setPair work′ (2 * k) 0 0
+        → Acts board m (emptying u work k) board′ work″ r
+    unfolding emptying clearing zeroed
+    empty-dirty board′ work′ r h x z =
+        rw (← read .is, not-false (s .dirty) h) record { ran = x .ran; undo = x .undo; memory = rw (← x .memory) z }
+
+-- filling it
+pub brought : (board work : List ℕ) (u : Undo) (k address : ℕ) (m : Meter) (board′ work′ work″ : List ℕ) (r : Progress) (lines word : ℕ)
+    → Acts board m (emptying u work k) board′ work′ r → lines ≡ linesAt (u .entries) → word ≡ encodeSlot (cleanSlot address)
+    → work″ ≡ setPair work′ (2 * k) word (getD board′ (lines + address) 0) → Brings board work u k address m board′ work″ r
+unfolding filled lineIn
+brought board work u k address m board′ work′ work″ r lines word x l w z =
+    record { ran = x .ran; undo = x .undo; memory = rw (← x .memory, ← l, ← w) z }

@@ -1,0 +1,27 @@
+-- "The registers go in by value and come back by value: s, b (entries buffered), c (scan cursor)." Only these definitions make
+-- registers.
+use Prim.Native.Nat.{ℕ, _+_}
+use Rattle.checks.specs.declared.Registers.{Registers}
+
+abbrev pub zero : Registers
+zero = record { epoch = 0; buffered = 0; cursor = 0 }
+
+-- "s = P + 1, b = 0, c = 0"
+abbrev pub woken : (persisted : ℕ) → Registers
+woken persisted = record { epoch = persisted + 1; buffered = 0; cursor = 0 }
+
+-- "s becomes s + 1"
+abbrev pub committed : Registers → Registers
+committed r = record { epoch = r .epoch + 1; buffered = r .buffered; cursor = r .cursor }
+
+-- "c rises by one"
+abbrev pub stepped : Registers → Registers
+stepped r = record { epoch = r .epoch; buffered = r .buffered; cursor = r .cursor + 1 }
+
+-- "c = 0"
+abbrev pub restarted : Registers → Registers
+restarted r = record { epoch = r .epoch; buffered = r .buffered; cursor = 0 }
+
+-- with so many entries buffered
+abbrev pub buffering : Registers → ℕ → Registers
+buffering r count = record { epoch = r .epoch; buffered = count; cursor = r .cursor }

@@ -1,0 +1,56 @@
+-- What a call reads of the two memories before its tests: the control word, the shape word and the number of slots.
+use Prim.Native.Nat.{ℕ, _+_, _-_}
+use mathlib.Core.Bool.{Bool, not, _&&_, _||_}
+use mathlib.Core.List.{List}
+use lib.Dec.{ltb, leb, eqb}
+use lib.ListN.{length}
+use Rattle.layout.specs.Limits.{boardVersion, lastEpoch, mostLines, mostEntries, mostSlots, bufferPlaces, mostAhead}
+use Rattle.layout.specs.Memory.{logAt, boardWords, workWords, slotsOf, controlIn, shapeIn, bufferIn}
+use Rattle.undo.specs.declared.Undo.{Undo}
+use Rattle.undo.specs.Log.{bufferProper}
+use Rattle.cache.specs.declared.Bounds.{Bounds}
+use Rattle.checks.specs.declared.Registers.{Registers}
+use Rattle.checks.specs.declared.View.{View}
+
+unfoldable pub viewOf : List ℕ → List ℕ → View
+viewOf board work = record { control = controlIn board; shape = shapeIn board; slots = slotsOf (length work) }
+
+-- "1 shape: fewer than 2 board words; 24 bits not zero; N or L out of range; wrong word count; P = 2^24 − 1; start ≥ L;
+-- length > L"
+unfoldable pub goodShape : (words : ℕ) → View → Bool
+goodShape words v =
+    eqb (v .shape .version) boardVersion
+    && leb 1 (v .shape .lines)
+    && leb (v .shape .lines) mostLines
+    && leb 1 (v .shape .entries)
+    && leb (v .shape .entries) mostEntries
+    && eqb words (boardWords (v .shape .lines) (v .shape .entries))
+    && not (eqb (v .control .persisted) lastEpoch)
+    && ltb (v .control .start) (v .shape .entries)
+    && leb (v .control .length) (v .shape .entries)
+
+-- "2 work: work memory is not 2S + 64 words, S 1 to 256"
+unfoldable pub goodWork : (words : ℕ) → Bool
+goodWork words = leb 1 (slotsOf words) && leb (slotsOf words) mostSlots && eqb words (workWords (slotsOf words))
+
+-- "Proper registers: P < s ≤ 2^24 − 1, s − P ≤ 16, b ≤ 31, c ≤ S, c = 0 where s = P + 1, length + b ≤ L."
+unfoldable pub properRegisters : View → Registers → Bool
+properRegisters v r =
+    ltb (v .control .persisted) (r .epoch)
+    && leb (r .epoch) lastEpoch
+    && leb (r .epoch - v .control .persisted) mostAhead
+    && ltb (r .buffered) bufferPlaces
+    && leb (r .cursor) (v .slots)
+    && (not (eqb (r .epoch) (v .control .persisted + 1)) || eqb (r .cursor) 0)
+    && leb (v .control .length + r .buffered) (v .shape .entries)
+
+-- what slots and buffered entries are held to, and the undo log as a call carries it
+abbrev pub boundsOf : View → Registers → Bounds
+boundsOf v r = record { lines = v .shape .lines; slots = v .slots; persisted = v .control .persisted; epoch = r .epoch }
+
+abbrev pub undoOf : View → Registers → Undo
+undoOf v r = record { control = v .control; entries = v .shape .entries; buffered = r .buffered }
+
+-- "7 buffer: a buffered entry is not proper"
+unfoldable pub goodBuffer : View → List ℕ → Registers → Bool
+goodBuffer v work r = bufferProper (bufferIn work) (r .buffered) (v .shape .lines) (r .epoch)
