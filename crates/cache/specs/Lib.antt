@@ -1,3 +1,4 @@
 pub mod Slots
 pub mod Effects
 pub mod Contracts
+pub mod Laws

@@ -1,3 +1,5 @@
 pub mod Registers
 pub mod View
 pub mod Refusals
+pub mod Contracts
+pub mod Laws

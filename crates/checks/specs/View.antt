@@ -17,32 +17,44 @@ viewOf board work = record { control = controlIn board; shape = shapeIn board; s
 
 -- "1 shape: fewer than 2 board words; 24 bits not zero; N or L out of range; wrong word count; P = 2^24 − 1; start ≥ L;
 -- length > L"
-unfoldable pub goodShape : (words : ℕ) → View → Bool
-goodShape words v =
+unfoldable pub goodSizes : (words : ℕ) → View → Bool
+goodSizes words v =
     eqb (v .shape .version) boardVersion
     && leb 1 (v .shape .lines)
     && leb (v .shape .lines) mostLines
     && leb 1 (v .shape .entries)
     && leb (v .shape .entries) mostEntries
     && eqb words (boardWords (v .shape .lines) (v .shape .entries))
-    && not (eqb (v .control .persisted) lastEpoch)
+
+unfoldable pub goodControl : View → Bool
+goodControl v =
+    not (eqb (v .control .persisted) lastEpoch)
     && ltb (v .control .start) (v .shape .entries)
     && leb (v .control .length) (v .shape .entries)
+
+unfoldable pub goodShape : (words : ℕ) → View → Bool
+goodShape words v = leb logAt words && goodSizes words v && goodControl v
 
 -- "2 work: work memory is not 2S + 64 words, S 1 to 256"
 unfoldable pub goodWork : (words : ℕ) → Bool
 goodWork words = leb 1 (slotsOf words) && leb (slotsOf words) mostSlots && eqb words (workWords (slotsOf words))
 
 -- "Proper registers: P < s ≤ 2^24 − 1, s − P ≤ 16, b ≤ 31, c ≤ S, c = 0 where s = P + 1, length + b ≤ L."
-unfoldable pub properRegisters : View → Registers → Bool
-properRegisters v r =
+unfoldable pub properEpoch : View → Registers → Bool
+properEpoch v r =
     ltb (v .control .persisted) (r .epoch)
     && leb (r .epoch) lastEpoch
     && leb (r .epoch - v .control .persisted) mostAhead
-    && ltb (r .buffered) bufferPlaces
+
+unfoldable pub properCounts : View → Registers → Bool
+properCounts v r =
+    ltb (r .buffered) bufferPlaces
     && leb (r .cursor) (v .slots)
     && (not (eqb (r .epoch) (v .control .persisted + 1)) || eqb (r .cursor) 0)
     && leb (v .control .length + r .buffered) (v .shape .entries)
+
+unfoldable pub properRegisters : View → Registers → Bool
+properRegisters v r = properEpoch v r && properCounts v r
 
 -- what slots and buffered entries are held to, and the undo log as a call carries it
 abbrev pub boundsOf : View → Registers → Bounds

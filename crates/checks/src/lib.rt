@@ -1,13 +1,146 @@
 // The registers, and the tests that a call makes before it does anything.
+ghost use Prim.Native.Nat.{_≤_, _<_};
+ghost use lib.ListN.{length};
+ghost use mathlib.Core.List.{[], _∷_};
+ghost use mathlib.Core.Path.{_≡_};
+ghost use Rattle.layout.specs.Limits.{lastEpoch, mostSlots};
+ghost use Rattle.layout.specs.Memory.{logAt, slotsOf};
+ghost use Rattle.layout.specs.Words.{ControlFits, ShapeFits};
+ghost use Rattle.checks.specs.Registers.{zero, woken, committed, stepped, restarted, buffering};
+ghost use Rattle.checks.specs.View.{goodSizes, goodControl, goodShape, goodWork, properEpoch, properCounts, properRegisters};
+ghost use Rattle.checks.specs.View.{boundsOf, undoOf};
+ghost use Rattle.checks.specs.Refusals.{tested, registerRows, bufferRow, lineRows, roomRows, commitRows, epochRows};
+ghost use Rattle.checks.specs.Refusals.{cursorRows, waitingRows, scanRows, memoriesChecked, runningChecked};
+ghost use Rattle.checks.specs.Refusals.{lineChecked, storeChecked, commitChecked, scanChecked};
+ghost use Rattle.checks.specs.Contracts.{Viewed, RowsReady};
+use cache::Bounds;
+use layout::BOARD_VERSION;
+use layout::BUFFER_PLACES;
+use layout::BUFFER_WORDS;
+use layout::CONTROL_AT;
 use layout::Control;
+use layout::LAST_EPOCH;
+use layout::LOG_AT;
+use layout::MOST_AHEAD;
+use layout::MOST_ENTRIES;
+use layout::MOST_LINES;
+use layout::MOST_SLOTS;
+use layout::SHAPE_AT;
 use layout::Shape;
 use status::Status;
+use undo::Undo;
 
 // s, b and c of the paper: the running epoch, the number of buffered entries and the scan's cursor.
 pub struct Registers {
     pub epoch: u64,
     pub buffered: u64,
     pub cursor: u64,
+}
+
+impl Registers {
+    pub fn zero() -> Registers
+        ensures { λ r. ⌜ r ≡ zero ⌝ }
+    {
+        Registers {
+            epoch: 0,
+            buffered: 0,
+            cursor: 0,
+        }
+    }
+
+    pub fn woken(persisted: u64) -> Registers
+        requires { ⌜ persisted < lastEpoch ⌝ }
+        ensures { λ r. ⌜ r ≡ woken persisted ⌝ }
+    {
+        Registers {
+            epoch: persisted + 1,
+            buffered: 0,
+            cursor: 0,
+        }
+    }
+
+    pub fn committed(self) -> Registers
+        requires { ⌜ self .epoch ≤ lastEpoch ⌝ }
+        ensures { λ r. ⌜ r ≡ committed self ⌝ }
+    {
+        Registers {
+            epoch: self.epoch + 1,
+            buffered: self.buffered,
+            cursor: self.cursor,
+        }
+    }
+
+    pub fn stepped(self) -> Registers
+        requires { ⌜ self .cursor ≤ mostSlots ⌝ }
+        ensures { λ r. ⌜ r ≡ stepped self ⌝ }
+    {
+        Registers {
+            epoch: self.epoch,
+            buffered: self.buffered,
+            cursor: self.cursor + 1,
+        }
+    }
+
+    pub fn restarted(self) -> Registers
+        ensures { λ r. ⌜ r ≡ restarted self ⌝ }
+    {
+        Registers {
+            epoch: self.epoch,
+            buffered: self.buffered,
+            cursor: 0,
+        }
+    }
+
+    pub fn buffering(self, count: u64) -> Registers
+        ensures { λ r. ⌜ r ≡ buffering self count ⌝ }
+    {
+        Registers {
+            epoch: self.epoch,
+            buffered: count,
+            cursor: self.cursor,
+        }
+    }
+
+    fn is_proper_epoch(self, view: View) -> bool
+        ensures { λ r. ⌜ r ≡ properEpoch view self ⌝ }
+    {
+        if self.epoch <= view.control.persisted {
+            return false;
+        }
+        if self.epoch > LAST_EPOCH {
+            return false;
+        }
+        self.epoch - view.control.persisted <= MOST_AHEAD
+    }
+
+    fn is_proper_counts(self, view: View) -> bool
+        requires { ⌜ ControlFits (view .control) ⌝ }
+        ensures { λ r. ⌜ r ≡ properCounts view self ⌝ }
+    {
+        if self.buffered >= BUFFER_PLACES as u64 {
+            return false;
+        }
+        if self.cursor > view.slots as u64 {
+            return false;
+        }
+        if self.epoch != view.control.persisted + 1 {
+            return view.control.length + self.buffered <= view.shape.entries;
+        }
+        if self.cursor != 0 {
+            return false;
+        }
+        view.control.length + self.buffered <= view.shape.entries
+    }
+
+    fn is_proper(self, view: View) -> bool
+        requires { ⌜ ControlFits (view .control) ⌝ }
+        ensures { λ r. ⌜ r ≡ properRegisters view self ⌝ }
+    {
+        if !self.is_proper_epoch(view) {
+            return false;
+        }
+        self.is_proper_counts(view)
+    }
 }
 
 // What a call reads of the two memories before its tests.
@@ -17,7 +150,316 @@ pub struct View {
     pub slots: usize,
 }
 
+fn slots_of(words: usize) -> usize
+    ensures { λ r. ⌜ r ≡ slotsOf words ⌝ }
+{
+    if words < BUFFER_WORDS {
+        return 0;
+    }
+    (words - BUFFER_WORDS) / 2
+}
+
+impl View {
+    fn read(board: &[u64], work: &[u64]) -> View
+        requires { ⌜ logAt ≤ length (now board) ⌝ }
+        ensures { λ r. ⌜ Viewed (now (board .entry)) (now (work .entry)) r ⌝ }
+    {
+        let control = Control::decode(board[CONTROL_AT]);
+        let shape = Shape::decode(board[SHAPE_AT]);
+        View {
+            control,
+            shape,
+            slots: slots_of(work.len()),
+        }
+    }
+
+    fn is_good_sizes(self, words: usize) -> bool
+        ensures { λ r. ⌜ r ≡ goodSizes words self ⌝ }
+    {
+        if self.shape.version != BOARD_VERSION {
+            return false;
+        }
+        if self.shape.lines < 1 {
+            return false;
+        }
+        if self.shape.lines > MOST_LINES {
+            return false;
+        }
+        if self.shape.entries < 1 {
+            return false;
+        }
+        if self.shape.entries > MOST_ENTRIES {
+            return false;
+        }
+        words as u64 == LOG_AT as u64 + 2 * self.shape.entries + self.shape.lines
+    }
+
+    fn is_good_control(self) -> bool
+        ensures { λ r. ⌜ r ≡ goodControl self ⌝ }
+    {
+        if self.control.persisted == LAST_EPOCH {
+            return false;
+        }
+        if self.control.start >= self.shape.entries {
+            return false;
+        }
+        self.control.length <= self.shape.entries
+    }
+
+    fn is_good_shape(self, words: usize) -> bool
+        requires { ⌜ logAt ≤ words ⌝ }
+        ensures { λ r. ⌜ r ≡ goodShape words self ⌝ }
+    {
+        if !self.is_good_sizes(words) {
+            return false;
+        }
+        self.is_good_control()
+    }
+}
+
+fn is_good_work(words: usize) -> bool
+    ensures { λ r. ⌜ r ≡ goodWork words ⌝ }
+{
+    let slots = slots_of(words);
+    if slots < 1 {
+        return false;
+    }
+    if slots > MOST_SLOTS {
+        return false;
+    }
+    words == 2 * slots + BUFFER_WORDS
+}
+
+// What came of a call's tests.
 pub enum Checked {
     Refused(Status),
     Passed(View),
+}
+
+// 1 and 2 of the paper's table.
+pub fn check_memories(board: &[u64], work: &[u64]) -> Checked
+    ensures { λ r. ⌜ r ≡ memoriesChecked (now (board .entry)) (now (work .entry)) ⌝ }
+{
+    if board.len() < LOG_AT {
+        return Checked::Refused(Status::Shape);
+    }
+    let view = View::read(board, work);
+    if !view.is_good_shape(board.len()) {
+        return Checked::Refused(Status::Shape);
+    }
+    if !is_good_work(work.len()) {
+        return Checked::Refused(Status::Work);
+    }
+    Checked::Passed(view)
+}
+
+fn check_registers(view: View, registers: Registers) -> Checked
+    requires { ⌜ ControlFits (view .control) ⌝ }
+    ensures { λ r. ⌜ r ≡ tested (registerRows view registers) view ⌝ }
+{
+    if !registers.is_proper(view) {
+        return Checked::Refused(Status::Regs);
+    }
+    Checked::Passed(view)
+}
+
+// 1, 2 and 4.
+fn check_running(board: &[u64], work: &[u64], registers: Registers) -> Checked
+    ensures { λ r. ⌜ r ≡ runningChecked (now (board .entry)) (now (work .entry)) registers ⌝ }
+{
+    let memories = check_memories(board, work);
+    match memories {
+        Checked::Refused(status) => Checked::Refused(status),
+        Checked::Passed(view) => check_registers(view, registers),
+    }
+}
+
+impl View {
+    // What slot words are held to.
+    pub fn bounds(self, registers: Registers) -> Bounds
+        ensures { λ r. ⌜ r ≡ boundsOf self registers ⌝ }
+    {
+        Bounds {
+            lines: self.shape.lines,
+            slots: self.slots,
+            persisted: self.control.persisted,
+            epoch: registers.epoch,
+        }
+    }
+
+    // The undo log as the call carries it.
+    pub fn undo(self, registers: Registers) -> Undo
+        ensures { λ r. ⌜ r ≡ undoOf self registers ⌝ }
+    {
+        let control = self.control;
+        Undo {
+            control,
+            entries: self.shape.entries,
+            buffered: registers.buffered,
+        }
+    }
+}
+
+// 7.
+fn check_buffer(view: View, work: &[u64], registers: Registers) -> Checked
+    requires { ⌜ RowsReady (now work) registers view ⌝ }
+    ensures { λ r. ⌜ r ≡ tested (bufferRow view (now (work .entry)) registers ∷ []) view ⌝ }
+{
+    let at = work.len() - BUFFER_WORDS;
+    if !undo::is_buffer_proper(
+        &work[at..],
+        registers.buffered as usize,
+        view.shape.lines,
+        registers.epoch,
+    ) {
+        return Checked::Refused(Status::Buffer);
+    }
+    Checked::Passed(view)
+}
+
+// 5, 6 and 7.
+fn line_rows(view: View, work: &[u64], registers: Registers, address: u64) -> Checked
+    requires { ⌜ RowsReady (now work) registers view ⌝ }
+    ensures { λ r. ⌜ r ≡ tested (lineRows view (now (work .entry)) registers address) view ⌝ }
+{
+    if address >= view.shape.lines {
+        return Checked::Refused(Status::Address);
+    }
+    if !cache::is_proper_for(work, view.bounds(registers), address) {
+        return Checked::Refused(Status::Slot);
+    }
+    check_buffer(view, work, registers)
+}
+
+// The refusals of load and evict.
+pub fn check_line(board: &[u64], work: &[u64], registers: Registers, address: u64) -> Checked
+    ensures { λ r. ⌜ r ≡ lineChecked (now (board .entry)) (now (work .entry)) registers address ⌝ }
+{
+    let running = check_running(board, work, registers);
+    match running {
+        Checked::Refused(status) => Checked::Refused(status),
+        Checked::Passed(view) => line_rows(view, work, registers, address),
+    }
+}
+
+// 8.
+fn room_rows(view: View, work: &[u64], registers: Registers, address: u64) -> Checked
+    requires { ⌜ RowsReady (now work) registers view ⌝ }
+    ensures { λ r. ⌜ r ≡ tested (roomRows view (now (work .entry)) registers address) view ⌝ }
+{
+    let spot = cache::find(work, view.slots, address);
+    if !steps::is_undo_due(work, spot, registers.epoch) {
+        return Checked::Passed(view);
+    }
+    if view.control.length + registers.buffered + 1 > view.shape.entries {
+        return Checked::Refused(Status::Room);
+    }
+    Checked::Passed(view)
+}
+
+// The refusals of store.
+pub fn check_store(board: &[u64], work: &[u64], registers: Registers, address: u64) -> Checked
+    ensures { λ r. ⌜ r ≡ storeChecked (now (board .entry)) (now (work .entry)) registers address ⌝ }
+{
+    let line = check_line(board, work, registers, address);
+    match line {
+        Checked::Refused(status) => Checked::Refused(status),
+        Checked::Passed(view) => room_rows(view, work, registers, address),
+    }
+}
+
+// 7, 9 and 10.
+fn commit_rows(view: View, work: &[u64], registers: Registers) -> Checked
+    requires { ⌜ RowsReady (now work) registers view ⌝ }
+    ensures { λ r. ⌜ r ≡ tested (commitRows view (now (work .entry)) registers) view ⌝ }
+{
+    let buffer = check_buffer(view, work, registers);
+    match buffer {
+        Checked::Refused(status) => Checked::Refused(status),
+        Checked::Passed(_) => check_commit_epoch(view, registers),
+    }
+}
+
+fn check_commit_epoch(view: View, registers: Registers) -> Checked
+    requires { ⌜ view .control .persisted < registers .epoch ⌝ }
+    ensures { λ r. ⌜ r ≡ tested (epochRows view registers) view ⌝ }
+{
+    if registers.epoch - view.control.persisted == MOST_AHEAD {
+        return Checked::Refused(Status::Waiting);
+    }
+    if registers.epoch == LAST_EPOCH {
+        return Checked::Refused(Status::Last);
+    }
+    Checked::Passed(view)
+}
+
+// The refusals of commit.
+pub fn check_commit(board: &[u64], work: &[u64], registers: Registers) -> Checked
+    ensures { λ r. ⌜ r ≡ commitChecked (now (board .entry)) (now (work .entry)) registers ⌝ }
+{
+    let running = check_running(board, work, registers);
+    match running {
+        Checked::Refused(status) => Checked::Refused(status),
+        Checked::Passed(view) => commit_rows(view, work, registers),
+    }
+}
+
+// 6 of scan: the slot at the cursor, while there is one.
+fn check_cursor(view: View, work: &[u64], registers: Registers) -> Checked
+    requires { ⌜ RowsReady (now work) registers view ⌝ }
+    ensures { λ r. ⌜ r ≡ tested (cursorRows view (now (work .entry)) registers) view ⌝ }
+{
+    let k = registers.cursor as usize;
+    if k >= view.slots {
+        return Checked::Passed(view);
+    }
+    if !cache::is_proper_at(work, view.bounds(registers), k) {
+        return Checked::Refused(Status::Slot);
+    }
+    Checked::Passed(view)
+}
+
+fn check_waiting(view: View, registers: Registers) -> Checked
+    requires { ⌜ view .control .persisted < registers .epoch ⌝ }
+    ensures { λ r. ⌜ r ≡ tested (waitingRows view registers) view ⌝ }
+{
+    if registers.epoch == view.control.persisted + 1 {
+        return Checked::Refused(Status::None);
+    }
+    Checked::Passed(view)
+}
+
+// 7 and 11.
+fn scan_end_rows(view: View, work: &[u64], registers: Registers) -> Checked
+    requires { ⌜ RowsReady (now work) registers view ⌝ }
+    ensures { λ r. ⌜ r ≡ tested (bufferRow view (now (work .entry)) registers ∷ waitingRows view registers) view ⌝ }
+{
+    let buffer = check_buffer(view, work, registers);
+    match buffer {
+        Checked::Refused(status) => Checked::Refused(status),
+        Checked::Passed(_) => check_waiting(view, registers),
+    }
+}
+
+// 6, 7 and 11.
+fn scan_rows(view: View, work: &[u64], registers: Registers) -> Checked
+    requires { ⌜ RowsReady (now work) registers view ⌝ }
+    ensures { λ r. ⌜ r ≡ tested (scanRows view (now (work .entry)) registers) view ⌝ }
+{
+    let cursor = check_cursor(view, work, registers);
+    match cursor {
+        Checked::Refused(status) => Checked::Refused(status),
+        Checked::Passed(_) => scan_end_rows(view, work, registers),
+    }
+}
+
+// The refusals of scan.
+pub fn check_scan(board: &[u64], work: &[u64], registers: Registers) -> Checked
+    ensures { λ r. ⌜ r ≡ scanChecked (now (board .entry)) (now (work .entry)) registers ⌝ }
+{
+    let running = check_running(board, work, registers);
+    match running {
+        Checked::Refused(status) => Checked::Refused(status),
+        Checked::Passed(view) => scan_rows(view, work, registers),
+    }
 }

@@ -2,27 +2,19 @@ use Rattle.cache.specs.Slots.{properAt}
 use borrow.Author.Needs.{needs}
 use Rattle.cache.proofs.is_proper_at.Statement.{statement}
 use Rattle.cache.proofs.is_proper_at.Tie as tie
-use Rattle.cache.proofs.is_proper_at.Reads as reads
-use Rattle.cache.proofs.is_proper_at.Lts as lts
-use Rattle.cache.proofs.is_proper.Reads as is-proper-reads
 
--- src/lib.rt:87:20
 mul-is-proper : tie.Need-mul-is-proper
 mul-is-proper c = search needs
 
--- src/lib.rt:87:15
 mul-is-proper-2 : tie.Need-mul-is-proper-2
 mul-is-proper-2 c = search needs
 
--- src/lib.rt:87:15
 shared-slice-read-is-proper : tie.Need-shared-slice-read-is-proper
 shared-slice-read-is-proper c = search needs
 
--- src/lib.rt:87:5
 is-proper-requires : tie.Need-is-proper-requires
 is-proper-requires c κs = search needs
 
--- src/lib.rt:82:1
 returns : tie.Need-returns
 unfolding properAt
 returns c = search needs

@@ -1,0 +1,184 @@
+-- The rows behind 1, 2 and 4: one law for each way out of a function.
+use Prim.Native.Nat.{ℕ, _+_, _-_, _*_, _<_, _≤_}
+use mathlib.Core.Path.{_≡_, refl, sym, ap, _∙_}
+use mathlib.Core.Bool.{Bool, true, false, not, cond}
+use mathlib.Core.List.{List, [], _∷_, _++_}
+use native.Mathlib.Omega.{arith}
+use borrow.Author.Tests.{lt-ltb, le-ltb, le-leb, lt-leb, eq-eqb, ne-eqb, not-true, not-false}
+use lib.ListN.{length, take, drop}
+use Rattle.base.specs.Parts.{rest-lent}
+use Rattle.layout.specs.Memory.{bufferWords}
+use Rattle.status.specs.declared.Status.{Status}
+use Rattle.status.specs.declared.Status.the-variants as status
+use Rattle.undo.specs.Log.{bufferProper}
+use Rattle.cache.specs.declared.Bounds.{Bounds}
+use Rattle.cache.specs.declared.Spot.{Spot}
+use Rattle.cache.specs.Laws.{spot-below}
+use Rattle.cache.specs.Slots.{properAt, properFor, spotOf}
+use Rattle.cache.specs.Effects.{undoDue}
+use Rattle.checks.specs.declared.Checked.{Checked}
+use Rattle.checks.specs.declared.Checked.the-variants.{Refused, Passed}
+use Rattle.checks.specs.declared.Registers.{Registers}
+use Rattle.checks.specs.declared.View.{View}
+use Rattle.checks.specs.View.{viewOf, boundsOf, goodBuffer}
+use Rattle.checks.specs.Refusals.{Row, tested, runningRows, bufferRow, lineRows, roomRows, commitRows, epochRows, cursorRows, waitingRows}
+use Rattle.checks.specs.Refusals.{scanRows, runningChecked, lineChecked, storeChecked, commitChecked, scanChecked}
+use Rattle.checks.specs.Contracts.{Running, RowsReady}
+use Rattle.checks.specs.Laws.{refused-first, passed-first, running-view, running, line-view, line-running}
+
+-- 7
+module _ (v : View) (work : List ℕ) (r : Registers) (t : Bool)
+    (test : t ≡ bufferProper (take (length work - (length work - bufferWords)) (drop (length work - bufferWords) work)) (r .buffered) (v .shape .lines) (r .epoch))
+  where
+    good : t ≡ goodBuffer v work r
+    unfolding goodBuffer
+    good = rw (rest-lent (length work - bufferWords) work) at test
+
+    pub buffer-refused : not t ≡ true → Refused status.Buffer ≡ tested (bufferRow v work r ∷ []) v
+    buffer-refused h = rw (← good, not-true t h)
+
+    pub buffer-passed : not t ≡ false → Passed v ≡ tested (bufferRow v work r ∷ []) v
+    buffer-passed h = rw (← good, not-false t h)
+
+-- 5, 6 and 7
+module _ (v : View) (work : List ℕ) (r : Registers) (address : ℕ) where
+  pub line-outside : v .shape .lines ≤ address → Refused status.Address ≡ tested (lineRows v work r address) v
+  line-outside h = rw (le-leb (v .shape .lines) address h)
+
+  module _ (named : address < v .shape .lines) (b : Bounds) (bounds : b ≡ boundsOf v r) (t : Bool) (slot : t ≡ properFor b work address) where
+    pub line-slot : not t ≡ true → Refused status.Slot ≡ tested (lineRows v work r address) v
+    line-slot h = rw (lt-leb (v .shape .lines) address named, ← bounds, ← slot, not-true t h)
+
+    pub line-buffer : (k : Checked) → not t ≡ false → k ≡ tested (bufferRow v work r ∷ []) v → k ≡ tested (lineRows v work r address) v
+    line-buffer k h x = x ∙ sym (rw (lt-leb (v .shape .lines) address named, ← bounds, ← slot, not-false t h))
+
+-- 8
+module _ (v : View) (work : List ℕ) (r : Registers) (address : ℕ) (spot : Spot) (at : spot ≡ spotOf work (v .slots) address) where
+  pub room-spot : RowsReady work r v → 2 * spot .slot + 2 ≤ length work
+  room-spot h = rw at (omega (arith, h .work-words, spot-below work (v .slots) address (h .slots-some)))
+
+  module _ (t : Bool) (due : t ≡ undoDue work spot (r .epoch)) where
+    pub room-spared : not t ≡ true → Passed v ≡ tested (roomRows v work r address) v
+    room-spared h = rw (← at, ← due, not-true t h)
+
+    pub room-refused : not t ≡ false → v .shape .entries < v .control .length + r .buffered + 1
+        → Refused status.Room ≡ tested (roomRows v work r address) v
+    room-refused h g = rw (← at, ← due, not-false t h, lt-ltb (v .shape .entries) (v .control .length + r .buffered + 1) g)
+
+    pub room-found : not t ≡ false → v .control .length + r .buffered + 1 ≤ v .shape .entries → Passed v ≡ tested (roomRows v work r address) v
+    room-found h g = rw (← at, ← due, not-false t h, le-ltb (v .shape .entries) (v .control .length + r .buffered + 1) g)
+
+-- commit's rows, and scan's
+module _ (v : View) (work : List ℕ) (r : Registers) (k : Checked) where
+  module _ (is : k ≡ tested (bufferRow v work r ∷ []) v) where
+    pub commit-buffer : (s : Status) → k ≡ Refused s → Refused s ≡ tested (commitRows v work r) v
+    commit-buffer s e = refused-first (bufferRow v work r ∷ []) (epochRows v r) v s (sym e ∙ is)
+
+    pub commit-epoch : (w : View) (k′ : Checked) → k ≡ Passed w → k′ ≡ tested (epochRows v r) v → k′ ≡ tested (commitRows v work r) v
+    commit-epoch w k′ e x = x ∙ sym (passed-first (bufferRow v work r ∷ []) (epochRows v r) v w (sym e ∙ is))
+
+    pub scan-buffer : (s : Status) → k ≡ Refused s → Refused s ≡ tested (bufferRow v work r ∷ waitingRows v r) v
+    scan-buffer s e = refused-first (bufferRow v work r ∷ []) (waitingRows v r) v s (sym e ∙ is)
+
+    pub scan-waiting : (w : View) (k′ : Checked) → k ≡ Passed w → k′ ≡ tested (waitingRows v r) v
+        → k′ ≡ tested (bufferRow v work r ∷ waitingRows v r) v
+    scan-waiting w k′ e x = x ∙ sym (passed-first (bufferRow v work r ∷ []) (waitingRows v r) v w (sym e ∙ is))
+
+  module _ (is : k ≡ tested (cursorRows v work r) v) where
+    pub scan-cursor : (s : Status) → k ≡ Refused s → Refused s ≡ tested (scanRows v work r) v
+    scan-cursor s e = refused-first (cursorRows v work r) (bufferRow v work r ∷ waitingRows v r) v s (sym e ∙ is)
+
+    pub scan-rest : (w : View) (k′ : Checked) → k ≡ Passed w → k′ ≡ tested (bufferRow v work r ∷ waitingRows v r) v
+        → k′ ≡ tested (scanRows v work r) v
+    scan-rest w k′ e x = x ∙ sym (passed-first (cursorRows v work r) (bufferRow v work r ∷ waitingRows v r) v w (sym e ∙ is))
+
+module _ (v : View) (work : List ℕ) (r : Registers) where
+  pub cursor-end : v .slots ≤ r .cursor → Passed v ≡ tested (cursorRows v work r) v
+  cursor-end h = rw (le-ltb (r .cursor) (v .slots) h)
+
+  module _ (within : r .cursor < v .slots) where
+    pub cursor-within : RowsReady work r v → 2 * r .cursor < length work
+    cursor-within h = omega (arith, h .work-words)
+
+    module _ (b : Bounds) (bounds : b ≡ boundsOf v r) (t : Bool) (slot : t ≡ properAt b work (r .cursor)) where
+      pub cursor-refused : not t ≡ true → Refused status.Slot ≡ tested (cursorRows v work r) v
+      cursor-refused h = rw (lt-ltb (r .cursor) (v .slots) within, ← bounds, ← slot, not-true t h)
+
+      pub cursor-passed : not t ≡ false → Passed v ≡ tested (cursorRows v work r) v
+      cursor-passed h = rw (lt-ltb (r .cursor) (v .slots) within, ← bounds, ← slot, not-false t h)
+
+-- behind 1, 2 and 4
+pub bounds-slots : (v : View) (r : Registers) (b : Bounds) (work : List ℕ) → b ≡ boundsOf v r → RowsReady work r v → 0 < b .slots
+bounds-slots v r b work e h = rw e (h .slots-some)
+
+pub bounds-words : (v : View) (r : Registers) (b : Bounds) (work : List ℕ) → b ≡ boundsOf v r → RowsReady work r v → 2 * b .slots ≤ length work
+bounds-words v r b work e h = rw e (omega (arith, h .work-words))
+
+ready-of : (board work : List ℕ) (r : Registers) (v : View) → Running board work r v → RowsReady work r v
+ready-of board work r v h =
+    record {
+      slots-some = h .shaped .slots-some;
+      work-words = h .shaped .work-words;
+      buffered = h .buffered;
+      ahead = h .ahead;
+      epoch-most = h .epoch-most;
+      room = h .room;
+      entries-most = h .shaped .entries-most;
+    }
+
+module _ (board work : List ℕ) (r : Registers) (k : Checked) (is : k ≡ runningChecked board work r) where
+  module _ (s : Status) (e : k ≡ Refused s) where
+    pub line-first : (address : ℕ) → Refused s ≡ lineChecked board work r address
+    unfolding lineChecked runningChecked
+    line-first address =
+        refused-first (runningRows board work r) (lineRows (viewOf board work) work r address) (viewOf board work) s (sym e ∙ is)
+
+    pub commit-first : Refused s ≡ commitChecked board work r
+    unfolding commitChecked runningChecked
+    commit-first = refused-first (runningRows board work r) (commitRows (viewOf board work) work r) (viewOf board work) s (sym e ∙ is)
+
+    pub scan-first : Refused s ≡ scanChecked board work r
+    unfolding scanChecked runningChecked
+    scan-first = refused-first (runningRows board work r) (scanRows (viewOf board work) work r) (viewOf board work) s (sym e ∙ is)
+
+  module _ (v : View) (e : k ≡ Passed v) where
+    pub running-ready : RowsReady work r v
+    running-ready = ready-of board work r v (running board work r v (sym e ∙ is))
+
+    same : v ≡ viewOf board work
+    same = running-view board work r v (sym e ∙ is)
+
+    pub line-then : (address : ℕ) (k′ : Checked) → k′ ≡ tested (lineRows v work r address) v → k′ ≡ lineChecked board work r address
+    unfolding lineChecked runningChecked
+    line-then address k′ x =
+        rw same at x
+        ∙ sym (passed-first (runningRows board work r) (lineRows (viewOf board work) work r address) (viewOf board work) v (sym e ∙ is))
+
+    pub commit-then : (k′ : Checked) → k′ ≡ tested (commitRows v work r) v → k′ ≡ commitChecked board work r
+    unfolding commitChecked runningChecked
+    commit-then k′ x =
+        rw same at x ∙ sym (passed-first (runningRows board work r) (commitRows (viewOf board work) work r) (viewOf board work) v (sym e ∙ is))
+
+    pub scan-then : (k′ : Checked) → k′ ≡ tested (scanRows v work r) v → k′ ≡ scanChecked board work r
+    unfolding scanChecked runningChecked
+    scan-then k′ x =
+        rw same at x ∙ sym (passed-first (runningRows board work r) (scanRows (viewOf board work) work r) (viewOf board work) v (sym e ∙ is))
+
+module _ (board work : List ℕ) (r : Registers) (address : ℕ) (k : Checked) (is : k ≡ lineChecked board work r address) where
+  pub store-first : (s : Status) → k ≡ Refused s → Refused s ≡ storeChecked board work r address
+  unfolding storeChecked lineChecked
+  store-first s e =
+      refused-first (runningRows board work r ++ lineRows (viewOf board work) work r address) (roomRows (viewOf board work) work r address)
+      (viewOf board work) s (sym e ∙ is)
+
+  module _ (v : View) (e : k ≡ Passed v) where
+    pub line-ready : RowsReady work r v
+    line-ready = ready-of board work r v (line-running board work r address v (sym e ∙ is))
+
+    pub store-then : (k′ : Checked) → k′ ≡ tested (roomRows v work r address) v → k′ ≡ storeChecked board work r address
+    unfolding storeChecked lineChecked
+    store-then k′ x =
+        rw (line-view board work r address v (sym e ∙ is)) at x
+        ∙ sym
+        (passed-first (runningRows board work r ++ lineRows (viewOf board work) work r address) (roomRows (viewOf board work) work r address)
+        (viewOf board work) v (sym e ∙ is))

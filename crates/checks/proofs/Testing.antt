@@ -1,0 +1,56 @@
+-- The tests that call other tests: one law for each way out.
+use Prim.Native.Nat.{ℕ, _+_, _*_, _<_, _≤_}
+use mathlib.Core.Path.{_≡_, refl, sym, ap, _∙_, subst}
+use mathlib.Core.Bool.{Bool, true, false, not, _&&_}
+use mathlib.Core.List.{List}
+use borrow.Author.Tests.{lt-ltb, le-ltb, le-leb, lt-leb, eq-eqb, ne-eqb, not-true, not-false}
+use lib.Dec.{leb, eqb}
+use lib.ListN.{length, getD}
+use Rattle.layout.specs.declared.Control.{Control}
+use Rattle.layout.specs.declared.Shape.{Shape}
+use Rattle.layout.specs.Limits.{mostSlots}
+use Rattle.layout.specs.Memory.{logAt, controlAt, shapeAt, slotsOf, workWords}
+use Rattle.layout.specs.Words.{Decoded, ControlFits, ShapeFits, decodeControl, decodeShape}
+use Rattle.checks.specs.declared.Registers.{Registers}
+use Rattle.checks.specs.declared.View.{View}
+use Rattle.checks.specs.View.{viewOf, goodSizes, goodControl, goodShape, goodWork, properEpoch, properCounts, properRegisters}
+use Rattle.checks.specs.Contracts.{Viewed}
+
+module _ (v : View) (r : Registers) (t : Bool) (epoch : t ≡ properEpoch v r) where
+  pub proper-not : not t ≡ true → false ≡ properRegisters v r
+  unfolding properRegisters
+  proper-not h = rw (← epoch, not-true t h)
+
+  pub proper-both : (u : Bool) → not t ≡ false → u ≡ properCounts v r → u ≡ properRegisters v r
+  unfolding properRegisters
+  proper-both u h a = a ∙ sym (rw (← epoch, not-false t h))
+
+module _ (words : ℕ) (v : View) (long : logAt ≤ words) (t : Bool) (sizes : t ≡ goodSizes words v) where
+  pub shape-not : not t ≡ true → false ≡ goodShape words v
+  unfolding goodShape
+  shape-not h = rw (le-leb logAt words long, ← sizes, not-true t h)
+
+  pub shape-both : (u : Bool) → not t ≡ false → u ≡ goodControl v → u ≡ goodShape words v
+  unfolding goodShape
+  shape-both u h a = a ∙ sym (rw (le-leb logAt words long, ← sizes, not-false t h))
+
+module _ (words slots : ℕ) (is : slots ≡ slotsOf words) where
+  pub work-none : slots < 1 → false ≡ goodWork words
+  unfolding goodWork
+  work-none h = rw (← is, lt-leb 1 slots h)
+
+  module _ (some : 1 ≤ slots) where
+    pub work-many : mostSlots < slots → false ≡ goodWork words
+    unfolding goodWork
+    work-many h = rw (← is, le-leb 1 slots some, lt-leb slots mostSlots h)
+
+    pub work-words : slots ≤ mostSlots → eqb words (workWords slots) ≡ goodWork words
+    unfolding goodWork
+    work-words h = rw (← is, le-leb 1 slots some, le-leb slots mostSlots h)
+
+pub read-view : (board work : List ℕ) (c : Control) (s : Shape) (slots : ℕ) → Decoded ControlFits (decodeControl (getD board controlAt 0)) c
+    → Decoded ShapeFits (decodeShape (getD board shapeAt 0)) s → slots ≡ slotsOf (length work)
+    → Viewed board work (record { control = c; shape = s; slots = slots })
+unfolding viewOf
+read-view board work c s slots x y z =
+    record { is = λ i. record { control = x .is i; shape = y .is i; slots = z i }; control = x .fits; shape = y .fits }

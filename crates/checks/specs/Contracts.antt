@@ -1,0 +1,50 @@
+-- What a view that was read, and one that passed a call's first tests, tell.
+use Prim.Native.Nat.{ℕ, _+_, _-_, _*_, _<_, _≤_}
+use mathlib.Core.Path.{_≡_}
+use mathlib.Core.List.{List}
+use lib.ListN.{length}
+use Rattle.layout.specs.Limits.{lastEpoch, mostLines, mostEntries, mostSlots, bufferPlaces, mostAhead}
+use Rattle.layout.specs.Memory.{boardWords, workWords}
+use Rattle.layout.specs.Words.{ControlFits, ShapeFits}
+use Rattle.checks.specs.declared.Registers.{Registers}
+use Rattle.checks.specs.declared.View.{View}
+use Rattle.checks.specs.View.{viewOf}
+
+pub record Viewed (board work : List ℕ) (v : View) : Type 0 where
+  pub is : v ≡ viewOf board work
+  pub control : ControlFits (v .control)
+  pub shape : ShapeFits (v .shape)
+
+-- 1 and 2 passed
+pub record Shaped (board work : List ℕ) (v : View) : Type 0 where
+  pub lines-some : 1 ≤ v .shape .lines
+  pub lines-most : v .shape .lines ≤ mostLines
+  pub entries-some : 1 ≤ v .shape .entries
+  pub entries-most : v .shape .entries ≤ mostEntries
+  pub board-words : length board ≡ boardWords (v .shape .lines) (v .shape .entries)
+  pub persisted : v .control .persisted < lastEpoch
+  pub start : v .control .start < v .shape .entries
+  pub log-length : v .control .length ≤ v .shape .entries
+  pub slots-some : 1 ≤ v .slots
+  pub slots-most : v .slots ≤ mostSlots
+  pub work-words : length work ≡ workWords (v .slots)
+
+-- 4 passed as well
+pub record Running (board work : List ℕ) (r : Registers) (v : View) : Type 0 where
+  pub shaped : Shaped board work v
+  pub ahead : v .control .persisted < r .epoch
+  pub epoch-most : r .epoch ≤ lastEpoch
+  pub window : r .epoch - v .control .persisted ≤ mostAhead
+  pub buffered : r .buffered < bufferPlaces
+  pub cursor : r .cursor ≤ v .slots
+  pub room : v .control .length + r .buffered ≤ v .shape .entries
+
+-- what the later rows ask of the earlier ones
+pub record RowsReady (work : List ℕ) (r : Registers) (v : View) : Type 0 where
+  pub slots-some : 1 ≤ v .slots
+  pub work-words : length work ≡ workWords (v .slots)
+  pub buffered : r .buffered < bufferPlaces
+  pub ahead : v .control .persisted < r .epoch
+  pub epoch-most : r .epoch ≤ lastEpoch
+  pub room : v .control .length + r .buffered ≤ v .shape .entries
+  pub entries-most : v .shape .entries ≤ mostEntries

@@ -1,0 +1,124 @@
+-- The laws of `update`, `recall` and `ended`. Assumes nothing.
+use mathlib.Core.Path.{_≡_, refl, sym, ap, subst}
+use mathlib.Core.Logic.{_≢_}
+use mathlib.Core.List.{List, [], _∷_, _++_}
+use mathlib.Core.Bool.{Bool, true, false, cond, _&&_}
+use Prim.Native.Nat.{ℕ, _≤_, _<_}
+use native.Mathlib.Omega.{arith}
+use lib.Dec.{ltb, leb, eqb}
+use lib.ListN.{length}
+use borrow.Author.Tests.{ltb-true, ltb-false, leb-true, eqb-true, eqb-false, lt-ltb, le-ltb, le-leb, eq-eqb, ne-eqb}
+use Rattle.history.specs.Every.{Every}
+use Rattle.history.specs.Machine.{Entry, covers, coversAt, recall, Silent, ended, dropEnded, update}
+
+-- ---- by cases
+
+-- a claim about every address, or every epoch: at a, and elsewhere
+pub here-or-there : (a : ℕ) (Q : ℕ → Type 0) → Q a → ((b : ℕ) → b ≢ a → Q b) → (b : ℕ) → Q b
+here-or-there a Q here there b = go (eqb b a) refl
+  where
+    go : (t : Bool) → eqb b a ≡ t → Q b
+    go true e = subst Q (sym (eqb-true b a e)) here
+    go false e = there b (eqb-false b a e)
+
+pub below-or-not : {C : Type 0} (m n : ℕ) → (m < n → C) → (n ≤ m → C) → C
+below-or-not {C} m n below not-below = go (ltb m n) refl
+  where
+    go : (t : Bool) → ltb m n ≡ t → C
+    go true e = below (ltb-true m n e)
+    go false e = not-below (ltb-false m n e)
+
+-- ---- one place updated
+
+module _ {A : Type 0} (f : ℕ → A) (a : ℕ) (v : A) where
+  pub update-same : update f a v a ≡ v
+  unfolding update
+  update-same = rw (eq-eqb a a refl)
+
+  pub update-other : (b : ℕ) → b ≢ a → update f a v b ≡ f b
+  unfolding update
+  update-other b n = rw (ne-eqb b a n)
+
+-- ---- one entry
+
+and-false : (t : Bool) → (t && false) ≡ false
+and-false true = refl
+and-false false = refl
+
+module _ (x : Entry) (e : ℕ) where
+  pub coversAt-own : coversAt x e (x .address) ≡ covers x e
+  unfolding coversAt
+  coversAt-own = rw (eq-eqb (x .address) (x .address) refl)
+
+  pub covers-inside : x .from ≤ e → e < x .till → covers x e ≡ true
+  unfolding covers
+  covers-inside h k = rw (le-leb (x .from) e h, lt-ltb e (x .till) k)
+
+  pub coversAt-ended : (a : ℕ) → x .till ≤ e → coversAt x e a ≡ false
+  unfolding covers coversAt
+  coversAt-ended a h = rw (le-ltb e (x .till) h, and-false (leb (x .from) e), and-false (eqb (x .address) a))
+
+  pub coversAt-away : (a : ℕ) → x .address ≢ a → coversAt x e a ≡ false
+  unfolding coversAt
+  coversAt-away a n = rw (ne-eqb (x .address) a n)
+
+  pub coversAt-none : (a : ℕ) → covers x e ≡ false → coversAt x e a ≡ false
+  unfolding coversAt
+  coversAt-none a p = rw (p, and-false (eqb (x .address) a))
+
+-- ---- a log
+
+pub recall-append : (xs ys : List Entry) (e a d : ℕ) → recall (xs ++ ys) e a d ≡ recall xs e a (recall ys e a d)
+unfolding recall
+recall-append [] ys e a d = refl
+recall-append (x ∷ xs) ys e a d = ap (cond (coversAt x e a) (x .old)) (recall-append xs ys e a d)
+
+-- recovering twice is recovering once
+pub recall-twice : (xs : List Entry) (e a d : ℕ) → recall xs e a (recall xs e a d) ≡ recall xs e a d
+unfolding recall
+recall-twice [] e a d = refl
+recall-twice (x ∷ xs) e a d = go (coversAt x e a) refl (recall-twice xs e a d)
+  where
+    go : (t : Bool) → coversAt x e a ≡ t → recall xs e a (recall xs e a d) ≡ recall xs e a d → recall (x ∷ xs) e a (recall (x ∷ xs) e a d) ≡ recall (x ∷ xs) e a d
+    go true p ih = rw p
+    go false p ih = rw p ih
+
+-- a new entry is asked last
+module _ (xs : List Entry) (x : Entry) (e : ℕ) where
+  pub recall-new : x .from ≤ e → e < x .till → (d : ℕ) → recall (xs ++ (x ∷ [])) e (x .address) d ≡ recall xs e (x .address) (x .old)
+  unfolding recall
+  recall-new h k d = rw (recall-append xs (x ∷ []) e (x .address) d, coversAt-own x e, covers-inside x e h k)
+
+  pub recall-new-away : (a : ℕ) → x .address ≢ a → (d : ℕ) → recall (xs ++ (x ∷ [])) e a d ≡ recall xs e a d
+  unfolding recall
+  recall-new-away a n d = rw (recall-append xs (x ∷ []) e a d, coversAt-away x e a n)
+
+-- ---- entries that have ended
+
+-- so the ring can drop them
+pub ended-le : (q : ℕ) (xs : List Entry) → ended q xs ≤ length xs
+unfolding ended
+ended-le q [] = omega arith
+ended-le q (x ∷ xs) = go (leb (x .till) q) refl (ended-le q xs)
+  where
+    go : (t : Bool) → leb (x .till) q ≡ t → ended q xs ≤ length xs → ended q (x ∷ xs) ≤ length (x ∷ xs)
+    go true p ih = rw p (omega arith)
+    go false p ih = rw p (omega arith)
+
+-- from epoch q on, what has ended by q is not missed
+pub recall-dropEnded : (q : ℕ) (xs : List Entry) (e a d : ℕ) → q ≤ e → recall (dropEnded q xs) e a d ≡ recall xs e a d
+unfolding recall ended
+recall-dropEnded q [] e a d h = refl
+recall-dropEnded q (x ∷ xs) e a d h = go (leb (x .till) q) refl (recall-dropEnded q xs e a d h)
+  where
+    go : (t : Bool) → leb (x .till) q ≡ t → recall (dropEnded q xs) e a d ≡ recall xs e a d → recall (dropEnded q (x ∷ xs)) e a d ≡ recall (x ∷ xs) e a d
+    go true p ih = rw (p, coversAt-ended x e a (omega (arith, leb-true (x .till) q p))) ih
+    go false p ih = rw p
+
+-- ---- no entry has the address
+
+-- what a write-out's test of the buffer finds: then the line is `Logged`
+pub silent-away : (xs : List Entry) (e a : ℕ) → Every (λ x. x .address ≢ a) xs → Silent xs e a
+unfolding recall
+silent-away [] e a h d = refl
+silent-away (x ∷ xs) e a h d = rw (coversAt-away x e a (h .0)) (silent-away xs e a (h .1) d)
