@@ -7,7 +7,6 @@ use native.Mathlib.Omega.{arith}
 use borrow.Author.Tests.{ltb-true, ltb-false}
 use lib.Dec.{ltb}
 use lib.ListN.{length, take}
-use lib.Seq.{take-all}
 use Rattle.board.specs.declared.Meter.{Meter}
 use Rattle.board.specs.Stores.{Store, full, applied, stored, spent, Ran}
 
@@ -22,18 +21,15 @@ module _ {b b′ : List ℕ} {m : Meter} (allowance : ℕ) (ss : List Store) (p 
   ran-within = rw (p .meter) (omega arith)
 
   -- cut, exactly when more stores were due
-  pub ran-over : m .cut ≡ true → allowance < length ss
+  pub ran-cut-off : m .cut ≡ true → allowance < length ss
   unfolding spent
-  ran-over e = ltb-true allowance (length ss) (sym (ap (λ (x : Meter). x .cut) (p .meter)) ∙ e)
+  ran-cut-off e = ltb-true allowance (length ss) (sym (ap (λ (x : Meter). x .cut) (p .meter)) ∙ e)
 
   pub ran-whole : m .cut ≡ false → length ss ≤ allowance
   unfolding spent
   ran-whole e = ltb-false allowance (length ss) (sym (ap (λ (x : Meter). x .cut) (p .meter)) ∙ e)
 
-  -- all were made, and the meter's count is theirs
-  pub ran-all : m .cut ≡ false → b′ ≡ applied b ss
-  ran-all e = ran-board ∙ ap (applied b) (take-all allowance ss (ran-whole e))
-
+  -- then the meter's count is that of the stores
   pub ran-count : m .cut ≡ false → allowance - m .left ≡ length ss
   unfolding spent
   ran-count e = let h : length ss ≤ allowance = ran-whole e in rw (p .meter) (omega arith)
@@ -42,6 +38,6 @@ module _ {b b′ : List ℕ} {m : Meter} (allowance : ℕ) (ss : List Store) (p 
   pub ran-still : {b″ : List ℕ} {m″ : Meter} (more : List Store) → m .cut ≡ true → Ran b′ m more b″ m″ → b″ ≡ b′
   unfolding stored spent applied
   ran-still more e q =
-      let h : allowance < length ss = ran-over e in
+      let h : allowance < length ss = ran-cut-off e in
       let l : m .left ≡ 0 = rw (p .meter) (omega arith) in
       q .memory ∙ rw l

@@ -1,10 +1,10 @@
 -- What a passed check tells of the view and the registers.
 use Prim.Native.Nat.{ℕ, _+_, _-_, _<_, _≤_}
 use mathlib.Core.Path.{_≡_, refl, sym, ap, _∙_}
-use mathlib.Core.Bool.{Bool, true, false, not, cond, _&&_}
+use mathlib.Core.Bool.{Bool, true, false, not, cond, _&&_, false≢true}
 use mathlib.Core.List.{List, [], _∷_, _++_}
 use native.Mathlib.Omega.{arith}
-use borrow.Author.Tests.{leb-true, ltb-true, eqb-true, eqb-false, leb-false, not-true, not-false}
+use borrow.Author.Tests.{leb-true, ltb-true, eqb-true, eqb-false, leb-false, ltb-false, lt-ltb, not-true, not-false}
 use lib.Dec.{ltb, leb, eqb}
 use lib.ListN.{length, getD}
 use Rattle.base.specs.Tests.{and-left, and-right, held}
@@ -13,13 +13,15 @@ use Rattle.layout.specs.Laws.{decoded-fits-control}
 use Rattle.layout.specs.Memory.{boardWords, workWords, slotsOf, controlAt}
 use Rattle.layout.specs.Words.{ControlFits}
 use Rattle.status.specs.declared.Status.{Status}
-use Rattle.cache.specs.Slots.{properFor}
+use Rattle.cache.specs.Slots.{properAt, properFor, spotOf}
+use Rattle.cache.specs.Effects.{undoDue}
 use Rattle.checks.specs.declared.Checked.{Checked}
 use Rattle.checks.specs.declared.Checked.the-variants.{Refused, Passed}
 use Rattle.checks.specs.declared.Registers.{Registers}
 use Rattle.checks.specs.declared.View.{View}
 use Rattle.checks.specs.View.{viewOf, boundsOf, goodSizes, goodControl, goodShape, goodWork, properEpoch, properCounts, properRegisters}
-use Rattle.checks.specs.Refusals.{Row, tested, memoryRows, runningRows, lineRows, memoriesChecked, runningChecked, lineChecked}
+use Rattle.checks.specs.Refusals.{Row, tested, memoryRows, runningRows, lineRows, roomRows, commitRows, scanRows, memoriesChecked, runningChecked}
+use Rattle.checks.specs.Refusals.{lineChecked, storeChecked, commitChecked, scanChecked}
 use Rattle.checks.specs.Contracts.{Shaped, Running}
 
 -- rows in two parts
@@ -46,6 +48,15 @@ passed-view [] v w e = cc
 passed-view (x ∷ xs) v w e = go (x .holds) (passed-view xs v w) e
   where
     go : (t : Bool) → (Passed w ≡ tested xs v → w ≡ v) → Passed w ≡ cond t (Refused (x .refuses)) (tested xs v) → w ≡ v
+    go true rest e = let z : _≡_ {A = ℕ} 0 1 = cc in absurd (omega arith)
+    go false rest e = rest e
+
+pub passed-part : (xs ys : List Row) (v w : View) → Passed w ≡ tested (xs ++ ys) v → Passed w ≡ tested xs v
+passed-part [] ys v w e = ap Passed (passed-view ys v w e)
+passed-part (x ∷ xs) ys v w e = go (x .holds) (passed-part xs ys v w) e
+  where
+    go : (t : Bool) → (Passed w ≡ tested (xs ++ ys) v → Passed w ≡ tested xs v) → Passed w ≡ cond t (Refused (x .refuses)) (tested (xs ++ ys) v)
+        → Passed w ≡ cond t (Refused (x .refuses)) (tested xs v)
     go true rest e = let z : _≡_ {A = ℕ} 0 1 = cc in absurd (omega arith)
     go false rest e = rest e
 
@@ -145,3 +156,67 @@ module _ (board work : List ℕ) (r : Registers) (address : ℕ) (v : View) (e :
 
   pub line-proper : properFor (boundsOf v r) work address ≡ true
   line-proper = rw line-view (not-false _ (rows .1 .1 .1 .1 .0))
+
+-- 8
+module _ (board work : List ℕ) (r : Registers) (address : ℕ) (v : View) (e : Passed v ≡ storeChecked board work r address) where
+  abbrev lower : List Row
+  lower = runningRows board work r ++ lineRows (viewOf board work) work r address
+
+  pub store-line : Passed v ≡ lineChecked board work r address
+  unfolding storeChecked lineChecked
+  store-line = passed-part lower (roomRows (viewOf board work) work r address) (viewOf board work) v e
+
+  store-view : v ≡ viewOf board work
+  unfolding storeChecked
+  store-view = passed-view (lower ++ roomRows (viewOf board work) work r address) (viewOf board work) v e
+
+  pub store-room : undoDue work (spotOf work (v .slots) address) (r .epoch) ≡ true → v .control .length + r .buffered + 1 ≤ v .shape .entries
+  unfolding storeChecked lineChecked
+  store-room due =
+      let w = viewOf board work in
+      let n = passed-rows (roomRows w work r address) w v (e ∙ passed-first lower (roomRows w work r address) w v store-line) in
+      rw store-view (fits (undoDue work (spotOf work (w .slots) address) (r .epoch)) (rw store-view at due) (n .0))
+    where
+      fits : (t : Bool) → t ≡ true
+          → t && ltb (viewOf board work .shape .entries) (viewOf board work .control .length + r .buffered + 1) ≡ false
+          → viewOf board work .control .length + r .buffered + 1 ≤ viewOf board work .shape .entries
+      fits true h x = ltb-false _ _ x
+      fits false h x = absurd (false≢true h)
+
+-- commit
+module _ (board work : List ℕ) (r : Registers) (v : View) (e : Passed v ≡ commitChecked board work r) where
+  pub commit-running : Running board work r v
+  unfolding commitChecked runningChecked
+  commit-running = running board work r v (passed-part (runningRows board work r) (commitRows (viewOf board work) work r) (viewOf board work) v e)
+
+-- scan
+module _ (board work : List ℕ) (r : Registers) (v : View) (e : Passed v ≡ scanChecked board work r) where
+  scan-first-rows : Passed v ≡ runningChecked board work r
+  unfolding scanChecked runningChecked
+  scan-first-rows = passed-part (runningRows board work r) (scanRows (viewOf board work) work r) (viewOf board work) v e
+
+  pub scan-running : Running board work r v
+  scan-running = running board work r v scan-first-rows
+
+  scan-view : v ≡ viewOf board work
+  scan-view = running-view board work r v scan-first-rows
+
+  scan-later-rows : NoneHolds (scanRows (viewOf board work) work r)
+  unfolding scanChecked runningChecked
+  scan-later-rows =
+      passed-rows (scanRows (viewOf board work) work r) (viewOf board work) v
+      (e ∙ passed-first (runningRows board work r) (scanRows (viewOf board work) work r) (viewOf board work) v scan-first-rows)
+
+  pub scan-proper : r .cursor < v .slots → properAt (boundsOf v r) work (r .cursor) ≡ true
+  scan-proper h =
+      let w = viewOf board work in
+      let g : r .cursor < w .slots = rw scan-view at h in
+      rw scan-view (proper (properAt (boundsOf w r) work (r .cursor)) (rw (lt-ltb (r .cursor) (w .slots) g) at (scan-later-rows .0)))
+    where
+      proper : (t : Bool) → not t ≡ false → t ≡ true
+      proper t x = not-false t x
+
+  pub scan-waiting : v .control .persisted + 1 < r .epoch
+  scan-waiting =
+      let n : r .epoch ≡ v .control .persisted + 1 → ⊥ = rw scan-view (eqb-false _ _ (scan-later-rows .1 .1 .0)) in
+      omega (arith, scan-running .ahead)

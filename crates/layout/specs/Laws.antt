@@ -21,7 +21,7 @@ use Rattle.layout.specs.Fields.{width, pack, unpack, Fit, pack-below, un
 use Rattle.layout.specs.Words.{bit, controlWidths, controlFields, controlOf, encodeControl, decodeControl, ControlFits}
 use Rattle.layout.specs.Words.{shapeWidths, shapeFields, shapeOf, encodeShape, decodeShape, ShapeFits}
 use Rattle.layout.specs.Words.{entryWidths, entryFields, entryOf, encodeEntry, decodeEntry, EntryFits}
-use Rattle.layout.specs.Words.{slotWidths, slotFields, slotOf, encodeSlot, decodeSlot, SlotFits}
+use Rattle.layout.specs.Words.{slotWidths, slotFields, slotOf, emptySlot, encodeSlot, decodeSlot, SlotFits}
 
 -- a word of 64 bits, unpacked and packed again
 again : (ws : List ℕ) (w : ℕ) → w < 2 ^ width ws → pack ws (unpack ws w) ≡ w
@@ -139,3 +139,8 @@ decoded-fits-slot w = omega arith
 pub encode-below-slot : (x : Slot) → SlotFits x → encodeSlot x < 2 ^ wordBits
 unfolding encodeSlot width
 encode-below-slot x h = pack-below slotWidths (slotFields x) (slot-fit x h)
+
+-- "A proper slot word is zero, or .."
+pub decode-zero-slot : decodeSlot 0 ≡ emptySlot
+unfolding decodeSlot unpack width
+decode-zero-slot = refl

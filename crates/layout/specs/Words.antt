@@ -115,3 +115,6 @@ pub record SlotFits (s : Slot) : Type 0 where
   pub address : s .address < 2 ^ addressBits
   pub tag : s .tag < 2 ^ epochBits
   pub spare : s .spare < 2 ^ spareBits
+
+abbrev pub emptySlot : Slot
+emptySlot = record { valid = false; dirty = false; address = 0; tag = 0; spare = 0 }

@@ -179,7 +179,8 @@ const SLOT_DIRTY: u64 = SLOT_ADDRESS * ADDRESSES;
 
 const SLOT_VALID: u64 = SLOT_DIRTY * FLAGS;
 
-fn bit(flag: bool) -> u64
+// A flag as a field of one bit has it.
+pub fn bit(flag: bool) -> u64
     ensures { λ r. ⌜ IsBit flag r ⌝ }
 {
     flag as u64

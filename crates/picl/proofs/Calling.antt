@@ -1,0 +1,211 @@
+-- The calls: one law for each way out of a function.
+use Prim.Native.Nat.{ℕ, _+_, _*_, _<_, _≤_}
+use mathlib.Core.Path.{_≡_, refl, sym, ap, _∙_}
+use mathlib.Core.Bool.{Bool, true, false, not}
+use mathlib.Core.List.{List}
+use borrow.Author.Tests.{lt-ltb, le-ltb}
+use lib.ListN.{length, getD}
+use Rattle.board.specs.declared.Meter.{Meter}
+use Rattle.board.specs.Stores.{full}
+use Rattle.layout.specs.Limits.{lastEpoch}
+use Rattle.layout.specs.Memory.{dataIn}
+use Rattle.layout.specs.Words.{bit, IsBit}
+use Rattle.status.specs.declared.Status.{Status}
+use Rattle.status.specs.declared.Status.the-variants as status
+use Rattle.undo.specs.declared.Undo.{Undo}
+use Rattle.undo.specs.declared.Progress.{Progress}
+use Rattle.cache.specs.declared.Spot.{Spot}
+use Rattle.cache.specs.Effects.{loading, storing, evicting, visiting, persisting}
+use Rattle.cache.specs.Contracts.{Acts, Carries}
+use Rattle.cache.specs.Slots.{spotOf}
+use Rattle.checks.specs.declared.Checked.{Checked}
+use Rattle.checks.specs.declared.Checked.the-variants.{Refused, Passed}
+use Rattle.checks.specs.declared.Registers.{Registers}
+use Rattle.checks.specs.declared.View.{View}
+use Rattle.checks.specs.Laws.{line-running, line-named, line-proper, store-line, store-room, commit-running}
+use Rattle.checks.specs.Laws.{scan-running, scan-proper, scan-waiting}
+use Rattle.checks.specs.Refusals.{lineChecked, storeChecked, commitChecked, scanChecked}
+use Rattle.checks.specs.Registers.{buffering, committed, stepped, restarted}
+use Rattle.checks.specs.View.{undoOf}
+use Rattle.picl.specs.declared.Answer.{Answer}
+use Rattle.picl.specs.Answers.{due, refusal}
+use Rattle.picl.specs.Calls.{loadAt, loadOutcome, loadVerdict, storeAt, storeOutcome, storeVerdict, evictAt, evictOutcome, evictVerdict}
+use Rattle.picl.specs.Calls.{carried, commitOutcome, commitVerdict, scanOutcome, scanVerdict}
+use Rattle.picl.specs.Contracts.{Answers, Finishes, LinePassed, StorePassed, ScanPassed}
+use Rattle.picl.proofs.Finishing.{answers-refused, answers-nothing, acted, carries-answers}
+
+-- load
+pub load-done : (allowance : ℕ) (board work : List ℕ) (r : Registers) (u : Undo) (address : ℕ) (spot : Spot) (m : Meter) (p : Progress)
+    (board′ work′ work″ : List ℕ) (after : Registers) (a : Answer) → m ≡ full allowance
+    → Carries board m (loading board u work address spot) board′ work′ p → length work′ ≡ length work → after ≡ buffering r (p .undo .buffered)
+    → Finishes work′ (p .meter) allowance (getD work′ (2 * spot .slot + 1) 0) after work″ a
+    → Answers allowance r board work (due (loadAt board work r u address spot)) board′ work″ a
+unfolding loadAt
+load-done allowance board work r u address spot m p board′ work′ work″ after a new c l q f =
+    let e = loading board u work address spot in
+    carries-answers allowance r board work e m p board′ work′ work″ (dataIn (e .work) (spot .slot)) r after
+    (getD work′ (2 * spot .slot + 1) 0) a new c l (λ x. ap (λ (w : List ℕ). getD w (2 * spot .slot + 1) 0) x) q f
+
+pub load-found : (allowance : ℕ) (board work : List ℕ) (r : Registers) (address : ℕ) (v : View) (spot : Spot) (u : Undo) (board′ work′ : List ℕ)
+    (a : Answer) → spot ≡ spotOf work (v .slots) address → u ≡ undoOf v r
+    → Answers allowance r board work (due (loadAt board work r u address spot)) board′ work′ a
+    → Answers allowance r board work (due (loadOutcome board work r address v)) board′ work′ a
+unfolding loadOutcome
+load-found allowance board work r address v spot u board′ work′ a at is x = rw (at, is) at x
+
+-- the checks of load and evict
+module _ (board work : List ℕ) (r : Registers) (address : ℕ) (k : Checked) (is : k ≡ lineChecked board work r address) where
+  pub line-passed : (v : View) → k ≡ Passed v → LinePassed board work r address v
+  line-passed v e =
+      let p = sym e ∙ is in
+      record {
+        running = line-running board work r address v p;
+        named = line-named board work r address v p;
+        slot = line-proper board work r address v p;
+      }
+
+  module _ (allowance : ℕ) where
+    pub load-refused : (s : Status) (a : Answer) → k ≡ Refused s → a ≡ refusal s 0 r
+        → Answers allowance r board work (loadVerdict board work r address) board work a
+    unfolding loadVerdict
+    load-refused s a e x = rw (← is, e) (answers-refused allowance r board work s 0 a x)
+
+    pub load-answered : (v : View) (board′ work′ : List ℕ) (a : Answer) → k ≡ Passed v
+        → Answers allowance r board work (due (loadOutcome board work r address v)) board′ work′ a
+        → Answers allowance r board work (loadVerdict board work r address) board′ work′ a
+    unfolding loadVerdict
+    load-answered v board′ work′ a e x = rw (← is, e) x
+
+    pub evict-refused : (s : Status) (a : Answer) → k ≡ Refused s → a ≡ refusal s 0 r
+        → Answers allowance r board work (evictVerdict board work r address) board work a
+    unfolding evictVerdict
+    evict-refused s a e x = rw (← is, e) (answers-refused allowance r board work s 0 a x)
+
+    pub evict-answered : (v : View) (board′ work′ : List ℕ) (a : Answer) → k ≡ Passed v
+        → Answers allowance r board work (due (evictOutcome work r address v)) board′ work′ a
+        → Answers allowance r board work (evictVerdict board work r address) board′ work′ a
+    unfolding evictVerdict
+    evict-answered v board′ work′ a e x = rw (← is, e) x
+
+-- evict
+pub evict-done : (allowance : ℕ) (board work : List ℕ) (r : Registers) (u : Undo) (spot : Spot) (m : Meter) (p : Progress)
+    (board′ work′ work″ : List ℕ) (after : Registers) (held : ℕ) (a : Answer) → m ≡ full allowance
+    → Acts board m (evicting u work spot) board′ work′ p → length work′ ≡ length work → after ≡ buffering r (p .undo .buffered)
+    → IsBit (spot .held) held → Finishes work′ (p .meter) allowance held after work″ a
+    → Answers allowance r board work (due (evictAt work r u spot)) board′ work″ a
+unfolding evictAt
+evict-done allowance board work r u spot m p board′ work′ work″ after held a new c l q b f =
+    carries-answers allowance r board work (evicting u work spot) m p board′ work′ work″ (bit (spot .held)) r after held a new (acted c) l
+    (λ x. b .is) q f
+
+pub evict-found : (allowance : ℕ) (board work : List ℕ) (r : Registers) (address : ℕ) (v : View) (spot : Spot) (u : Undo) (board′ work′ : List ℕ)
+    (a : Answer) → spot ≡ spotOf work (v .slots) address → u ≡ undoOf v r
+    → Answers allowance r board work (due (evictAt work r u spot)) board′ work′ a
+    → Answers allowance r board work (due (evictOutcome work r address v)) board′ work′ a
+unfolding evictOutcome
+evict-found allowance board work r address v spot u board′ work′ a at is x = rw (at, is) at x
+
+-- store
+pub store-done : (allowance : ℕ) (board work : List ℕ) (r : Registers) (u : Undo) (address : ℕ) (spot : Spot) (value : ℕ) (m : Meter) (p : Progress)
+    (board′ work′ work″ : List ℕ) (after : Registers) (a : Answer) → m ≡ full allowance
+    → Carries board m (storing board u work address spot (r .epoch) value) board′ work′ p → length work′ ≡ length work
+    → after ≡ buffering r (p .undo .buffered) → Finishes work′ (p .meter) allowance 0 after work″ a
+    → Answers allowance r board work (due (storeAt board work r u address spot value)) board′ work″ a
+unfolding storeAt
+store-done allowance board work r u address spot value m p board′ work′ work″ after a new c l q f =
+    carries-answers allowance r board work (storing board u work address spot (r .epoch) value) m p board′ work′ work″ 0 r after 0 a new c l
+    (λ x. refl) q f
+
+pub store-found : (allowance : ℕ) (board work : List ℕ) (r : Registers) (address value : ℕ) (v : View) (spot : Spot) (u : Undo)
+    (board′ work′ : List ℕ) (a : Answer) → spot ≡ spotOf work (v .slots) address → u ≡ undoOf v r
+    → Answers allowance r board work (due (storeAt board work r u address spot value)) board′ work′ a
+    → Answers allowance r board work (due (storeOutcome board work r address value v)) board′ work′ a
+unfolding storeOutcome
+store-found allowance board work r address value v spot u board′ work′ a at is x = rw (at, is) at x
+
+module _ (board work : List ℕ) (r : Registers) (address : ℕ) (k : Checked) (is : k ≡ storeChecked board work r address) where
+  pub store-passed : (v : View) → k ≡ Passed v → StorePassed board work r address v
+  store-passed v e =
+      let p = sym e ∙ is in
+      record {
+        line = line-passed board work r address (Passed v) (store-line board work r address v p) v refl;
+        room = store-room board work r address v p;
+      }
+
+  module _ (allowance value : ℕ) where
+    pub store-refused : (s : Status) (a : Answer) → k ≡ Refused s → a ≡ refusal s 0 r
+        → Answers allowance r board work (storeVerdict board work r address value) board work a
+    unfolding storeVerdict
+    store-refused s a e x = rw (← is, e) (answers-refused allowance r board work s 0 a x)
+
+    pub store-answered : (v : View) (board′ work′ : List ℕ) (a : Answer) → k ≡ Passed v
+        → Answers allowance r board work (due (storeOutcome board work r address value v)) board′ work′ a
+        → Answers allowance r board work (storeVerdict board work r address value) board′ work′ a
+    unfolding storeVerdict
+    store-answered v board′ work′ a e x = rw (← is, e) x
+
+-- commit
+module _ (allowance : ℕ) (board work : List ℕ) (r : Registers) (k : Checked) (is : k ≡ commitChecked board work r) where
+  pub commit-within : (v : View) → k ≡ Passed v → r .epoch ≤ lastEpoch
+  commit-within v e = commit-running board work r v (sym e ∙ is) .epoch-most
+
+  pub commit-refused : (s : Status) (a : Answer) → k ≡ Refused s → a ≡ refusal s 0 r
+      → Answers allowance r board work (commitVerdict board work r) board work a
+  unfolding commitVerdict
+  commit-refused s a e x = rw (← is, e) (answers-refused allowance r board work s 0 a x)
+
+  pub commit-answered : (v : View) (a : Answer) → k ≡ Passed v → a ≡ refusal status.Ok 0 (committed r)
+      → Answers allowance r board work (commitVerdict board work r) board work a
+  unfolding commitVerdict commitOutcome
+  commit-answered v a e x = rw (← is, e) (answers-nothing allowance r board work (committed r) a x)
+
+-- scan
+module _ (allowance : ℕ) (board work : List ℕ) (r next after : Registers) (u : Undo) (target : ℕ) (m : Meter) (p : Progress)
+    (board′ work′ work″ : List ℕ) (a : Answer) (new : m ≡ full allowance) (same : length work′ ≡ length work)
+    (counts : after ≡ buffering next (p .undo .buffered)) where
+  pub visit-done : (k : ℕ) → Acts board m (visiting u work k target) board′ work′ p → Finishes work′ (p .meter) allowance 0 after work″ a
+      → Answers allowance r board work (due (carried 0 next (visiting u work k target))) board′ work″ a
+  visit-done k c f =
+      carries-answers allowance r board work (visiting u work k target) m p board′ work′ work″ 0 next after 0 a new (acted c) same (λ x. refl) counts f
+
+  pub persist-done : Carries board m (persisting board u work target) board′ work′ p → Finishes work′ (p .meter) allowance target after work″ a
+      → Answers allowance r board work (due (carried target next (persisting board u work target))) board′ work″ a
+  persist-done c f =
+      carries-answers allowance r board work (persisting board u work target) m p board′ work′ work″ target next after target a new c same
+      (λ x. refl) counts f
+
+module _ (allowance : ℕ) (board work : List ℕ) (r next : Registers) (v : View) (u : Undo) (board′ work′ : List ℕ) (a : Answer)
+    (is : u ≡ undoOf v r) where
+  pub scan-visits : r .cursor < v .slots → next ≡ stepped r
+      → Answers allowance r board work (due (carried 0 next (visiting u work (r .cursor) (v .control .persisted + 1)))) board′ work′ a
+      → Answers allowance r board work (due (scanOutcome board work r v)) board′ work′ a
+  unfolding scanOutcome
+  scan-visits h n x = rw (lt-ltb (r .cursor) (v .slots) h) (rw (n, is) at x)
+
+  pub scan-persists : v .slots ≤ r .cursor → next ≡ restarted r
+      → Answers allowance r board work (due (carried (v .control .persisted + 1) next (persisting board u work (v .control .persisted + 1)))) board′ work′ a
+      → Answers allowance r board work (due (scanOutcome board work r v)) board′ work′ a
+  unfolding scanOutcome
+  scan-persists h n x = rw (le-ltb (r .cursor) (v .slots) h) (rw (n, is) at x)
+
+module _ (board work : List ℕ) (r : Registers) (k : Checked) (is : k ≡ scanChecked board work r) where
+  pub scan-passed : (v : View) → k ≡ Passed v → ScanPassed board work r v
+  scan-passed v e =
+      let p = sym e ∙ is in
+      record {
+        running = scan-running board work r v p;
+        slot = scan-proper board work r v p;
+        waiting = scan-waiting board work r v p;
+      }
+
+  module _ (allowance : ℕ) where
+    pub scan-refused : (s : Status) (a : Answer) → k ≡ Refused s → a ≡ refusal s 0 r
+        → Answers allowance r board work (scanVerdict board work r) board work a
+    unfolding scanVerdict
+    scan-refused s a e x = rw (← is, e) (answers-refused allowance r board work s 0 a x)
+
+    pub scan-answered : (v : View) (board′ work′ : List ℕ) (a : Answer) → k ≡ Passed v
+        → Answers allowance r board work (due (scanOutcome board work r v)) board′ work′ a
+        → Answers allowance r board work (scanVerdict board work r) board′ work′ a
+    unfolding scanVerdict
+    scan-answered v board′ work′ a e x = rw (← is, e) x

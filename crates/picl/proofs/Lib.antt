@@ -1,0 +1,3 @@
+pub mod Finishing
+pub mod Passing
+pub mod Calling

@@ -1,0 +1,75 @@
+-- What a call's passed tests give its steps.
+use Prim.Native.Nat.{ℕ, _+_, _*_, _<_, _≤_}
+use mathlib.Core.Path.{_≡_, refl, sym, ap, _∙_}
+use mathlib.Core.Bool.{true, false}
+use mathlib.Core.List.{List}
+use native.Mathlib.Omega.{arith}
+use lib.ListN.{length}
+use Rattle.layout.specs.Memory.{slotIn}
+use Rattle.undo.specs.declared.Undo.{Undo}
+use Rattle.undo.specs.Log.{Sound}
+use Rattle.cache.specs.declared.Spot.{Spot}
+use Rattle.cache.specs.Contracts.{Ready, SlotReady, FillReady, StoreReady, PersistReady}
+use Rattle.cache.specs.Laws.{spot-below, spot-named, proper-named}
+use Rattle.cache.specs.Slots.{spotOf}
+use Rattle.checks.specs.declared.Registers.{Registers}
+use Rattle.checks.specs.declared.View.{View}
+use Rattle.checks.specs.Contracts.{Running}
+use Rattle.checks.specs.View.{boundsOf, undoOf}
+use Rattle.picl.specs.Contracts.{LinePassed, StorePassed, ScanPassed}
+
+ready-of : (board work : List ℕ) (r : Registers) (v : View) → Running board work r v → Ready board work (undoOf v r)
+ready-of board work r v h =
+    record {
+      sound = omega (arith, h, h .shaped);
+      board-words = omega (arith, h .shaped .board-words);
+      work-words = omega (arith, h .shaped .work-words);
+    }
+
+module _ (board work : List ℕ) (r : Registers) (address : ℕ) (v : View) (spot : Spot) (u : Undo) (at : spot ≡ spotOf work (v .slots) address)
+    (is : u ≡ undoOf v r) where
+  pub fill-ready : LinePassed board work r address v → FillReady board work u (spot .slot) address
+  fill-ready p =
+      rw (is, at)
+      record {
+        slot =
+            record {
+              ready = ready-of board work r v (p .running);
+              within = omega (arith, p .running .shaped .work-words, spot-below work (v .slots) address (p .running .shaped .slots-some));
+              named =
+                  omega (
+                    arith,
+                    p .running .shaped .board-words,
+                    spot-named (boundsOf v r) work address (p .running .shaped .lines-some) (p .slot),
+                  );
+            };
+        named = omega (arith, p .running .shaped .board-words, p .named);
+        fits = omega (arith, p .running .shaped .lines-most, p .named);
+      }
+
+  pub store-ready : StorePassed board work r address v → StoreReady board work u address spot (r .epoch)
+  store-ready p =
+      record {
+        fill = fill-ready (p .line);
+        epoch-fits = omega (arith, p .line .running .epoch-most);
+        place = rw is (p .line .running .buffered);
+        room = λ d. rw is (p .room (rw at at d));
+      }
+
+  pub evict-ready : LinePassed board work r address v → SlotReady board work u (spot .slot)
+  evict-ready p = fill-ready p .slot
+
+module _ (board work : List ℕ) (r : Registers) (v : View) (u : Undo) (is : u ≡ undoOf v r) where
+  pub visit-ready : ScanPassed board work r v → r .cursor < v .slots → SlotReady board work u (r .cursor)
+  visit-ready p h =
+      let run = p .running in
+      rw is record {
+        ready = ready-of board work r v run;
+        within = omega (arith, run .shaped .work-words);
+        named =
+            omega
+            (arith, run .shaped .board-words, proper-named (boundsOf v r) work (r .cursor) (run .shaped .lines-some) (p .slot h));
+      }
+
+  pub persist-ready : ScanPassed board work r v → PersistReady board work u (v .control .persisted + 1)
+  persist-ready p = rw is record { ready = ready-of board work r v (p .running); fits = omega (arith, p .waiting, p .running .epoch-most) }
