@@ -150,7 +150,8 @@ pub struct View {
     pub slots: usize,
 }
 
-fn slots_of(words: usize) -> usize
+// The number of slots of a work memory of so many words.
+pub fn slots_of(words: usize) -> usize
     ensures { λ r. ⌜ r ≡ slotsOf words ⌝ }
 {
     if words < BUFFER_WORDS {
@@ -217,7 +218,8 @@ impl View {
     }
 }
 
-fn is_good_work(words: usize) -> bool
+// 2.
+pub fn is_good_work(words: usize) -> bool
     ensures { λ r. ⌜ r ≡ goodWork words ⌝ }
 {
     let slots = slots_of(words);

@@ -51,7 +51,7 @@ answers-nothing allowance given board work r a e =
     }
 
 -- a call that goes through
-answers-due : (allowance : ℕ) (given : Registers) (board work : List ℕ) (o : Outcome) (m : Meter) (board′ work′ work″ : List ℕ) (value : ℕ)
+pub answers-due : (allowance : ℕ) (given : Registers) (board work : List ℕ) (o : Outcome) (m : Meter) (board′ work′ work″ : List ℕ) (value : ℕ)
     (r : Registers) (a : Answer) → Ran board (full allowance) (o .stores) board′ m → length work′ ≡ length work
     → (length (o .stores) ≤ allowance → work′ ≡ o .work) → (length (o .stores) ≤ allowance → value ≡ o .value)
     → (length (o .stores) ≤ allowance → r ≡ o .registers) → Finishes work′ m allowance value r work″ a

@@ -89,20 +89,21 @@ scanVerdict board work r = judged (scanChecked board work r) (scanOutcome board 
 
 -- "Power-up: from the newest log entry to the oldest, each entry with ValidFrom ≤ P < ValidTill has its data stored to its line.
 -- Then the control word .. Then work memory all zero, s = P + 1, b = 0, c = 0."
-unfoldable pub wakeOutcome : (board work : List ℕ) → View → Outcome
-wakeOutcome board work v =
+unfoldable pub wakeAt : (board work : List ℕ) → Undo → Outcome
+wakeAt board work u =
     record {
       value = 0;
-      registers = registers.woken (v .control .persisted);
+      registers = registers.woken (u .control .persisted);
       work = replicate (length work) 0;
-      stores = recoverStores board (undoOf v registers.zero);
+      stores = recoverStores board u;
     }
 
 -- "3 entry: a log entry is not proper; value is i of the first, oldest counted 0"
 unfoldable pub wakeVerdict : (board work : List ℕ) → View → Verdict
 wakeVerdict board work v =
-    let i = firstImproper board (undoOf v registers.zero) (v .shape .lines) in
-    cond (ltb i (v .control .length)) (refused status.Entry i) (due (wakeOutcome board work v))
+    let u = undoOf v registers.zero in
+    let i = firstImproper board u (v .shape .lines) in
+    cond (ltb i (v .control .length)) (refused status.Entry i) (due (wakeAt board work u))
 
 abbrev pub woken : (board work : List ℕ) → Checked → Verdict
 woken board work (Refused why) = refused why 0

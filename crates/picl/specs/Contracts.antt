@@ -1,16 +1,17 @@
 -- What the calls promise, on every input.
 use Prim.Native.Nat.{ℕ, _+_, _-_, _<_, _≤_}
 use mathlib.Core.Path.{_≡_}
-use mathlib.Core.Bool.{true, cond}
+use mathlib.Core.Bool.{true, cond, _&&_}
 use mathlib.Core.List.{List}
 use lib.ListN.{length, replicate}
 use Rattle.board.specs.declared.Meter.{Meter}
-use Rattle.layout.specs.Words.{ControlFits}
+use Rattle.layout.specs.Memory.{slotIn}
+use Rattle.layout.specs.Words.{bit}
 use Rattle.status.specs.declared.Status.the-variants as status
 use Rattle.cache.specs.Slots.{properAt, properFor, spotOf}
 use Rattle.cache.specs.Effects.{undoDue}
 use Rattle.checks.specs.declared.View.{View}
-use Rattle.checks.specs.Contracts.{Shaped, Running}
+use Rattle.checks.specs.Contracts.{Running}
 use Rattle.checks.specs.View.{boundsOf}
 use Rattle.checks.specs.declared.Registers.{Registers}
 use Rattle.picl.specs.declared.Answer.{Answer}
@@ -48,6 +49,6 @@ pub record ScanPassed (board work : List ℕ) (r : Registers) (v : View) : Type 
   pub slot : r .cursor < v .slots → properAt (boundsOf v r) work (r .cursor) ≡ true
   pub waiting : v .control .persisted + 1 < r .epoch
 
-pub record WakePassed (board work : List ℕ) (v : View) : Type 0 where
-  pub shaped : Shaped board work v
-  pub fits : ControlFits (v .control)
+pub record CountsDirty (work : List ℕ) (k r : ℕ) : Type 0 where
+  pub is : r ≡ bit (slotIn work k .valid && slotIn work k .dirty)
+  pub most : r ≤ 1

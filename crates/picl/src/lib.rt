@@ -1,20 +1,20 @@
 // The PiCL cache log: format, power-up, load, store, evict, commit, scan and tally over two lent memories, the board's and the
 // work memory. Every call answers every input.
-ghost use Prim.Native.Nat.{_≤_};
+ghost use Prim.Native.Nat.{_+_, _*_, _<_, _≤_};
 ghost use lib.ListN.{length};
 ghost use mathlib.Core.Path.{_≡_};
-ghost use Rattle.layout.specs.Memory.{slotsOf};
 ghost use Rattle.cache.specs.Contracts.{FillReady, SlotReady, StoreReady, PersistReady};
 ghost use Rattle.cache.specs.Effects.{visiting, persisting};
-ghost use Rattle.checks.specs.Registers.{committed};
+ghost use Rattle.checks.specs.Registers.{zero, committed};
+ghost use Rattle.checks.specs.Contracts.{Shaped};
 ghost use Rattle.layout.specs.Limits.{lastEpoch};
 ghost use Rattle.status.specs.declared.Status.the-variants as status;
-ghost use Rattle.checks.specs.View.{undoOf};
+ghost use Rattle.undo.specs.Contracts.{RecoverReady};
 ghost use Rattle.picl.specs.Answers.{due, refusal as refused};
 ghost use Rattle.picl.specs.Calls.{loadAt, storeAt, evictAt, loadOutcome, storeOutcome, evictOutcome, scanOutcome, carried};
 ghost use Rattle.picl.specs.Calls.{loadVerdict, storeVerdict, evictVerdict, commitVerdict, scanVerdict, wakeVerdict};
-ghost use Rattle.picl.specs.Calls.{powerUpVerdict, goodFormat, dirtySlots, tallyReport};
-ghost use Rattle.picl.specs.Contracts.{Answers, Formats, Finishes, LinePassed, StorePassed, ScanPassed, WakePassed};
+ghost use Rattle.picl.specs.Calls.{wakeAt, powerUpVerdict, goodFormat, report as reported, dirtySlots, tallyReport};
+ghost use Rattle.picl.specs.Contracts.{Answers, Formats, Finishes, LinePassed, StorePassed, ScanPassed, CountsDirty};
 use board::Meter;
 use cache::Spot;
 use checks::Checked;
@@ -389,4 +389,123 @@ pub fn scan(board: &mut [u64], work: &mut [u64], registers: Registers, allowance
         Checked::Refused(status) => refusal(status, 0, registers),
         Checked::Passed(view) => scan_passed(board, work, registers, view, allowance),
     }
+}
+
+fn wake(board: &mut [u64], work: &mut [u64], undo: Undo, lines: u64, allowance: u32) -> Answer
+    requires { ⌜ RecoverReady (now board) undo lines ⌝ }
+    requires { ⌜ undo .control .persisted < lastEpoch ⌝ }
+    ensures { λ r. ⌜ Answers allowance zero (now (board .entry)) (now (work .entry)) (due (wakeAt (now (board .entry)) (now (work .entry)) undo)) (now (board .exit)) (now (work .exit)) r ⌝ }
+{
+    let meter = undo::recover(board, undo, lines, Meter::new(allowance));
+    base::clear(work);
+    finish(
+        work,
+        meter,
+        allowance,
+        0,
+        Registers::woken(undo.control.persisted),
+    )
+}
+
+fn wake_passed(board: &mut [u64], work: &mut [u64], view: View, allowance: u32) -> Answer
+    requires { ⌜ Shaped (now board) (now work) view ⌝ }
+    ensures { λ r. ⌜ Answers allowance zero (now (board .entry)) (now (work .entry)) (wakeVerdict (now (board .entry)) (now (work .entry)) view) (now (board .exit)) (now (work .exit)) r ⌝ }
+{
+    let undo = view.undo(Registers::zero());
+    let found = undo::first_improper(board, undo, view.shape.lines);
+    if found < view.control.length {
+        return refusal(Status::Entry, found, Registers::zero());
+    }
+    wake(board, work, undo, view.shape.lines, allowance)
+}
+
+// The board as of its persisted epoch, and a controller that starts from there.
+pub fn power_up(board: &mut [u64], work: &mut [u64], allowance: u32) -> Answer
+    ensures { λ r. ⌜ Answers allowance zero (now (board .entry)) (now (work .entry)) (powerUpVerdict (now (board .entry)) (now (work .entry))) (now (board .exit)) (now (work .exit)) r ⌝ }
+{
+    let checked = checks::check_memories(board, work);
+    match checked {
+        Checked::Refused(status) => refusal(status, 0, Registers::zero()),
+        Checked::Passed(view) => wake_passed(board, work, view, allowance),
+    }
+}
+
+fn is_good_format(words: usize, lines: u64, entries: u64) -> bool
+    ensures { λ r. ⌜ r ≡ goodFormat words lines entries ⌝ }
+{
+    if lines < 1 {
+        return false;
+    }
+    if lines > MOST_LINES {
+        return false;
+    }
+    if entries < 1 {
+        return false;
+    }
+    if entries > MOST_ENTRIES {
+        return false;
+    }
+    words as u64 == LOG_AT as u64 + 2 * entries + lines
+}
+
+fn reporting(status: Status, value: u64) -> Report
+    ensures { λ r. ⌜ r ≡ reported status value ⌝ }
+{
+    Report {
+        status,
+        value,
+        stores: 0,
+    }
+}
+
+// A board of so many lines, all zero, with an empty log. It is not protected against a cut.
+pub fn format(board: &mut [u64], lines: u64, entries: u64) -> Report
+    ensures { λ r. ⌜ Formats (now (board .entry)) lines entries (now (board .exit)) r ⌝ }
+{
+    if !is_good_format(board.len(), lines, entries) {
+        return reporting(Status::Shape, 0);
+    }
+    base::clear(board);
+    let shape = Shape {
+        version: BOARD_VERSION,
+        lines,
+        entries,
+    };
+    board[SHAPE_AT] = shape.encode();
+    reporting(Status::Ok, 0)
+}
+
+fn dirty_at(work: &[u64], k: usize) -> u64
+    requires { ⌜ 2 * k + 2 ≤ length (now work) ⌝ }
+    ensures { λ r. ⌜ CountsDirty (now (work .entry)) k r ⌝ }
+{
+    let slot = cache::slot_at(work, k);
+    if !slot.valid {
+        return 0;
+    }
+    layout::bit(slot.dirty)
+}
+
+fn count_dirty(work: &[u64], slots: usize) -> u64
+    requires { ⌜ 2 * slots ≤ length (now work) ⌝ }
+    ensures { λ r. ⌜ r ≡ dirtySlots (now (work .entry)) slots ⌝ }
+{
+    let mut count: u64 = 0;
+    let mut k: usize = 0;
+    while k < slots {
+        count += dirty_at(work, k);
+        k += 1;
+    }
+    count
+}
+
+// The number of dirty lines that the cache holds.
+pub fn tally(work: &[u64]) -> Report
+    ensures { λ r. ⌜ r ≡ tallyReport (now (work .entry)) ⌝ }
+{
+    if !checks::is_good_work(work.len()) {
+        return reporting(Status::Work, 0);
+    }
+    let slots = checks::slots_of(work.len());
+    reporting(Status::Ok, count_dirty(work, slots))
 }

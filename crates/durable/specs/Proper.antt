@@ -1,0 +1,51 @@
+-- What power-up asks of the log it finds, from what the crash invariant says of it. Assumes nothing.
+use Prim.Native.Nat.{ℕ, zero, suc, _+_, _≤_, _<_}
+use mathlib.Core.Path.{_≡_, _∙_}
+use mathlib.Core.List.{List}
+use native.Mathlib.Nat.{zero-add}
+use native.Mathlib.Omega.{arith}
+use borrow.Author.Tests.{lt-ltb, le-leb}
+use Rattle.base.specs.Walk.{firstFrom}
+use Rattle.undo.specs.declared.Undo.{Undo}
+use Rattle.undo.specs.Entries.{properEntry}
+use Rattle.undo.specs.Log.{entryIn, olderTill, properAt, firstImproper}
+use Rattle.history.specs.Every.{Every, every-map}
+use Rattle.history.specs.Machine.{Entry, Durable}
+use Rattle.history.specs.Invariant.{ProperEntry, ProperLog}
+use Rattle.history.specs.Proper.{proper-every}
+use Rattle.durable.specs.Listed.{listed}
+use Rattle.durable.specs.View.{entryAt, logOf, Reads}
+use Rattle.durable.specs.Reads.{reads-persisted, reads-log}
+
+-- each entry names a line
+pub proper-named : (N W low high : ℕ) (log : List Entry) → ProperLog N W low high log → Every (λ x. x .address < N) log
+proper-named N W low high log p =
+    every-map (ProperEntry N W low high) (λ x. x .address < N) (λ x e. e .inside) log (proper-every N W low high log p)
+
+module _ (N W high : ℕ) (board : List ℕ) (u : Undo) where
+  -- from entry i on, where `low` bounds the tills of the older ones
+  proper-from : (low i n : ℕ) → u .control .persisted < low → olderTill board u i ≤ low
+      → ProperLog N W low high (listed (entryAt board u) i n) → firstFrom (properAt board u N) i n ≡ i + n
+  unfolding listed entryAt firstFrom properAt properEntry olderTill
+  proper-from low i zero late older p = omega arith
+  proper-from low i (suc n) late older p =
+      let e = entryIn board u i in
+      let h = p .0 in
+      rw (
+        lt-ltb (e .address) N (h .inside),
+        lt-ltb (e .from) (e .till) (h .nonempty),
+        lt-ltb (u .control .persisted) (e .till) (omega (arith, h .after)),
+        le-leb (olderTill board u i) (e .till) (omega (arith, h .after)),
+      )
+      (proper-from (e .till) (suc i) n (omega (arith, h .after)) (omega arith) (p .1) ∙ omega arith)
+
+  -- no entry is found improper
+  pub proper-passes : ProperLog N W (suc (u .control .persisted)) high (logOf board u) → firstImproper board u N ≡ u .control .length
+  unfolding firstImproper olderTill
+  proper-passes p =
+      proper-from (suc (u .control .persisted)) 0 (u .control .length) (omega arith) (omega arith) p ∙ zero-add (u .control .length)
+
+pub reads-passes : {N L : ℕ} {board : List ℕ} {d : Durable} (u : Undo) → Reads N L board (u .control) d → u .entries ≡ L
+    → (W high : ℕ) → ProperLog N W (suc (d .persisted)) high (d .log) → firstImproper board u N ≡ u .control .length
+reads-passes {N} {L} {board} u r same W high p =
+    proper-passes N W high board u (rw (reads-log u r same, reads-persisted r) p)

@@ -1,0 +1,85 @@
+-- The board's words as recovery reads them: the durable state of the abstract cache log, and the sizes that the words keep.
+-- `Reads` is what the laws of this crate are about: what a board reads as before and after a list of stores.
+use Prim.Native.Nat.{ℕ, _+_, _*_, _≤_, _<_}
+use mathlib.Core.Path.{_≡_}
+use mathlib.Core.List.{List}
+use lib.ListN.{length, getD}
+use Rattle.layout.specs.declared.Control.{Control}
+use Rattle.layout.specs.declared.Shape.{Shape}
+use Rattle.layout.specs.declared.Entry as packed
+use Rattle.layout.specs.Limits.{boardVersion, lastEpoch, mostLines, mostEntries}
+use Rattle.layout.specs.Memory.{linesAt, boardWords, controlIn, shapeIn}
+use Rattle.undo.specs.declared.Undo.{Undo}
+use Rattle.undo.specs.Log.{entryIn, oldIn, bufferedIn}
+use Rattle.history.specs.Machine.{Entry, Durable}
+use Rattle.durable.specs.Listed.{listed}
+
+-- ---- the undo log
+
+abbrev pub undoWith : Control → (entries : ℕ) → Undo
+undoWith c entries = record { control = c; entries = entries; buffered = 0 }
+
+-- the log's numbers, as a call that begins reads them
+abbrev pub undoIn : List ℕ → (entries : ℕ) → Undo
+undoIn board entries = undoWith (controlIn board) entries
+
+-- the two words of an entry: the packed one, and the old data
+abbrev pub entryWith : packed.Entry → (old : ℕ) → Entry
+entryWith e old = record { address = e .address; from = e .from; till = e .till; old = old }
+
+unfoldable pub entryAt : List ℕ → Undo → ℕ → Entry
+entryAt board u i = entryWith (entryIn board u i) (oldIn board u i)
+
+-- the log, oldest entry first
+abbrev pub logOf : List ℕ → Undo → List Entry
+logOf board u = listed (entryAt board u) 0 (u .control .length)
+
+unfoldable pub bufferedAt : List ℕ → ℕ → Entry
+bufferedAt buffer i = entryWith (bufferedIn buffer i) (getD buffer (2 * i + 1) 0)
+
+-- the first entries of the buffer
+abbrev pub bufferOf : List ℕ → (count : ℕ) → List Entry
+bufferOf buffer count = listed (bufferedAt buffer) 0 count
+
+-- ---- the board
+
+-- read under another control word than its own
+abbrev pub durableWith : Control → (entries : ℕ) → List ℕ → Durable
+durableWith c entries board =
+    record {
+      persisted = c .persisted;
+      log = logOf board (undoWith c entries);
+      memory = λ a. getD board (linesAt entries + a) 0;
+    }
+
+abbrev pub durableOf : (entries : ℕ) → List ℕ → Durable
+durableOf entries board = durableWith (controlIn board) entries board
+
+-- ---- the sizes
+
+abbrev pub shapeFor : (lines entries : ℕ) → Shape
+shapeFor lines entries = record { version = boardVersion; lines = lines; entries = entries }
+
+-- a control word that the test of the board lets pass: not "P = 2^24 − 1; start ≥ L; length > L"
+pub record Bounded (entries : ℕ) (c : Control) : Type 0 where
+  pub start : c .start < entries
+  pub length : c .length ≤ entries
+  pub persisted : c .persisted < lastEpoch
+
+-- a board that was formatted so and has only been stored to since
+pub record Sized (lines entries : ℕ) (board : List ℕ) : Type 0 where
+  pub some-lines : 0 < lines
+  pub most-lines : lines ≤ mostLines
+  pub some-entries : 0 < entries
+  pub most-entries : entries ≤ mostEntries
+  pub words : length board ≡ boardWords lines entries
+  pub shape : shapeIn board ≡ shapeFor lines entries
+  pub control : Bounded entries (controlIn board)
+
+-- ---- both
+
+-- The board reads as the control word c and the durable state d.
+pub record Reads (lines entries : ℕ) (board : List ℕ) (c : Control) (d : Durable) : Type 0 where
+  pub sized : Sized lines entries board
+  pub control : controlIn board ≡ c
+  pub durable : durableOf entries board ≡ d

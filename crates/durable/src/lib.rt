@@ -1,0 +1,1 @@
+// No code: the board's words as the abstract cache log reads them, in specs/.
