@@ -1,0 +1,141 @@
+-- The undo buffer as a list of entries, and the tests of it that calls make.
+use Prim.Native.Nat.{ℕ, zero, suc, _+_, _*_, _<_, _≤_}
+use mathlib.Core.Path.{_≡_, refl, _∙_}
+use mathlib.Core.Logic.{_≢_}
+use mathlib.Core.Bool.{Bool, true, false, cond}
+use mathlib.Core.List.{List, [], _∷_, _++_}
+use native.Mathlib.Numerals.{add-one}
+use native.Mathlib.Omega.{arith}
+use borrow.Author.Tests.{ltb-false, eqb-false, not-true, lt-ltb, le-leb}
+use lib.Dec.{eqb}
+use lib.ListN.{length, getD, set, length-set, length-drop, replicate, length-replicate}
+use lib.Seq.{getD-set-same, getD-set-other}
+use Rattle.base.specs.Walk.{first, first-all}
+use Rattle.layout.specs.declared.Entry as layout
+use Rattle.layout.specs.Laws.{decode-encode-entry}
+use Rattle.layout.specs.Limits.{bufferPlaces}
+use Rattle.layout.specs.Memory.{bufferWords, bufferIn}
+use Rattle.layout.specs.Words.{encodeEntry, EntryFits}
+use Rattle.undo.specs.declared.Undo.{Undo}
+use Rattle.undo.specs.Entries.{properBuffered}
+use Rattle.undo.specs.Log.{bufferedIn, bufferedProper, bufferProper, elsewhere, buffers, pushed, flushedBuffer}
+use Rattle.history.specs.Every.{Every, every-append, every-map}
+use Rattle.history.specs.Invariant.{ProperEntry}
+use Rattle.history.specs.Machine.{Entry, Silent}
+use Rattle.history.specs.Recall.{here-or-there, silent-away}
+use Rattle.volatile.specs.Every.{every-split}
+use Rattle.volatile.specs.Walk.{all-first}
+
+-- an entry's first word and its data
+abbrev pub withOld : layout.Entry → (old : ℕ) → Entry
+withOld e old = record { address = e .address; from = e .from; till = e .till; old = old }
+
+unfoldable pub bufferedAt : List ℕ → ℕ → Entry
+bufferedAt buffer i = withOld (bufferedIn buffer i) (getD buffer (2 * i + 1) 0)
+
+-- the first n entries, oldest first
+unfoldable pub bufferOf : List ℕ → ℕ → List Entry
+bufferOf buffer zero = []
+bufferOf buffer (suc n) = bufferOf buffer n ++ (bufferedAt buffer n ∷ [])
+
+pub buffer-none : (buffer : List ℕ) → bufferOf buffer 0 ≡ []
+unfolding bufferOf
+buffer-none buffer = refl
+
+-- ---- a claim about every entry
+
+module _ (Q : Entry → Type 0) (buffer : List ℕ) where
+  pub every-buffered : (n : ℕ) → ((i : ℕ) → i < n → Q (bufferedAt buffer i)) → Every Q (bufferOf buffer n)
+  unfolding bufferOf
+  every-buffered zero h = tt
+  every-buffered (suc n) h =
+      every-append Q (bufferOf buffer n) (bufferedAt buffer n ∷ [])
+      (every-buffered n (λ i below. h i (omega arith))) (h n (omega arith), tt)
+
+  pub buffered-every : (n : ℕ) → Every Q (bufferOf buffer n) → (i : ℕ) → i < n → Q (bufferedAt buffer i)
+  unfolding bufferOf
+  buffered-every zero h = λ i below. absurd (omega arith)
+  buffered-every (suc n) h =
+      let parts = every-split Q (bufferOf buffer n) (bufferedAt buffer n ∷ []) h in
+      here-or-there n (λ i. i < suc n → Q (bufferedAt buffer i))
+      (λ _. parts .1 .0)
+      (λ i away below. buffered-every n (parts .0) i (omega arith))
+
+-- ---- the buffer's words
+
+pub buffer-length : (work : List ℕ) → bufferWords ≤ length work → length (bufferIn work) ≡ bufferWords
+buffer-length work within = simp length-drop (omega arith)
+
+pub flushed-length : (u : Undo) (buffer : List ℕ) → length (flushedBuffer u buffer) ≡ length buffer
+unfolding flushedBuffer
+flushed-length u buffer = go (eqb (u .buffered) 0)
+  where
+    go : (t : Bool) → length (cond t buffer (replicate (length buffer) 0)) ≡ length buffer
+    go true = refl
+    go false = length-replicate (length buffer) 0
+
+-- only the words of the first n entries count
+buffer-same : (buffer buffer′ : List ℕ) (n : ℕ) → ((i : ℕ) → i < 2 * n → getD buffer′ i 0 ≡ getD buffer i 0)
+    → bufferOf buffer′ n ≡ bufferOf buffer n
+unfolding bufferOf bufferedAt bufferedIn
+buffer-same buffer buffer′ zero same = refl
+buffer-same buffer buffer′ (suc n) same =
+    rw (buffer-same buffer buffer′ n (λ i below. same i (omega arith)), same (2 * n) (omega arith), same (2 * n + 1) (omega arith))
+
+-- ---- "An entry goes to the buffer's end"
+
+module _ (buffer : List ℕ) (n : ℕ) (e : layout.Entry) (old : ℕ) where
+  pub pushed-length : length (pushed buffer n e old) ≡ length buffer
+  unfolding pushed
+  pushed-length = simp length-set
+
+  pushed-before : (i : ℕ) → i < 2 * n → getD (pushed buffer n e old) i 0 ≡ getD buffer i 0
+  unfolding pushed
+  pushed-before i below =
+      getD-set-other (set buffer (2 * n) (encodeEntry e)) (2 * n + 1) i old 0 (omega arith)
+      ∙ getD-set-other buffer (2 * n) i (encodeEntry e) 0 (omega arith)
+
+  module _ (place : n < bufferPlaces) (words : length buffer ≡ bufferWords) (fits : EntryFits e) where
+    pushed-last : bufferedAt (pushed buffer n e old) n ≡ withOld e old
+    unfolding bufferedAt bufferedIn pushed
+    pushed-last =
+        let kept = getD-set-other (set buffer (2 * n) (encodeEntry e)) (2 * n + 1) (2 * n) old 0 (omega arith) in
+        let word = getD-set-same buffer (2 * n) (encodeEntry e) 0 (omega arith) in
+        let value = getD-set-same (set buffer (2 * n) (encodeEntry e)) (2 * n + 1) old 0 (simp length-set (omega arith)) in
+        rw (kept, word, decode-encode-entry e fits, value)
+
+    pub pushed-buffer : bufferOf (pushed buffer n e old) (n + 1) ≡ bufferOf buffer n ++ (withOld e old ∷ [])
+    unfolding bufferOf
+    pushed-buffer = rw (add-one, buffer-same buffer (pushed buffer n e old) n pushed-before, pushed-last)
+
+-- ---- "if any buffered entry has its address"
+
+module _ (buffer : List ℕ) (count address : ℕ) (none : buffers buffer count address ≡ false) where
+  pub none-buffered : Every (λ x. x .address ≢ address) (bufferOf buffer count)
+  unfolding buffers elsewhere bufferedAt
+  none-buffered = every-buffered (λ x. x .address ≢ address) buffer count (λ i below.
+      eqb-false (bufferedIn buffer i .address) address
+      (not-true _ (first-all (elsewhere buffer address) count (ltb-false (first (elsewhere buffer address) count) count none) i below)))
+
+  pub none-silent : (epoch : ℕ) → Silent (bufferOf buffer count) epoch address
+  none-silent epoch = silent-away (bufferOf buffer count) epoch address none-buffered
+
+-- ---- "7 buffer: a buffered entry is not proper"
+
+-- "A proper buffered entry has address < N and ValidFrom < ValidTill ≤ s."
+abbrev pub ProperBuffered : (lines epoch : ℕ) → Entry → Type 0
+ProperBuffered lines epoch x = (x .address < lines) × (x .from < x .till) × (x .till ≤ epoch)
+
+module _ (buffer : List ℕ) (count lines epoch : ℕ) where
+  pub buffer-proper : Every (ProperBuffered lines epoch) (bufferOf buffer count) → bufferProper buffer count lines epoch ≡ true
+  unfolding bufferProper bufferedProper properBuffered bufferedAt
+  buffer-proper h = all-first (bufferedProper buffer lines epoch) count (λ i below.
+      let p = buffered-every (ProperBuffered lines epoch) buffer count h i below in
+      rw (lt-ltb _ _ (p .0), lt-ltb _ _ (p .1), le-leb _ _ (p .2)))
+
+  -- the buffered entries are the last of all entries
+  pub entries-buffer-proper : (W low : ℕ) (log : List Entry) → Every (ProperEntry lines W low epoch) (log ++ bufferOf buffer count)
+      → bufferProper buffer count lines epoch ≡ true
+  entries-buffer-proper W low log h = buffer-proper
+      (every-map (ProperEntry lines W low epoch) (ProperBuffered lines epoch) (λ x p. (p .inside, p .nonempty, p .before))
+      (bufferOf buffer count) (every-split _ log (bufferOf buffer count) h .1))
