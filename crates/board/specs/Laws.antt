@@ -23,7 +23,7 @@ unfolding applied
 applied-append [] ys b = refl
 applied-append (s ∷ xs) ys b = applied-append xs ys (set b (s .at) (s .word))
 
-take-append : (k : ℕ) (xs ys : List Store) → take k (xs ++ ys) ≡ take k xs ++ take (k - length xs) ys
+pub take-append : (k : ℕ) (xs ys : List Store) → take k (xs ++ ys) ≡ take k xs ++ take (k - length xs) ys
 take-append zero [] ys = refl
 take-append zero (x ∷ xs) ys = rw zero-sub
 take-append (suc k) [] ys = rw sub-zero

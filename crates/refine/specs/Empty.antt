@@ -1,0 +1,132 @@
+-- Emptying a slot, and filling it from the board, keep the invariant.
+use Prim.Native.Nat.{ℕ, _+_, _≤_, _<_}
+use mathlib.Core.Path.{_≡_, refl, sym, ap, subst, _∙_}
+use mathlib.Core.Bool.{Bool, true, false, cond}
+use mathlib.Core.List.{List, []}
+use native.Mathlib.Omega.{arith}
+use lib.ListN.{getD}
+use Rattle.layout.specs.declared.Slot.{Slot}
+use Rattle.layout.specs.Limits.{mostAhead}
+use Rattle.layout.specs.Memory.{linesAt, bufferIn, slotIn, dataIn}
+use Rattle.board.specs.Stores.{Store, applied}
+use Rattle.undo.specs.declared.Undo.{Undo}
+use Rattle.undo.specs.Log as undo
+use Rattle.undo.specs.Log.{buffers}
+use Rattle.cache.specs.declared.Bounds.{Bounds}
+use Rattle.cache.specs.Effects.{Effect, nothing, flushing, flushingIf, writingOut, clearing, emptying, lineIn, bringing}
+use Rattle.cache.specs.Slots.{holds, cleanSlot, dirtySlot, zeroed, filled}
+use Rattle.history.specs.Machine.{Line, absent, clean, dirty, update, Durable, Volatile, Reference, written, holding}
+use Rattle.history.specs.Invariant.{Live}
+use Rattle.history.specs.Keeps.{fill-live, discard-live}
+use Rattle.history.specs.Recall.{here-or-there, update-same, update-other}
+use Rattle.volatile.specs.Cache.{cacheOf, cache-at, cache-clean}
+use Rattle.volatile.specs.Held.{empty-held}
+use Rattle.volatile.specs.Proper.{AtHome, FullSlot, is-clean, is-dirty, ProperSlot, is-empty, is-full, full-holds}
+use Rattle.volatile.specs.Slotted.{slot-kind}
+use Rattle.volatile.specs.Stores.{Stored, zeroed-empty, zeroed-held, filled-empty}
+use Rattle.volatile.specs.Swept.{swept-stored, clean-after}
+use Rattle.volatile.specs.ZeroWord.{emptySlot}
+use Rattle.volatile.specs.View.{volatileOf, withLines}
+use Rattle.refine.specs.State.{Ok}
+use Rattle.refine.specs.Along.{along-none}
+use Rattle.refine.specs.Flush.{Keeps}
+use Rattle.refine.specs.WriteOut.{ok-with, first, flushed-slot, written-live, written-keeps}
+
+-- a line that is held otherwise twice
+update-again : {A : Type 0} (f : ℕ → A) (a : ℕ) (x y : A) → update (update f a x) a y ≡ update f a y
+update-again f a x y =
+    λ i c. here-or-there a (λ c. update (update f a x) a y c ≡ update f a y c)
+    (update-same (update f a x) a y ∙ sym (update-same f a y))
+    (λ c away. update-other (update f a x) a y c away ∙ update-other f a x c away ∙ sym (update-other f a y c away)) c i
+
+module _ {L : ℕ} {b : Bounds} {c : ℕ} {board work : List ℕ} {u : Undo} {g : Reference} (o : Ok L b c board work u g) (k : ℕ)
+    (below : k < b .slots) where
+  abbrev w : Volatile
+  w = volatileOf work (b .slots) (b .epoch) (u .buffered)
+
+  -- a slot that makes no store
+  quiet : {s : Slot} {word : ℕ} {lines : ℕ → Line} {work′ : List ℕ} → Stored b work k s word lines work′ → s .dirty ≡ false
+      → Live (b .lines) mostAhead (o .durable) (withLines w lines) g
+      → Keeps L b c board g (record { stores = []; undo = u; work = work′ }) c g
+  unfolding applied
+  quiet {s} st clean-slot live =
+      record {
+        along = along-none (b .lines) L board g;
+        after =
+            ok-with o st c (o .cursor) (o .busy) (swept-stored st c (b .persisted + 1) (clean-after (b .persisted + 1) s clean-slot) (o .swept)) board
+            (o .durable) (o .reads) (o .persisted) g (o .safe) live;
+      }
+
+  empty-keeps : slotIn work k ≡ emptySlot → Keeps L b c board g (emptying u work k) c g
+  unfolding emptying clearing
+  empty-keeps e = rw e (quiet (zeroed-empty (o .slotted) k below e) refl (o .live))
+
+  module _ (a : ℕ) (home : AtHome b k a) where
+    clean-keeps : slotIn work k ≡ cleanSlot a → Keeps L b c board g (emptying u work k) c g
+    unfolding emptying clearing
+    clean-keeps e =
+        let h : holds work k a ≡ true = full-holds b work k a (is-clean e) in
+        rw e
+        (quiet (zeroed-held (o .slotted) k below a h) refl
+        (discard-live (o .live) a (cache-clean work (b .slots) a k (home .home) e)))
+
+    dirty-keeps : (tag : ℕ) → slotIn work k ≡ dirtySlot a tag → b .persisted < tag → tag ≤ b .epoch → Keeps L b c board g (emptying u work k) c g
+    unfolding emptying clearing writingOut
+    dirty-keeps tag e lo hi =
+        let t = buffers (bufferIn work) (u .buffered) a in
+        let x = first o k below a tag home e t refl in
+        let h : holds (flushingIf t u work .work) k a ≡ true =
+        full-holds b (flushingIf t u work .work) k a (is-dirty tag (flushed-slot o k below a tag home e t refl) lo hi) in
+        let st = zeroed-held (x .after .slotted) k below a h in
+        rw e
+        (written-keeps o k below a tag home e t refl absent st c (o .cursor) (o .busy)
+        (swept-stored st c (b .persisted + 1) (clean-after (b .persisted + 1) emptySlot refl) (x .after .swept))
+        (subst
+        (λ (lines : ℕ → Line). Live (b .lines) mostAhead (written (x .after .durable) a (dataIn work k)) (withLines (volatileOf (flushingIf t u work .work) (b .slots) (b .epoch) (flushingIf t u work .undo .buffered)) lines) g)
+        (update-again (cacheOf (flushingIf t u work .work) (b .slots)) a (clean (dataIn work k)) absent)
+        (discard-live (written-live o k below a tag home e t refl) a (update-same (cacheOf (flushingIf t u work .work) (b .slots)) a (clean (dataIn work k))))))
+
+  pub emptying-keeps : Keeps L b c board g (emptying u work k) c g
+  emptying-keeps = go (slot-kind (o .slotted) k below)
+    where
+      go : ProperSlot b k (slotIn work k) → Keeps L b c board g (emptying u work k) c g
+      go (is-empty e) = empty-keeps e
+      go (is-full a home (is-clean e)) = clean-keeps a home e
+      go (is-full a home (is-dirty tag e lo hi)) = dirty-keeps a home tag e lo hi
+
+  pub emptying-slot : slotIn (emptying u work k .work) k ≡ emptySlot
+  unfolding emptying clearing writingOut
+  emptying-slot = go (slot-kind (o .slotted) k below)
+    where
+      go : ProperSlot b k (slotIn work k) → slotIn (emptying u work k .work) k ≡ emptySlot
+      go (is-empty e) = rw e (zeroed-empty (o .slotted) k below e .slot)
+      go (is-full a home (is-clean e)) = rw e (zeroed-held (o .slotted) k below a (full-holds b work k a (is-clean e)) .slot)
+      go (is-full a home (is-dirty tag e lo hi)) =
+          let t = buffers (bufferIn work) (u .buffered) a in
+          rw e
+          (zeroed-held (first o k below a tag home e t refl .after .slotted) k below a
+          (full-holds b (flushingIf t u work .work) k a (is-dirty tag (flushed-slot o k below a tag home e t refl) lo hi)) .slot)
+
+-- emptying flushes, or leaves the log's numbers as they are
+pub record Fewer (u v : Undo) : Type 0 where
+  pub entries : v .entries ≡ u .entries
+  pub used : v .control .length + v .buffered ≡ u .control .length + u .buffered
+  pub buffered : v .buffered ≤ u .buffered
+  pub persisted : v .control .persisted ≡ u .control .persisted
+
+pub same-fewer : (u : Undo) → Fewer u u
+same-fewer u = record { entries = refl; used = refl; buffered = omega arith; persisted = refl }
+
+pub flush-fewer : (t : Bool) (u : Undo) (work : List ℕ) → Fewer u (flushingIf t u work .undo)
+unfolding flushingIf undo.flushed
+flush-fewer true u work = record { entries = refl; used = omega arith; buffered = omega arith; persisted = refl }
+flush-fewer false u work = same-fewer u
+
+pub emptying-fewer : (u : Undo) (work : List ℕ) (k : ℕ) → Fewer u (emptying u work k .undo)
+unfolding emptying clearing writingOut
+emptying-fewer u work k = go (slotIn work k .dirty)
+  where
+    go : (t : Bool)
+        → Fewer u (cond t (writingOut u work (slotIn work k .address) (dataIn work k)) (nothing u work) .undo)
+    go true = flush-fewer (buffers (bufferIn work) (u .buffered) (slotIn work k .address)) u work
+    go false = same-fewer u

@@ -1,0 +1,94 @@
+-- A flush keeps the invariant, at every cut.
+use Prim.Native.Nat.{ℕ, zero, suc, _+_, _≤_, _<_}
+use mathlib.Core.Path.{_≡_, refl, sym, ap, subst, _∙_}
+use mathlib.Core.Bool.{Bool, true, false}
+use mathlib.Core.List.{List, [], _∷_, _++_}
+use native.Mathlib.Numerals.{add-one}
+use native.Mathlib.Omega.{arith}
+use Rattle.layout.specs.Limits.{mostAhead}
+use Rattle.layout.specs.Memory.{bufferIn}
+use Rattle.board.specs.Stores.{Store, applied}
+use Rattle.undo.specs.declared.Undo.{Undo}
+use Rattle.undo.specs.Log as undo
+use Rattle.cache.specs.declared.Bounds.{Bounds}
+use Rattle.cache.specs.Effects.{Effect, withBuffer, nothing, flushing, flushingIf}
+use Rattle.history.specs.Machine.{Entry, Volatile, Reference, flushed, unbuffered}
+use Rattle.history.specs.Invariant.{Live}
+use Rattle.history.specs.Keeps.{flush-safe, flush-live}
+use Rattle.durable.specs.View as durable
+use Rattle.durable.specs.Flush.{flush-cut, flush-reads}
+use Rattle.durable.specs.Listed.{listed, listed-append}
+use Rattle.volatile.specs.Buffer as volatile
+use Rattle.volatile.specs.Buffer.{bufferOf}
+use Rattle.volatile.specs.Slotted.{with-slotted}
+use Rattle.volatile.specs.Swept.{swept-with}
+use Rattle.volatile.specs.View.{volatileOf, flushed-words, view-flushed}
+use Rattle.refine.specs.State.{Off, Ok}
+use Rattle.refine.specs.Along.{Along, along-none}
+
+-- the buffer, as the board's words and as the work memory's read it
+pub buffer-same : (buffer : List ℕ) (n : ℕ) → bufferOf buffer n ≡ durable.bufferOf buffer n
+unfolding bufferOf listed volatile.bufferedAt durable.bufferedAt
+buffer-same buffer zero = refl
+buffer-same buffer (suc n) =
+    let e : n + 0 ≡ n = omega arith in
+    ap (λ (xs : List Entry). xs ++ (durable.bufferedAt buffer n ∷ [])) (buffer-same buffer n)
+    ∙ ap (λ (k : ℕ). durable.bufferOf buffer n ++ (durable.bufferedAt buffer k ∷ [])) (sym e)
+    ∙ sym (listed-append (durable.bufferedAt buffer) n 1)
+    ∙ rw add-one
+
+-- What an effect keeps: every cut of its stores leaves a board that recovers, and all of them a controller at work.
+pub record Keeps (L : ℕ) (b : Bounds) (c : ℕ) (board : List ℕ) (g : Reference) (e : Effect) (c′ : ℕ) (g′ : Reference) : Type 0 where
+  pub along : Along (b .lines) L board g (e .stores)
+  pub after : Ok L b c′ (applied board (e .stores)) (e .work) (e .undo) g′
+
+module _ {L : ℕ} {b : Bounds} {c : ℕ} {board work : List ℕ} {u : Undo} {g : Reference} (o : Ok L b c board work u g) where
+  pub ok-off : Off (b .lines) L board g
+  ok-off = record { control = u .control; durable = o .durable; reads = o .reads; safe = o .safe }
+
+  pub nothing-keeps : Keeps L b c board g (nothing u work) c g
+  unfolding applied
+  nothing-keeps = record { along = along-none (b .lines) L board g; after = o }
+
+  abbrev w : Volatile
+  w = volatileOf work (b .slots) (b .epoch) (u .buffered)
+
+  pub flushing-keeps : Keeps L b c board g (flushing u work) c g
+  unfolding undo.flushed
+  flushing-keeps =
+      let held : u .control .length + u .buffered ≤ u .entries = omega (arith, o .ring, o .room) in
+      let words = flushed-words (o .slotted) u in
+      let buffer = undo.flushedBuffer u (bufferIn work) in
+      record {
+        along =
+            λ k h.
+            record {
+              control = u .control;
+              durable = o .durable;
+              reads = flush-cut u (o .reads) (o .ring) held (bufferIn work) k h;
+              safe = o .safe;
+            };
+        after =
+            record {
+              durable = flushed (o .durable) w;
+              reads = flush-reads u (o .reads) (o .ring) held (bufferIn work) w (buffer-same (bufferIn work) (u .buffered));
+              ring = o .ring;
+              slotted = with-slotted (o .slotted) buffer words;
+              persisted = o .persisted;
+              last = o .last;
+              room = omega (arith, o .room);
+              places = omega arith;
+              cursor = o .cursor;
+              busy = o .busy;
+              swept = swept-with (o .slotted) buffer words c (b .persisted + 1) (o .cursor) (o .swept);
+              safe = flush-safe (o .live) (o .safe);
+              live =
+                  subst (λ (x : Volatile). Live (b .lines) mostAhead (flushed (o .durable) w) x g)
+                  (sym (view-flushed (o .slotted) u (b .epoch) (u .buffered))) (flush-live (o .live));
+            };
+      }
+
+  pub flushing-if-keeps : (t : Bool) → Keeps L b c board g (flushingIf t u work) c g
+  unfolding flushingIf
+  flushing-if-keeps true = flushing-keeps
+  flushing-if-keeps false = nothing-keeps

@@ -1,0 +1,103 @@
+-- Bringing a line into its slot keeps the invariant, and a line in its slot reads as the reference machine has it.
+use Prim.Native.Nat.{ℕ, _+_, _≤_, _<_}
+use mathlib.Core.Path.{_≡_, refl, sym, ap, subst, _∙_}
+use mathlib.Core.Bool.{Bool, true, false}
+use mathlib.Core.List.{List}
+use lib.ListN.{getD}
+use Rattle.layout.specs.Limits.{mostAhead}
+use Rattle.layout.specs.Memory.{linesAt, slotIn, dataIn}
+use Rattle.board.specs.Stores.{applied}
+use Rattle.undo.specs.declared.Undo.{Undo}
+use Rattle.cache.specs.declared.Bounds.{Bounds}
+use Rattle.cache.specs.declared.Spot.{Spot}
+use Rattle.cache.specs.Effects.{emptying, lineIn, bringing, loading}
+use Rattle.cache.specs.Slots.{holds, cleanSlot, filled}
+use Rattle.history.specs.Machine.{absent, clean, Durable, Volatile, Reference}
+use Rattle.history.specs.Invariant.{Live}
+use Rattle.history.specs.Keeps.{fill-live}
+use Rattle.history.specs.Lines.{held-as}
+use Rattle.volatile.specs.Cache.{cacheOf, cache-at, cache-clean, cache-dirty}
+use Rattle.volatile.specs.Held.{heldBy, empty-held}
+use Rattle.volatile.specs.Proper.{AtHome, FullSlot, is-clean, is-dirty}
+use Rattle.volatile.specs.Slotted.{slot-full}
+use Rattle.volatile.specs.Stores.{filled-empty}
+use Rattle.volatile.specs.Swept.{swept-stored, clean-after}
+use Rattle.volatile.specs.View.{volatileOf}
+use Rattle.refine.specs.State.{Ok}
+use Rattle.refine.specs.Flush.{Keeps, nothing-keeps}
+use Rattle.refine.specs.WriteOut.{ok-with}
+use Rattle.refine.specs.Empty.{emptying-keeps, emptying-slot, Fewer, same-fewer, emptying-fewer}
+
+-- a held line's data is the reference machine's line
+pub full-reads : {L : ℕ} {b : Bounds} {c : ℕ} {board work : List ℕ} {u : Undo} {g : Reference} → Ok L b c board work u g → (k a : ℕ) → AtHome b k a
+    → FullSlot b a (slotIn work k) → dataIn work k ≡ g .lines a
+full-reads {b = b} {work = work} o k a home (is-clean e) = held-as (o .live) a (cache-clean work (b .slots) a k (home .home) e) .0
+full-reads {b = b} {work = work} o k a home (is-dirty tag e lo hi) =
+    held-as (o .live) a (cache-dirty work (b .slots) a k (home .home) tag e) .current
+
+module _ {L : ℕ} {b : Bounds} {c : ℕ} {board work : List ℕ} {u : Undo} {g : Reference} (o : Ok L b c board work u g) (k : ℕ)
+    (below : k < b .slots) (a : ℕ) (home : AtHome b k a) where
+  pub emptied : Keeps L b c board g (emptying u work k) c g
+  emptied = emptying-keeps o k below
+
+  abbrev board′ : List ℕ
+  board′ = applied board (emptying u work k .stores)
+
+  line-same : lineIn board′ u a ≡ emptied .after .durable .memory a
+  unfolding lineIn
+  line-same =
+      ap (λ (n : ℕ). getD board′ (linesAt n + a) 0) (o .ring) ∙ ap (λ (d : Durable). d .memory a) (emptied .after .reads .durable)
+
+  absent-now : cacheOf (emptying u work k .work) (b .slots) a ≡ absent
+  absent-now =
+      cache-at (emptying u work k .work) (b .slots) a k (home .home)
+      ∙ rw (emptying-slot o k below) (empty-held (dataIn (emptying u work k .work) k) a)
+
+  pub bringing-keeps : Keeps L b c board g (bringing board u work k a) c g
+  unfolding bringing
+  bringing-keeps =
+      let line = lineIn board′ u a in
+      let st = filled-empty (emptied .after .slotted) k below (emptying-slot o k below) a line home in
+      record {
+        along = emptied .along;
+        after =
+            ok-with (emptied .after) st c (o .cursor) (o .busy)
+            (swept-stored st c (b .persisted + 1) (clean-after (b .persisted + 1) (cleanSlot a) refl) (emptied .after .swept)) board′
+            (emptied .after .durable) (emptied .after .reads) (emptied .after .persisted) g (emptied .after .safe)
+            (rw line-same (fill-live (emptied .after .live) a absent-now));
+      }
+
+  pub bringing-full : FullSlot b a (slotIn (bringing board u work k a .work) k)
+  unfolding bringing
+  bringing-full =
+      is-clean
+      (filled-empty (emptied .after .slotted) k below (emptying-slot o k below) a (lineIn board′ u a) home .slot)
+
+  -- whether it was held before or not
+  module _ (held : Bool) (is : held ≡ holds work k a) where
+    abbrev spot : Spot
+    spot = record { slot = k; held = held }
+
+    pub loading-keeps : Keeps L b c board g (loading board u work a spot) c g
+    unfolding loading
+    loading-keeps = go held
+      where
+        go : (t : Bool) → Keeps L b c board g (loading board u work a (record { slot = k; held = t })) c g
+        go true = nothing-keeps o
+        go false = bringing-keeps
+
+    pub loading-full : FullSlot b a (slotIn (loading board u work a spot .work) k)
+    unfolding loading
+    loading-full = go held is
+      where
+        go : (t : Bool) → t ≡ holds work k a → FullSlot b a (slotIn (loading board u work a (record { slot = k; held = t }) .work) k)
+        go true e = slot-full (o .slotted) k a below (sym e)
+        go false e = bringing-full
+
+    pub loading-fewer : Fewer u (loading board u work a spot .undo)
+    unfolding loading bringing
+    loading-fewer = go held
+      where
+        go : (t : Bool) → Fewer u (loading board u work a (record { slot = k; held = t }) .undo)
+        go true = same-fewer u
+        go false = emptying-fewer u work k
