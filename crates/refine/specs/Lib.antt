@@ -4,3 +4,6 @@ pub mod Flush
 pub mod WriteOut
 pub mod Empty
 pub mod Load
+pub mod Mark
+pub mod Scan
+pub mod Wake

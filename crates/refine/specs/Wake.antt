@@ -1,0 +1,89 @@
+-- Power-up keeps a board recoverable at every cut and wakes a controller; a commit keeps the invariant.
+use Prim.Native.Nat.{ℕ, _+_, _≤_, _<_}
+use mathlib.Core.Path.{_≡_, refl, sym, ap, subst, _∙_}
+use mathlib.Core.List.{List}
+use native.Mathlib.Omega.{arith}
+use Rattle.layout.specs.Limits.{lastEpoch, mostSlots, mostAhead}
+use Rattle.board.specs.Stores.{applied}
+use Rattle.undo.specs.declared.Undo.{Undo}
+use Rattle.undo.specs.Log as undo
+use Rattle.undo.specs.Log.{recoverStores}
+use Rattle.cache.specs.declared.Bounds.{Bounds}
+use Rattle.history.specs.Machine.{Entry, Durable, Volatile, Reference, wakes, commits, cleared}
+use Rattle.history.specs.Every.{Every}
+use Rattle.history.specs.Invariant.{Live}
+use Rattle.history.specs.Keeps.{commit-safe, commit-live}
+use Rattle.history.specs.Restore.{restoredAll, restoredPart, part-safe, power-up-safe, power-up-live}
+use Rattle.durable.specs.Proper.{proper-named}
+use Rattle.durable.specs.Reads.{reads-bounded, reads-persisted}
+use Rattle.durable.specs.Recover.{recover-cut, recover-reads}
+use Rattle.durable.specs.View.{undoWith}
+use Rattle.volatile.specs.Proper.{withEpochs}
+use Rattle.volatile.specs.Slotted.{zeroWork, zero-slotted}
+use Rattle.volatile.specs.Swept.{swept-none, commit-slotted}
+use Rattle.volatile.specs.View.{view-awake, view-commit}
+use Rattle.refine.specs.State.{Off, Ok}
+use Rattle.refine.specs.Along.{Along}
+
+-- ---- power-up
+
+module _ {N L : ℕ} {board : List ℕ} {g : Reference} (off : Off N L board g) where
+  abbrev u : Undo
+  u = undoWith (off .control) L
+
+  named : Every (λ x. x .address < N) (off .durable .log)
+  named = proper-named N mostAhead _ _ (off .durable .log) (off .safe .proper)
+
+  pub waking-along : Along N L board g (recoverStores board u)
+  waking-along k h =
+      record {
+        control = off .control;
+        durable = restoredPart k (off .durable);
+        reads = recover-cut u (off .reads) refl named k h;
+        safe = part-safe (off .safe) k;
+      }
+
+  abbrev pub wakeBounds : (slots : ℕ) → Bounds
+  wakeBounds slots = record { lines = N; slots = slots; persisted = off .control .persisted; epoch = off .control .persisted + 1 }
+
+  pub waking-ok : (slots : ℕ) → 1 ≤ slots → slots ≤ mostSlots
+      → Ok L (wakeBounds slots) 0 (applied board (recoverStores board u)) (zeroWork slots) (undoWith (undo.emptied (off .control)) L) (wakes g)
+  waking-ok slots some most =
+      let p : off .control .persisted ≡ off .durable .persisted = reads-persisted (off .reads) in
+      record {
+        durable = cleared (restoredAll (off .durable));
+        reads = recover-reads u (off .reads) refl named;
+        ring = refl;
+        slotted = zero-slotted (wakeBounds slots) some most;
+        persisted = p;
+        last = omega (arith, reads-bounded (off .reads));
+        room = omega arith;
+        places = omega arith;
+        cursor = omega arith;
+        busy = λ h. absurd (omega arith);
+        swept = swept-none (zeroWork slots) (off .control .persisted + 1);
+        safe = power-up-safe (off .safe);
+        live =
+            rw (p, view-awake (off .durable) slots some) (power-up-live (off .safe) (omega arith));
+      }
+
+-- ---- commit
+
+pub commit-ok : {L : ℕ} {b : Bounds} {c : ℕ} {board work : List ℕ} {u : Undo} {g : Reference} → Ok L b c board work u g → b .epoch < lastEpoch
+    → b .epoch < b .persisted + mostAhead → Ok L (withEpochs b (b .persisted) (b .epoch + 1)) c board work u (commits g)
+commit-ok {b = b} {work = work} {u = u} o early window =
+    record {
+      durable = o .durable;
+      reads = o .reads;
+      ring = o .ring;
+      slotted = commit-slotted (o .slotted);
+      persisted = o .persisted;
+      last = omega arith;
+      room = o .room;
+      places = o .places;
+      cursor = o .cursor;
+      busy = λ h. omega (arith, o .busy h);
+      swept = o .swept;
+      safe = commit-safe (o .live) (o .safe);
+      live = rw view-commit (commit-live (o .live) (omega (arith, o .persisted)));
+    }
