@@ -166,7 +166,7 @@ module _ (board work : List ℕ) (r : Registers) (address : ℕ) (v : View) (e :
   unfolding storeChecked lineChecked
   store-line = passed-part lower (roomRows (viewOf board work) work r address) (viewOf board work) v e
 
-  store-view : v ≡ viewOf board work
+  pub store-view : v ≡ viewOf board work
   unfolding storeChecked
   store-view = passed-view (lower ++ roomRows (viewOf board work) work r address) (viewOf board work) v e
 
@@ -185,9 +185,31 @@ module _ (board work : List ℕ) (r : Registers) (address : ℕ) (v : View) (e :
 
 -- commit
 module _ (board work : List ℕ) (r : Registers) (v : View) (e : Passed v ≡ commitChecked board work r) where
-  pub commit-running : Running board work r v
+  commit-first-rows : Passed v ≡ runningChecked board work r
   unfolding commitChecked runningChecked
-  commit-running = running board work r v (passed-part (runningRows board work r) (commitRows (viewOf board work) work r) (viewOf board work) v e)
+  commit-first-rows = passed-part (runningRows board work r) (commitRows (viewOf board work) work r) (viewOf board work) v e
+
+  pub commit-running : Running board work r v
+  commit-running = running board work r v commit-first-rows
+
+  pub commit-view : v ≡ viewOf board work
+  commit-view = running-view board work r v commit-first-rows
+
+  commit-later-rows : NoneHolds (commitRows (viewOf board work) work r)
+  unfolding commitChecked runningChecked
+  commit-later-rows =
+      passed-rows (commitRows (viewOf board work) work r) (viewOf board work) v
+      (e ∙ passed-first (runningRows board work r) (commitRows (viewOf board work) work r) (viewOf board work) v commit-first-rows)
+
+  pub commit-window : r .epoch < v .control .persisted + mostAhead
+  commit-window =
+      let n : r .epoch - v .control .persisted ≡ mostAhead → ⊥ = rw commit-view (eqb-false _ _ (commit-later-rows .1 .0)) in
+      omega (arith, commit-running .ahead, commit-running .window)
+
+  pub commit-early : r .epoch < lastEpoch
+  commit-early =
+      let n : r .epoch ≡ lastEpoch → ⊥ = eqb-false _ _ (commit-later-rows .1 .1 .0) in
+      omega (arith, commit-running .epoch-most)
 
 -- scan
 module _ (board work : List ℕ) (r : Registers) (v : View) (e : Passed v ≡ scanChecked board work r) where
@@ -198,7 +220,7 @@ module _ (board work : List ℕ) (r : Registers) (v : View) (e : Passed v ≡ sc
   pub scan-running : Running board work r v
   scan-running = running board work r v scan-first-rows
 
-  scan-view : v ≡ viewOf board work
+  pub scan-view : v ≡ viewOf board work
   scan-view = running-view board work r v scan-first-rows
 
   scan-later-rows : NoneHolds (scanRows (viewOf board work) work r)

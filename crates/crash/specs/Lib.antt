@@ -1,0 +1,5 @@
+pub mod Statement
+pub mod State
+pub mod Answer
+pub mod Calls
+pub mod Steps

@@ -1,0 +1,70 @@
+-- The invariant of a run: a controller at work on its board, or a board with the current off and registers that every call but a
+-- power-up refuses.
+use Prim.Native.Nat.{ℕ, _+_, _-_, _*_, _/_, _≤_, _<_}
+use mathlib.Core.Path.{_≡_, refl, sym, ap, subst, _∙_}
+use mathlib.Core.List.{List}
+use native.Mathlib.Omega.{arith}
+use lib.ListN.{length}
+use Rattle.layout.specs.declared.Shape.{Shape}
+use Rattle.layout.specs.declared.Control.{Control}
+use Rattle.layout.specs.Limits.{bufferPlaces}
+use Rattle.layout.specs.Memory.{slotsOf, workWords, shapeIn, controlIn}
+use Rattle.undo.specs.declared.Undo.{Undo}
+use Rattle.cache.specs.declared.Bounds.{Bounds}
+use Rattle.checks.specs.declared.Registers.{Registers}
+use Rattle.checks.specs.declared.View.{View}
+use Rattle.checks.specs.Registers.{zero}
+use Rattle.checks.specs.View.{viewOf, boundsOf, undoOf}
+use Rattle.history.specs.Machine.{Reference}
+use Rattle.durable.specs.Reads.{reads-persisted}
+use Rattle.refine.specs.State.{Off, Ok}
+use Rattle.refine.specs.Flush.{ok-off}
+use Rattle.crash.specs.Statement.{Machine}
+
+pub record Up (N L : ℕ) (m : Machine) (g : Reference) : Type 0 where
+  pub lines : shapeIn (m .board) .lines ≡ N
+  pub ok :
+      Ok L (boundsOf (viewOf (m .board) (m .work)) (m .registers)) (m .registers .cursor) (m .board) (m .work)
+      (undoOf (viewOf (m .board) (m .work)) (m .registers)) g
+  pub few : m .registers .buffered < bufferPlaces
+
+pub record Down (N L : ℕ) (m : Machine) (g : Reference) : Type 0 where
+  pub off : Off N L (m .board) g
+  pub registers : m .registers ≡ zero
+
+pub data Holds (N L : ℕ) (m : Machine) (g : Reference) : Type 0 where
+  is-up : Up N L m g → Holds N L m g
+  is-down : Down N L m g → Holds N L m g
+
+slots-same : (slots words : ℕ) → words ≡ workWords slots → slots ≡ slotsOf words
+slots-same slots words e = omega arith
+
+-- a controller at work, by the words that it has
+pub up-of : {L : ℕ} {b : Bounds} {c : ℕ} {board work : List ℕ} {u : Undo} {g : Reference} → Ok L b c board work u g → (r : Registers)
+    → r .epoch ≡ b .epoch → r .buffered ≡ u .buffered → r .cursor ≡ c → u .buffered < bufferPlaces
+    → Up (b .lines) L (record { board = board; work = work; registers = r }) g
+unfolding viewOf
+up-of {L} {b} {c} {board} {work} {u} {g} o r e n k few =
+    let shape = o .reads .sized .shape in
+    let lines : b .lines ≡ shapeIn board .lines = sym (ap (λ (s : Shape). s .lines) shape) in
+    let entries : u .entries ≡ shapeIn board .entries = o .ring ∙ sym (ap (λ (s : Shape). s .entries) shape) in
+    let control : u .control ≡ controlIn board = sym (o .reads .control) in
+    let persisted : b .persisted ≡ controlIn board .persisted =
+    o .persisted ∙ sym (reads-persisted (o .reads)) ∙ ap (λ (x : Control). x .persisted) control in
+    let slots : b .slots ≡ slotsOf (length work) = slots-same (b .slots) (length work) (o .slotted .words) in
+    let bounds : b ≡ boundsOf (viewOf board work) r =
+    λ i. record { lines = lines i; slots = slots i; persisted = persisted i; epoch = sym e i } in
+    let numbers : u ≡ undoOf (viewOf board work) r = λ i. record { control = control i; entries = entries i; buffered = sym n i } in
+    record {
+      lines = sym lines;
+      ok =
+          subst (λ (x : Undo). Ok L (boundsOf (viewOf board work) r) (r .cursor) board work x g) numbers
+          (subst (λ (x : ℕ). Ok L (boundsOf (viewOf board work) r) x board work u g) (sym k)
+          (subst (λ (x : Bounds). Ok L x c board work u g) bounds o));
+      few = omega (arith, n);
+    }
+
+pub holds-off : {N L : ℕ} {m : Machine} {g : Reference} → Holds N L m g → Off N L (m .board) g
+unfolding viewOf
+holds-off {N} {L} {m} {g} (is-up x) = subst (λ (n : ℕ). Off n L (m .board) g) (x .lines) (ok-off (x .ok))
+holds-off (is-down x) = x .off

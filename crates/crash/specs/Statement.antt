@@ -1,0 +1,116 @@
+-- Demand 3 of the customer, as definitions: lists of calls on a board just formatted, cut anywhere; the uncached machine that is fed
+-- the same list; and what has to hold after every list. A step is made of the definitions that the public contracts cite.
+use Prim.Native.Nat.{ℕ, _+_}
+use mathlib.Core.Path.{_≡_}
+use mathlib.Core.Bool.{cond}
+use mathlib.Core.List.{List, [], _∷_}
+use lib.Dec.{eqb}
+use lib.ListN.{getD}
+use Rattle.layout.specs.Memory.{linesAt, controlIn}
+use Rattle.status.specs.declared.Status.{Status}
+use Rattle.status.specs.Numbers.{numberOf}
+use Rattle.checks.specs.declared.Registers.{Registers}
+use Rattle.checks.specs.Registers.{zero}
+use Rattle.picl.specs.declared.Answer.{Answer}
+use Rattle.picl.specs.Answers.{Verdict, answerOf, boardAfter, workAfter}
+use Rattle.picl.specs.Calls.{loadVerdict, storeVerdict, evictVerdict, commitVerdict, scanVerdict, powerUpVerdict, tallyReport, formatted}
+use Rattle.history.specs.Machine.{Reference, stores, commits, persists, wakes}
+
+-- ---- the calls of a list
+
+-- "every list of loads, stores, evictions, commits, scan calls, tallies and power-ups". The allowance is the cut point, and may be any
+-- number; "A power-up may be lent any work memory."
+pub data Call : Type 0 where
+  load : (address allowance : ℕ) → Call
+  store : (address value allowance : ℕ) → Call
+  evict : (address allowance : ℕ) → Call
+  commit : (allowance : ℕ) → Call
+  scan : (allowance : ℕ) → Call
+  tally : Call
+  powerUp : (lent : List ℕ) (allowance : ℕ) → Call
+
+-- "each call gets registers and memories as last returned and left"
+pub record Machine : Type 0 where
+  pub board : List ℕ
+  pub work : List ℕ
+  pub registers : Registers
+
+-- what a call under an allowance answers, and the machine that it leaves
+pub record Outcome : Type 0 where
+  pub status : Status
+  pub value : ℕ
+  pub left : Machine
+
+abbrev pub answered : (allowance : ℕ) → (given : Registers) → (board work : List ℕ) → Verdict → Outcome
+answered allowance given board work v =
+    record {
+      status = answerOf allowance given v .status;
+      value = answerOf allowance given v .value;
+      left =
+          record {
+            board = boardAfter allowance board v;
+            work = workAfter allowance work v;
+            registers = answerOf allowance given v .registers;
+          };
+    }
+
+-- "(power-up only the board)"; tally reads the work memory and leaves all as it is
+unfoldable pub called : Machine → Call → Outcome
+called m (load a k) = answered k (m .registers) (m .board) (m .work) (loadVerdict (m .board) (m .work) (m .registers) a)
+called m (store a v k) = answered k (m .registers) (m .board) (m .work) (storeVerdict (m .board) (m .work) (m .registers) a v)
+called m (evict a k) = answered k (m .registers) (m .board) (m .work) (evictVerdict (m .board) (m .work) (m .registers) a)
+called m (commit k) = answered k (m .registers) (m .board) (m .work) (commitVerdict (m .board) (m .work) (m .registers))
+called m (scan k) = answered k (m .registers) (m .board) (m .work) (scanVerdict (m .board) (m .work) (m .registers))
+called m tally = record { status = tallyReport (m .work) .status; value = tallyReport (m .work) .value; left = m }
+called m (powerUp lent k) = answered k zero (m .board) lent (powerUpVerdict (m .board) lent)
+
+-- ---- the uncached machine
+
+-- "Accepted calls (number 0)": "Store: line a becomes the value. Commit: the lines become copy e; e rises by one. Scan with a value not
+-- 0: p is that value. Power-up: the lines become copy p; later copies are forgotten; e = p + 1."
+abbrev pub accepted : Call → (value : ℕ) → Reference → Reference
+accepted (load a k) value g = g
+accepted (store a v k) value g = stores g a v
+accepted (evict a k) value g = g
+accepted (commit k) value g = commits g
+accepted (scan k) value g = cond (eqb value 0) g (persists g value)
+accepted tally value g = g
+accepted (powerUp lent k) value g = wakes g
+
+-- "It is fed each call with its arguments, its number and a scan's value, and sees nothing else." "All else, refused and cut calls
+-- too, changes nothing."
+abbrev pub fed : Call → (number value : ℕ) → Reference → Reference
+fed c number value g = cond (eqb number 0) (accepted c value g) g
+
+-- "A fresh one, as format leaves the board: lines zero, e = 1, p = 0, copy 0 the lines."
+abbrev pub fresh : Reference
+fresh = record { running = 1; persisted = 0; lines = λ a. 0; copies = λ e a. 0 }
+
+-- ---- runs
+
+-- both machines, side by side
+pub record Both : Type 0 where
+  pub machine : Machine
+  pub reference : Reference
+
+abbrev pub after : Both → Call → Both
+after s c =
+    let o = called (s .machine) c in
+    record { machine = o .left; reference = fed c (numberOf (o .status)) (o .value) (s .reference) }
+
+unfoldable pub run : Both → List Call → Both
+run s [] = s
+run s (c ∷ cs) = run (after s c) cs
+
+-- "that starts with a power-up on a board just formatted", of N lines and L log entries; what the work memory and the registers were
+-- before that does not matter
+abbrev pub start : (N L : ℕ) → (work : List ℕ) → Registers → Both
+start N L work r = record { machine = record { board = formatted N L; work = work; registers = r }; reference = fresh }
+
+-- ---- what holds after every list
+
+abbrev pub persistedOn : List ℕ → ℕ
+persistedOn board = controlIn board .persisted
+
+abbrev pub lineOn : (L : ℕ) → List ℕ → ℕ → ℕ
+lineOn L board a = getD board (linesAt L + a) 0
