@@ -7,7 +7,7 @@ use mathlib.Core.List.{List, [], _∷_}
 use native.Mathlib.Omega.{arith}
 use borrow.Author.Tests.{leb-true, leb-false}
 use lib.Dec.{leb, eqb}
-use lib.ListN.{length, take}
+use lib.ListN.{length, take, length-replicate}
 use lib.Seq.{take-all}
 use Rattle.board.specs.Stores.{applied}
 use Rattle.status.specs.declared.Status.{Status}
@@ -24,9 +24,10 @@ use Rattle.refine.specs.Along.{Along}
 use Rattle.crash.specs.Statement.{Call, Machine, Outcome, answered, accepted, fed}
 use Rattle.crash.specs.State.{Up, Holds, is-up, is-down}
 
--- both machines after a call that came to this
-abbrev pub Kept : (N L : ℕ) → Call → Reference → Outcome → Type 0
-Kept N L c g x = Holds N L (x .left) (fed c (numberOf (x .status)) (x .value) g)
+-- both machines after a call that was lent a work memory of so many words and came to this
+pub record Kept (N L : ℕ) (c : Call) (g : Reference) (words : ℕ) (x : Outcome) : Type 0 where
+  pub holds : Holds N L (x .left) (fed c (numberOf (x .status)) (x .value) g)
+  pub same-words : length (x .left .work) ≡ words
 
 -- ---- a refusal
 
@@ -45,21 +46,25 @@ refused-numbered (x ∷ xs) v s n e = go (x .holds) (refused-numbered xs v s (n 
     go false rest e = rest e
 
 pub refused-kept : {N L : ℕ} (c : Call) (k : ℕ) (m : Machine) (g : Reference) → Holds N L m g → (s : Status) (value : ℕ) → eqb (numberOf s) 0 ≡ false
-    → Kept N L c g (answered k (m .registers) (m .board) (m .work) (refused s value))
+    → Kept N L c g (length (m .work)) (answered k (m .registers) (m .board) (m .work) (refused s value))
 unfolding answerOf boardAfter workAfter
-refused-kept c k m g h s value n = rw n h
+refused-kept c k m g h s value n = record { holds = rw n h; same-words = refl }
 
 -- ---- a call that goes through, or is cut
 
 pub due-kept : {N L : ℕ} (c : Call) (k : ℕ) (given : Registers) (board work : List ℕ) (o : picl.Outcome) (g g′ : Reference)
     → Along N L board g (o .stores)
     → Up N L (record { board = applied board (o .stores); work = o .work; registers = o .registers }) g′ → accepted c (o .value) g ≡ g′
-    → Kept N L c g (answered k given board work (due o))
+    → length (o .work) ≡ length work → Kept N L c g (length work) (answered k given board work (due o))
 unfolding answerOf boardAfter workAfter
-due-kept {N} {L} c k given board work o g g′ along up moves = go (leb (length (o .stores)) k) refl
+due-kept {N} {L} c k given board work o g g′ along up moves words = go (leb (length (o .stores)) k) refl
   where
-    go : (t : Bool) → leb (length (o .stores)) k ≡ t → Kept N L c g (answered k given board work (due o))
+    go : (t : Bool) → leb (length (o .stores)) k ≡ t → Kept N L c g (length work) (answered k given board work (due o))
     go true e =
         let all : take k (o .stores) ≡ o .stores = take-all k (o .stores) (leb-true _ _ e) in
-        rw (e, all, moves) (is-up up)
-    go false e = rw e (is-down (record { off = along k (leb-false _ _ e); registers = refl }))
+        record { holds = rw (e, all, moves) (is-up up); same-words = rw e words }
+    go false e =
+        record {
+          holds = rw e (is-down (record { off = along k (leb-false _ _ e); registers = refl }));
+          same-words = rw e (length-replicate (length work) 0);
+        }

@@ -7,7 +7,8 @@ use native.Mathlib.Omega.{arith}
 use borrow.Author.Tests.{ltb-true, ltb-false, eqb-false, ne-eqb}
 use lib.Dec.{ltb, eqb}
 use Rattle.layout.specs.Limits.{bufferPlaces, lastEpoch, mostAhead}
-use Rattle.layout.specs.Memory.{bufferIn, slotIn, dataIn, shapeIn}
+use lib.ListN.{length}
+use Rattle.layout.specs.Memory.{workWords, bufferIn, slotIn, dataIn, shapeIn}
 use Rattle.board.specs.Laws.{applied-append}
 use Rattle.board.specs.Stores.{applied}
 use Rattle.layout.specs.Words.{bit}
@@ -54,14 +55,14 @@ down-stays {m = m} d v r = omega (arith, r .ahead, ap (λ (x : Registers). x .ep
 -- an effect that keeps the invariant, as a call's outcome
 carried-kept : {N L : ℕ} {b : Bounds} {c : ℕ} {board : List ℕ} {g : Reference} {e : Effect} {c′ : ℕ} {g′ : Reference} (call : statement.Call)
     (allowance : ℕ) (given base : Registers) (work : List ℕ) (value : ℕ) → b .lines ≡ N → Keeps L b c board g e c′ g′ → base .epoch ≡ b .epoch
-    → base .cursor ≡ c′ → e .undo .buffered < bufferPlaces → statement.accepted call value g ≡ g′
-    → Kept N L call g (answered allowance given board work (due (carried value base e)))
-carried-kept {N} {L} {b} {board = board} {g} {e} {g′ = g′} call allowance given base work value lines x epoch cursor few moves =
+    → base .cursor ≡ c′ → e .undo .buffered < bufferPlaces → statement.accepted call value g ≡ g′ → length work ≡ workWords (b .slots)
+    → Kept N L call g (length work) (answered allowance given board work (due (carried value base e)))
+carried-kept {N} {L} {b} {board = board} {g} {e} {g′ = g′} call allowance given base work value lines x epoch cursor few moves words =
     due-kept call allowance given board work (carried value base e) g g′
     (subst (λ (n : ℕ). Along n L board g (e .stores)) lines (x .along))
     (subst (λ (n : ℕ). Up n L (record { board = applied board (e .stores); work = e .work; registers = buffering base (e .undo .buffered) }) g′)
     lines (up-of (x .after) (buffering base (e .undo .buffered)) epoch refl cursor few))
-    moves
+    moves (x .after .slotted .words ∙ sym words)
 
 -- a line that was brought is clean, so its store makes an entry
 due-found : (board work : List ℕ) (u : Undo) (a epoch : ℕ) (spot : Spot) → entryDue epoch (slotIn (loading board u work a spot .work) (spot .slot)) ≡ true
@@ -120,6 +121,12 @@ module _ {N L : ℕ} {m : Machine} {g : Reference} (up : Up N L m g) where
   unfolding viewOf
   lines = up .lines
 
+  words : length (m .work) ≡ workWords (b .slots)
+  words = up .ok .slotted .words
+
+  all : ltb (m .registers .cursor) (v .slots) ≡ false → m .registers .cursor ≡ v .slots
+  all e = omega (arith, ltb-false (m .registers .cursor) (v .slots) e, up .ok .cursor)
+
   module _ (a : ℕ) (named : a < v .shape .lines) where
     abbrev pub spot : Spot
     spot = spotOf (m .work) (v .slots) a
@@ -148,30 +155,30 @@ module _ {N L : ℕ} {m : Machine} {g : Reference} (up : Up N L m g) where
     full = loading-full (up .ok) (spot .slot) below a home (spot .held) held
 
     pub load-up : (allowance : ℕ)
-        → Kept N L (statement.load a allowance) g
+        → Kept N L (statement.load a allowance) g (length (m .work))
         (answered allowance (m .registers) (m .board) (m .work) (due (loadOutcome (m .board) (m .work) (m .registers) a v)))
     unfolding loadOutcome loadAt
     load-up allowance =
         carried-kept (statement.load a allowance) allowance (m .registers) (m .registers) (m .work) _ lines loads refl refl
-        (omega (arith, fewer .buffered, up .few)) refl
+        (omega (arith, fewer .buffered, up .few)) refl words
 
     pub evict-up : (allowance : ℕ)
-        → Kept N L (statement.evict a allowance) g
+        → Kept N L (statement.evict a allowance) g (length (m .work))
         (answered allowance (m .registers) (m .board) (m .work) (due (evictOutcome (m .work) (m .registers) a v)))
     unfolding evictOutcome evictAt evicting
     evict-up allowance = go (spot .held)
       where
         go : (t : Bool)
-            → Kept N L (statement.evict a allowance) g
+            → Kept N L (statement.evict a allowance) g (length (m .work))
             (answered allowance (m .registers) (m .board) (m .work)
             (due (carried (bit t) (m .registers) (cond t (emptying u (m .work) (spot .slot)) (nothing u (m .work))))))
         go true =
             carried-kept (statement.evict a allowance) allowance (m .registers) (m .registers) (m .work) 1 lines
             (emptying-keeps (up .ok) (spot .slot) below) refl refl
-            (omega (arith, emptying-fewer u (m .work) (spot .slot) .buffered, up .few)) refl
+            (omega (arith, emptying-fewer u (m .work) (spot .slot) .buffered, up .few)) refl words
         go false =
             carried-kept (statement.evict a allowance) allowance (m .registers) (m .registers) (m .work) 0 lines (nothing-keeps (up .ok)) refl refl
-            (up .few) refl
+            (up .few) refl words
 
     -- "Store .. as load if not held. Then ..": the board and the reference machine go on from where the load left them
     store-keeps : (value : ℕ)
@@ -194,22 +201,22 @@ module _ {N L : ℕ} {m : Machine} {g : Reference} (up : Up N L m g) where
 
     pub store-up : (value allowance : ℕ)
         → (undoDue (m .work) spot (m .registers .epoch) ≡ true → v .control .length + m .registers .buffered + 1 ≤ v .shape .entries)
-        → Kept N L (statement.store a value allowance) g
+        → Kept N L (statement.store a value allowance) g (length (m .work))
         (answered allowance (m .registers) (m .board) (m .work) (due (storeOutcome (m .board) (m .work) (m .registers) a value v)))
     unfolding storeOutcome storeAt
     store-up value allowance room =
         carried-kept (statement.store a value allowance) allowance (m .registers) (m .registers) (m .work) 0 lines (store-keeps value room) refl refl
-        (storing-few (m .board) (m .work) u a (m .registers .epoch) value spot (omega (arith, fewer .buffered, up .few))) refl
+        (storing-few (m .board) (m .work) u a (m .registers .epoch) value spot (omega (arith, fewer .buffered, up .few))) refl words
 
   pub commit-up : (allowance : ℕ) → m .registers .epoch < lastEpoch → m .registers .epoch < v .control .persisted + mostAhead
-      → Kept N L (statement.commit allowance) g (answered allowance (m .registers) (m .board) (m .work) (due (commitOutcome (m .work) (m .registers))))
+      → Kept N L (statement.commit allowance) g (length (m .work)) (answered allowance (m .registers) (m .board) (m .work) (due (commitOutcome (m .work) (m .registers))))
   unfolding commitOutcome applied
   commit-up allowance early window =
       due-kept (statement.commit allowance) allowance (m .registers) (m .board) (m .work) (commitOutcome (m .work) (m .registers)) g (commits g)
       (along-none N L (m .board) g)
       (subst (λ (n : ℕ). Up n L (record { board = m .board; work = m .work; registers = committed (m .registers) }) (commits g)) lines
       (up-of (commit-ok (up .ok) early window) (committed (m .registers)) refl refl refl (up .few)))
-      refl
+      refl refl
 
   abbrev pub visit : Outcome
   visit = carried 0 (stepped (m .registers)) (visiting u (m .work) (m .registers .cursor) (targetOf v))
@@ -218,22 +225,22 @@ module _ {N L : ℕ} {m : Machine} {g : Reference} (up : Up N L m g) where
   persist = carried (targetOf v) (restarted (m .registers)) (persisting (m .board) u (m .work) (targetOf v))
 
   pub scan-up : (allowance : ℕ) → v .control .persisted + 1 < m .registers .epoch
-      → Kept N L (statement.scan allowance) g
+      → Kept N L (statement.scan allowance) g (length (m .work))
       (answered allowance (m .registers) (m .board) (m .work) (due (scanOutcome (m .board) (m .work) (m .registers) v)))
   unfolding scanOutcome
   scan-up allowance waits = go (ltb (m .registers .cursor) (v .slots)) refl
     where
       go : (t : Bool) → ltb (m .registers .cursor) (v .slots) ≡ t
-          → Kept N L (statement.scan allowance) g (answered allowance (m .registers) (m .board) (m .work) (due (cond t visit persist)))
+          → Kept N L (statement.scan allowance) g (length (m .work)) (answered allowance (m .registers) (m .board) (m .work) (due (cond t visit persist)))
       go true e =
           carried-kept (statement.scan allowance) allowance (m .registers) (stepped (m .registers)) (m .work) 0 lines
           (visiting-keeps (up .ok) waits (ltb-true (m .registers .cursor) (v .slots) e)) refl refl
-          (omega (arith, visiting-fewer u (m .work) (m .registers .cursor) (targetOf v) .buffered, up .few)) refl
+          (omega (arith, visiting-fewer u (m .work) (m .registers .cursor) (targetOf v) .buffered, up .few)) refl words
       go false e =
           due-kept (statement.scan allowance) allowance (m .registers) (m .board) (m .work) persist g (persists g (targetOf v))
           (subst (λ (n : ℕ). Along n L (m .board) g (persist .stores)) lines (persisting-along (up .ok) waits))
           (subst (λ (n : ℕ). Up n L (record { board = applied (m .board) (persist .stores); work = persist .work; registers = persist .registers }) (persists g (targetOf v)))
           lines
-          (up-of (persisting-ok (up .ok) waits (omega (arith, ltb-false (m .registers .cursor) (v .slots) e, up .ok .cursor))) (persist .registers) refl
+          (up-of (persisting-ok (up .ok) waits (all e)) (persist .registers) refl
           (persisting-none (m .board) (m .work) u (targetOf v)) refl (omega arith)))
-          (rw (ne-eqb (targetOf v) 0 (omega arith)))
+          (rw (ne-eqb (targetOf v) 0 (omega arith))) (persisting-ok (up .ok) waits (all e) .slotted .words ∙ sym words)

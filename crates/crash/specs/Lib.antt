@@ -3,3 +3,4 @@ pub mod State
 pub mod Answer
 pub mod Calls
 pub mod Steps
+pub mod Power

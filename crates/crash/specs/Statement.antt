@@ -1,6 +1,6 @@
 -- Demand 3 of the customer, as definitions: lists of calls on a board just formatted, cut anywhere; the uncached machine that is fed
 -- the same list; and what has to hold after every list. A step is made of the definitions that the public contracts cite.
-use Prim.Native.Nat.{ℕ, _+_}
+use Prim.Native.Nat.{ℕ, _+_, _<_}
 use mathlib.Core.Path.{_≡_}
 use mathlib.Core.Bool.{cond}
 use mathlib.Core.List.{List, [], _∷_}
@@ -8,6 +8,7 @@ use lib.Dec.{eqb}
 use lib.ListN.{getD}
 use Rattle.layout.specs.Memory.{linesAt, controlIn}
 use Rattle.status.specs.declared.Status.{Status}
+use Rattle.status.specs.declared.Status.the-variants as status
 use Rattle.status.specs.Numbers.{numberOf}
 use Rattle.checks.specs.declared.Registers.{Registers}
 use Rattle.checks.specs.Registers.{zero}
@@ -102,10 +103,14 @@ unfoldable pub run : Both → List Call → Both
 run s [] = s
 run s (c ∷ cs) = run (after s c) cs
 
--- "that starts with a power-up on a board just formatted", of N lines and L log entries; what the work memory and the registers were
--- before that does not matter
-abbrev pub start : (N L : ℕ) → (work : List ℕ) → Registers → Both
-start N L work r = record { machine = record { board = formatted N L; work = work; registers = r }; reference = fresh }
+-- "that starts with a power-up on a board just formatted", of N lines and L log entries. A power-up reads the board alone, so what the
+-- work memory and the registers were before it does not matter (`start-any`): here there is none, and all zero.
+abbrev pub start : (N L : ℕ) → Both
+start N L =
+    record {
+      machine = record { board = formatted N L; work = []; registers = zero };
+      reference = fresh;
+    }
 
 -- ---- what holds after every list
 
@@ -114,3 +119,18 @@ persistedOn board = controlIn board .persisted
 
 abbrev pub lineOn : (L : ℕ) → List ℕ → ℕ → ℕ
 lineOn L board a = getD board (linesAt L + a) 0
+
+pub record Consistent (N L : ℕ) (s : Both) : Type 0 where
+  -- "After each call the control word's P is p"
+  pub same-epoch : persistedOn (s .machine .board) ≡ s .reference .persisted
+  -- "each accepted power-up leaves, line for line, the copy that document 01's uncached loom, given the same list, has of the epoch that
+  -- the control word named as persisted when the current went"
+  pub wakes-to-copy : (lent : List ℕ) (allowance : ℕ) → called (s .machine) (powerUp lent allowance) .status ≡ status.Ok → (a : ℕ) → a < N
+      → lineOn L (called (s .machine) (powerUp lent allowance) .left .board) a ≡ s .reference .copies (persistedOn (s .machine .board)) a
+  -- "On a board that demand 3 reaches, power-up never answers 1 or 3."
+  pub wakes : (lent : List ℕ) (allowance : ℕ)
+      → (called (s .machine) (powerUp lent allowance) .status ≡ status.Shape → ⊥)
+      × (called (s .machine) (powerUp lent allowance) .status ≡ status.Entry → ⊥)
+  -- "a held line gives its data. Otherwise .. from memory": the uncached machine's line
+  pub loads : (a allowance : ℕ) → called (s .machine) (load a allowance) .status ≡ status.Ok
+      → called (s .machine) (load a allowance) .value ≡ s .reference .lines a

@@ -6,6 +6,7 @@ use mathlib.Core.List.{List, [], _∷_, _++_}
 use native.Mathlib.Omega.{arith}
 use borrow.Author.Tests.{eqb-false}
 use lib.Dec.{eqb}
+use lib.ListN.{length}
 use Rattle.status.specs.Numbers.{numberOf}
 use Rattle.status.specs.declared.Status.{Status}
 use Rattle.layout.specs.Limits.{lastEpoch, mostAhead}
@@ -52,12 +53,12 @@ scan-numbered board work r s e =
     (refl, (refl, (refl, (refl, (refl, (refl, tt)))))) e
 
 module _ {N L : ℕ} {m : Machine} {g : Reference} (h : Holds N L m g) where
-  load-kept : (a allowance : ℕ) → Kept N L (statement.load a allowance) g (called m (statement.load a allowance))
+  load-kept : (a allowance : ℕ) → Kept N L (statement.load a allowance) g (length (m .work)) (called m (statement.load a allowance))
   unfolding called loadVerdict
   load-kept a allowance = go (lineChecked (m .board) (m .work) (m .registers) a) refl h
     where
       go : (x : Checked) → lineChecked (m .board) (m .work) (m .registers) a ≡ x → Holds N L m g
-          → Kept N L (statement.load a allowance) g
+          → Kept N L (statement.load a allowance) g (length (m .work))
           (answered allowance (m .registers) (m .board) (m .work) (judged x (loadOutcome (m .board) (m .work) (m .registers) a)))
       go (Refused s) e h =
           refused-kept (statement.load a allowance) allowance m g h s 0 (line-numbered (m .board) (m .work) (m .registers) a s (sym e))
@@ -66,12 +67,12 @@ module _ {N L : ℕ} {m : Machine} {g : Reference} (h : Holds N L m g) where
           let same = line-view (m .board) (m .work) (m .registers) a v (sym e) in
           rw same (load-up u a (rw same at (line-named (m .board) (m .work) (m .registers) a v (sym e))) allowance)
 
-  evict-kept : (a allowance : ℕ) → Kept N L (statement.evict a allowance) g (called m (statement.evict a allowance))
+  evict-kept : (a allowance : ℕ) → Kept N L (statement.evict a allowance) g (length (m .work)) (called m (statement.evict a allowance))
   unfolding called evictVerdict
   evict-kept a allowance = go (lineChecked (m .board) (m .work) (m .registers) a) refl h
     where
       go : (x : Checked) → lineChecked (m .board) (m .work) (m .registers) a ≡ x → Holds N L m g
-          → Kept N L (statement.evict a allowance) g
+          → Kept N L (statement.evict a allowance) g (length (m .work))
           (answered allowance (m .registers) (m .board) (m .work) (judged x (evictOutcome (m .work) (m .registers) a)))
       go (Refused s) e h =
           refused-kept (statement.evict a allowance) allowance m g h s 0 (line-numbered (m .board) (m .work) (m .registers) a s (sym e))
@@ -80,12 +81,12 @@ module _ {N L : ℕ} {m : Machine} {g : Reference} (h : Holds N L m g) where
           let same = line-view (m .board) (m .work) (m .registers) a v (sym e) in
           rw same (evict-up u a (rw same at (line-named (m .board) (m .work) (m .registers) a v (sym e))) allowance)
 
-  store-kept : (a value allowance : ℕ) → Kept N L (statement.store a value allowance) g (called m (statement.store a value allowance))
+  store-kept : (a value allowance : ℕ) → Kept N L (statement.store a value allowance) g (length (m .work)) (called m (statement.store a value allowance))
   unfolding called storeVerdict
   store-kept a value allowance = go (storeChecked (m .board) (m .work) (m .registers) a) refl h
     where
       go : (x : Checked) → storeChecked (m .board) (m .work) (m .registers) a ≡ x → Holds N L m g
-          → Kept N L (statement.store a value allowance) g
+          → Kept N L (statement.store a value allowance) g (length (m .work))
           (answered allowance (m .registers) (m .board) (m .work) (judged x (storeOutcome (m .board) (m .work) (m .registers) a value)))
       go (Refused s) e h =
           refused-kept (statement.store a value allowance) allowance m g h s 0 (store-numbered (m .board) (m .work) (m .registers) a s (sym e))
@@ -100,12 +101,12 @@ module _ {N L : ℕ} {m : Machine} {g : Reference} (h : Holds N L m g) where
           (store-up u a (rw same at (line-named (m .board) (m .work) (m .registers) a v line)) value allowance
           (rw same at (store-room (m .board) (m .work) (m .registers) a v (sym e))))
 
-  commit-kept : (allowance : ℕ) → Kept N L (statement.commit allowance) g (called m (statement.commit allowance))
+  commit-kept : (allowance : ℕ) → Kept N L (statement.commit allowance) g (length (m .work)) (called m (statement.commit allowance))
   unfolding called commitVerdict
   commit-kept allowance = go (commitChecked (m .board) (m .work) (m .registers)) refl h
     where
       go : (x : Checked) → commitChecked (m .board) (m .work) (m .registers) ≡ x → Holds N L m g
-          → Kept N L (statement.commit allowance) g
+          → Kept N L (statement.commit allowance) g (length (m .work))
           (answered allowance (m .registers) (m .board) (m .work) (judged x (λ v. commitOutcome (m .work) (m .registers))))
       go (Refused s) e h =
           refused-kept (statement.commit allowance) allowance m g h s 0 (commit-numbered (m .board) (m .work) (m .registers) s (sym e))
@@ -114,12 +115,12 @@ module _ {N L : ℕ} {m : Machine} {g : Reference} (h : Holds N L m g) where
           commit-up u allowance (commit-early (m .board) (m .work) (m .registers) v (sym e))
           (rw (commit-view (m .board) (m .work) (m .registers) v (sym e)) at (commit-window (m .board) (m .work) (m .registers) v (sym e)))
 
-  scan-kept : (allowance : ℕ) → Kept N L (statement.scan allowance) g (called m (statement.scan allowance))
+  scan-kept : (allowance : ℕ) → Kept N L (statement.scan allowance) g (length (m .work)) (called m (statement.scan allowance))
   unfolding called scanVerdict
   scan-kept allowance = go (scanChecked (m .board) (m .work) (m .registers)) refl h
     where
       go : (x : Checked) → scanChecked (m .board) (m .work) (m .registers) ≡ x → Holds N L m g
-          → Kept N L (statement.scan allowance) g
+          → Kept N L (statement.scan allowance) g (length (m .work))
           (answered allowance (m .registers) (m .board) (m .work) (judged x (scanOutcome (m .board) (m .work) (m .registers))))
       go (Refused s) e h =
           refused-kept (statement.scan allowance) allowance m g h s 0 (scan-numbered (m .board) (m .work) (m .registers) s (sym e))

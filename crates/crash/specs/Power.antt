@@ -1,0 +1,142 @@
+-- A power-up keeps the invariant of a run from any state, and never answers 1 or 3.
+use Prim.Native.Nat.{ℕ, _+_, _-_, _≤_, _<_}
+use mathlib.Core.Path.{_≡_, refl, sym, ap, subst, _∙_}
+use mathlib.Core.Bool.{Bool, true, false, not, cond, _&&_}
+use mathlib.Core.List.{List, [], _∷_}
+use native.Mathlib.Omega.{arith}
+use borrow.Author.Tests.{lt-ltb, le-ltb, le-leb, eq-eqb, ne-eqb}
+use lib.Dec.{ltb, leb, eqb}
+use lib.ListN.{length, replicate, length-replicate}
+use Rattle.layout.specs.declared.Control.{Control}
+use Rattle.layout.specs.declared.Shape.{Shape}
+use Rattle.layout.specs.Limits.{boardVersion, lastEpoch, mostLines, mostEntries, mostAhead}
+use Rattle.layout.specs.Memory.{logAt, boardWords, shapeIn, controlIn}
+use Rattle.board.specs.Stores.{applied}
+use Rattle.status.specs.declared.Status.{Status}
+use Rattle.status.specs.declared.Status.the-variants as status
+use Rattle.status.specs.Numbers.{numberOf}
+use Rattle.undo.specs.declared.Undo.{Undo}
+use Rattle.undo.specs.Log.{firstImproper, recoverStores, emptied}
+use Rattle.checks.specs.declared.Checked.{Checked}
+use Rattle.checks.specs.declared.Checked.the-variants.{Refused, Passed}
+use Rattle.checks.specs.declared.Registers.{Registers}
+use Rattle.checks.specs.declared.View.{View}
+use Rattle.checks.specs.Contracts.{Shaped}
+use Rattle.checks.specs.Laws.{memories-view, memories-shaped}
+use Rattle.checks.specs.Refusals.{memoryRows, memoriesChecked}
+use Rattle.checks.specs.Registers as registers
+use Rattle.checks.specs.View.{viewOf, goodSizes, goodControl, goodShape, goodWork, undoOf}
+use Rattle.picl.specs.Answers.{Verdict, refused, due, answerOf, boardAfter, workAfter}
+use Rattle.picl.specs.Calls.{wakeAt, wakeVerdict, woken, powerUpVerdict}
+use Rattle.history.specs.Machine.{Reference, wakes}
+use Rattle.durable.specs.Proper.{reads-passes}
+use Rattle.durable.specs.View.{Sized, Reads, undoWith}
+use Rattle.refine.specs.Along.{Along}
+use Rattle.refine.specs.State.{Off, Ok}
+use Rattle.refine.specs.Wake.{waking-along, waking-ok}
+use Rattle.volatile.specs.Slotted.{zeroWork}
+use Rattle.crash.specs.Statement as statement
+use Rattle.crash.specs.Statement.{Machine, answered, called}
+use Rattle.crash.specs.State.{Up, Down, Holds, is-up, is-down, up-of, holds-off}
+use Rattle.crash.specs.Answer.{Kept, refused-numbered, due-kept}
+
+-- ---- the tests
+
+and-true : (a b : Bool) → a ≡ true → b ≡ true → a && b ≡ true
+and-true a b p q = rw (p, q)
+
+not-last : (n : ℕ) → n < lastEpoch → not (eqb n lastEpoch) ≡ true
+not-last n h = rw (ne-eqb n lastEpoch (omega arith))
+
+pub shape-good : {N L : ℕ} {board : List ℕ} → Sized N L board → (work : List ℕ) → goodShape (length board) (viewOf board work) ≡ true
+unfolding goodShape goodSizes goodControl viewOf
+shape-good {N} {L} {board} s work =
+    let c = s .control in
+    rw (s .shape)
+    (and-true _ _
+    (and-true _ _ (le-leb logAt (length board) (omega (arith, s .words)))
+    (and-true _ _
+    (and-true _ _
+    (and-true _ _
+    (and-true _ _ (and-true _ _ refl (le-leb 1 N (s .some-lines))) (le-leb N mostLines (s .most-lines))) (le-leb 1 L (s .some-entries)))
+    (le-leb L mostEntries (s .most-entries)))
+    (eq-eqb (length board) (boardWords N L) (s .words))))
+    (and-true _ _
+    (and-true _ _ (not-last (controlIn board .persisted) (c .persisted)) (lt-ltb (controlIn board .start) L (c .start)))
+    (le-leb (controlIn board .length) L (c .length))))
+
+-- so the memories are refused as work or not at all
+pub memories-work : {N L : ℕ} {board : List ℕ} → Sized N L board → (work : List ℕ) (s : Status) → Refused s ≡ memoriesChecked board work → s ≡ status.Work
+unfolding memoriesChecked
+memories-work {board = board} sized work s e = go (goodWork (length work)) (rw (shape-good sized work) at e)
+  where
+    go : (t : Bool) → Refused s ≡ cond (not t) (Refused status.Work) (Passed (viewOf board work)) → s ≡ status.Work
+    go true e = let z : _≡_ {A = ℕ} 0 1 = cc in absurd (omega arith)
+    go false e = cc
+
+module _ {N L : ℕ} {board : List ℕ} {g : Reference} (off : Off N L board g) (lent : List ℕ) where
+  -- the log's numbers that power-up reads
+  numbers : undoOf (viewOf board lent) registers.zero ≡ undoWith (off .control) L
+  unfolding viewOf
+  numbers =
+      let entries = ap (λ (s : Shape). s .entries) (off .reads .sized .shape) in
+      λ i. record { control = off .reads .control i; entries = entries i; buffered = 0 }
+
+  lines : viewOf board lent .shape .lines ≡ N
+  unfolding viewOf
+  lines = ap (λ (s : Shape). s .lines) (off .reads .sized .shape)
+
+  length-same : viewOf board lent .control .length ≡ off .control .length
+  unfolding viewOf
+  length-same = ap (λ (c : Control). c .length) (off .reads .control)
+
+  -- every entry of the log is proper
+  all-proper : firstImproper board (undoOf (viewOf board lent) registers.zero) (viewOf board lent .shape .lines) ≡ viewOf board lent .control .length
+  all-proper =
+      rw (numbers, lines, length-same)
+      (reads-passes (undoWith (off .control) L) (off .reads) refl mostAhead (off .durable .persisted + mostAhead) (off .safe .proper))
+
+  pub wake-due : wakeVerdict board lent (viewOf board lent) ≡ due (wakeAt board lent (undoWith (off .control) L))
+  unfolding wakeVerdict
+  wake-due = rw (all-proper, le-ltb (viewOf board lent .control .length) (viewOf board lent .control .length) (omega arith), numbers)
+
+  module _ (passed : Shaped board lent (viewOf board lent)) where
+    wake-up :
+        Up N L
+          (record {
+            board = applied board (recoverStores board (undoWith (off .control) L));
+            work = replicate (length lent) 0;
+            registers = registers.woken (off .control .persisted);
+          })
+          (wakes g)
+    wake-up =
+        rw (passed .work-words)
+        (up-of (waking-ok off (viewOf board lent .slots) (passed .slots-some) (passed .slots-most)) (registers.woken (off .control .persisted)) refl refl
+        refl (omega arith))
+
+    pub wake-kept : (allowance : ℕ)
+        → Kept N L (statement.powerUp lent allowance) g (length lent) (answered allowance registers.zero board lent (wakeVerdict board lent (viewOf board lent)))
+    unfolding wakeAt
+    wake-kept allowance =
+        rw wake-due
+        (due-kept (statement.powerUp lent allowance) allowance registers.zero board lent (wakeAt board lent (undoWith (off .control) L)) g (wakes g)
+        (waking-along off) wake-up refl (length-replicate (length lent) 0))
+
+pub power-up-kept : {N L : ℕ} {m : Machine} {g : Reference} → Holds N L m g → (lent : List ℕ) (allowance : ℕ)
+    → Kept N L (statement.powerUp lent allowance) g (length lent) (called m (statement.powerUp lent allowance))
+unfolding called powerUpVerdict boardAfter workAfter answerOf
+power-up-kept {N} {L} {m} {g} h lent allowance = go (memoriesChecked (m .board) lent) refl
+  where
+    off : Off N L (m .board) g
+    off = holds-off h
+
+    refusal : (s : Status) → s ≡ status.Work
+        → Kept N L (statement.powerUp lent allowance) g (length lent) (answered allowance registers.zero (m .board) lent (refused s 0))
+    refusal s e = rw e (record { holds = is-down (record { off = off; registers = refl }); same-words = refl })
+
+    go : (x : Checked) → memoriesChecked (m .board) lent ≡ x
+        → Kept N L (statement.powerUp lent allowance) g (length lent) (answered allowance registers.zero (m .board) lent (woken (m .board) lent x))
+    go (Refused s) e = refusal s (memories-work (off .reads .sized) lent s (sym e))
+    go (Passed v) e =
+        let same = memories-view (m .board) lent v (sym e) in
+        rw same (wake-kept off lent (rw same at (memories-shaped (m .board) lent v (sym e))) allowance)
