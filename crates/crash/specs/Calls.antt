@@ -5,14 +5,14 @@ use mathlib.Core.Bool.{Bool, true, false, not, cond, _&&_, _||_}
 use mathlib.Core.List.{List, [], _∷_, _++_}
 use native.Mathlib.Omega.{arith}
 use borrow.Author.Tests.{ltb-true, ltb-false, eqb-false, ne-eqb}
-use lib.Dec.{ltb, eqb}
+use lib.Dec.{ltb, leb, eqb}
 use Rattle.layout.specs.Limits.{bufferPlaces, lastEpoch, mostAhead}
 use lib.ListN.{length}
 use Rattle.layout.specs.Memory.{workWords, bufferIn, slotIn, dataIn, shapeIn}
 use Rattle.board.specs.Laws.{applied-append}
 use Rattle.board.specs.Stores.{applied}
 use Rattle.layout.specs.Words.{bit}
-use Rattle.status.specs.declared.Status.{Status}
+use Rattle.status.specs.declared.Status.the-variants as status
 use Rattle.undo.specs.declared.Undo.{Undo}
 use Rattle.undo.specs.Log.{buffers, counted, flushed}
 use Rattle.cache.specs.declared.Bounds.{Bounds}
@@ -32,7 +32,7 @@ use Rattle.checks.specs.Registers.{zero, buffering, committed, stepped, restart
 use Rattle.checks.specs.View.{viewOf, boundsOf, undoOf}
 use Rattle.picl.specs.Calls.{carried, judged, loadAt, loadOutcome, loadVerdict, storeAt, storeOutcome, storeVerdict, evictAt, evictOutcome, evictVerdict, commitOutcome}
 use Rattle.picl.specs.Calls.{targetOf, scanOutcome}
-use Rattle.picl.specs.Answers.{Outcome, due}
+use Rattle.picl.specs.Answers.{Outcome, due, success, cutOff, answerOf}
 use Rattle.history.specs.Machine.{Reference, stores, commits, persists}
 use Rattle.volatile.specs.Cache.{spot-belongs, spot-holds}
 use Rattle.volatile.specs.Proper.{AtHome, FullSlot}
@@ -42,7 +42,7 @@ use Rattle.refine.specs.Empty.{Fewer, same-fewer, flush-fewer, emptying-keeps, 
 use Rattle.refine.specs.Scan.{visiting-keeps, persisting-along, persisting-ok}
 use Rattle.refine.specs.Wake.{commit-ok}
 use Rattle.refine.specs.Mark.{marking-keeps}
-use Rattle.refine.specs.Load.{loading-keeps, loading-full, loading-fewer}
+use Rattle.refine.specs.Load.{full-reads, loading-keeps, loading-full, loading-fewer}
 use Rattle.crash.specs.Statement as statement
 use Rattle.crash.specs.Statement.{Machine, answered, called}
 use Rattle.crash.specs.State.{Up, Down, Holds, is-up, is-down, up-of}
@@ -161,6 +161,17 @@ module _ {N L : ℕ} {m : Machine} {g : Reference} (up : Up N L m g) where
     load-up allowance =
         carried-kept (statement.load a allowance) allowance (m .registers) (m .registers) (m .work) _ lines loads refl refl
         (omega (arith, fewer .buffered, up .few)) refl words
+
+    pub load-up-value : (allowance : ℕ)
+        → answered allowance (m .registers) (m .board) (m .work) (due (loadOutcome (m .board) (m .work) (m .registers) a v)) .status ≡ status.Ok
+        → answered allowance (m .registers) (m .board) (m .work) (due (loadOutcome (m .board) (m .work) (m .registers) a v)) .value ≡ g .lines a
+    unfolding loadOutcome loadAt answerOf
+    load-up-value allowance = go (leb (length (loading (m .board) u (m .work) a spot .stores)) allowance)
+      where
+        go : (t : Bool) → cond t (success (loadAt (m .board) (m .work) (m .registers) u a spot)) (cutOff allowance) .status ≡ status.Ok
+            → cond t (success (loadAt (m .board) (m .work) (m .registers) u a spot)) (cutOff allowance) .value ≡ g .lines a
+        go true ok = full-reads (loads .after) (spot .slot) a home full
+        go false ok = let z : _≡_ {A = ℕ} 0 1 = cc in absurd (omega arith)
 
     pub evict-up : (allowance : ℕ)
         → Kept N L (statement.evict a allowance) g (length (m .work))

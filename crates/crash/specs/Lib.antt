@@ -4,3 +4,4 @@ pub mod Answer
 pub mod Calls
 pub mod Steps
 pub mod Power
+pub mod Theorem

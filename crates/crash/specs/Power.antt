@@ -4,14 +4,15 @@ use mathlib.Core.Path.{_≡_, refl, sym, ap, subst, _∙_}
 use mathlib.Core.Bool.{Bool, true, false, not, cond, _&&_}
 use mathlib.Core.List.{List, [], _∷_}
 use native.Mathlib.Omega.{arith}
-use borrow.Author.Tests.{lt-ltb, le-ltb, le-leb, eq-eqb, ne-eqb}
+use borrow.Author.Tests.{leb-true, lt-ltb, le-ltb, le-leb, eq-eqb, ne-eqb}
 use lib.Dec.{ltb, leb, eqb}
-use lib.ListN.{length, replicate, length-replicate}
+use lib.ListN.{length, getD, take, replicate, length-replicate}
+use lib.Seq.{take-all}
 use Rattle.layout.specs.declared.Control.{Control}
 use Rattle.layout.specs.declared.Shape.{Shape}
 use Rattle.layout.specs.Limits.{boardVersion, lastEpoch, mostLines, mostEntries, mostAhead}
-use Rattle.layout.specs.Memory.{logAt, boardWords, shapeIn, controlIn}
-use Rattle.board.specs.Stores.{applied}
+use Rattle.layout.specs.Memory.{logAt, linesAt, boardWords, shapeIn, controlIn}
+use Rattle.board.specs.Stores.{Store, applied}
 use Rattle.status.specs.declared.Status.{Status}
 use Rattle.status.specs.declared.Status.the-variants as status
 use Rattle.status.specs.Numbers.{numberOf}
@@ -26,14 +27,15 @@ use Rattle.checks.specs.Laws.{memories-view, memories-shaped}
 use Rattle.checks.specs.Refusals.{memoryRows, memoriesChecked}
 use Rattle.checks.specs.Registers as registers
 use Rattle.checks.specs.View.{viewOf, goodSizes, goodControl, goodShape, goodWork, undoOf}
-use Rattle.picl.specs.Answers.{Verdict, refused, due, answerOf, boardAfter, workAfter}
+use Rattle.picl.specs.Answers.{Verdict, refused, due, success, cutOff, answerOf, boardAfter, workAfter}
 use Rattle.picl.specs.Calls.{wakeAt, wakeVerdict, woken, powerUpVerdict}
-use Rattle.history.specs.Machine.{Reference, wakes}
+use Rattle.history.specs.Machine.{Durable, Reference, wakes}
+use Rattle.history.specs.Restore.{power-up-lines}
 use Rattle.durable.specs.Proper.{reads-passes}
 use Rattle.durable.specs.View.{Sized, Reads, undoWith}
 use Rattle.refine.specs.Along.{Along}
 use Rattle.refine.specs.State.{Off, Ok}
-use Rattle.refine.specs.Wake.{waking-along, waking-ok}
+use Rattle.refine.specs.Wake.{waking-along, waking-reads, waking-ok}
 use Rattle.volatile.specs.Slotted.{zeroWork}
 use Rattle.crash.specs.Statement as statement
 use Rattle.crash.specs.Statement.{Machine, answered, called}
@@ -41,6 +43,9 @@ use Rattle.crash.specs.State.{Up, Down, Holds, is-up, is-down, up-of, ho
 use Rattle.crash.specs.Answer.{Kept, refused-numbered, due-kept}
 
 -- ---- the tests
+
+differ : _≡_ {A = ℕ} 0 1 → ⊥
+differ e = omega arith
 
 and-true : (a b : Bool) → a ≡ true → b ≡ true → a && b ≡ true
 and-true a b p q = rw (p, q)
@@ -103,12 +108,12 @@ module _ {N L : ℕ} {board : List ℕ} {g : Reference} (off : Off N L board g) 
   module _ (passed : Shaped board lent (viewOf board lent)) where
     wake-up :
         Up N L
-          (record {
-            board = applied board (recoverStores board (undoWith (off .control) L));
-            work = replicate (length lent) 0;
-            registers = registers.woken (off .control .persisted);
-          })
-          (wakes g)
+        (record {
+          board = applied board (recoverStores board (undoWith (off .control) L));
+          work = replicate (length lent) 0;
+          registers = registers.woken (off .control .persisted);
+        })
+        (wakes g)
     wake-up =
         rw (passed .work-words)
         (up-of (waking-ok off (viewOf board lent .slots) (passed .slots-some) (passed .slots-most)) (registers.woken (off .control .persisted)) refl refl
@@ -140,3 +145,69 @@ power-up-kept {N} {L} {m} {g} h lent allowance = go (memoriesChecked (m .board) 
     go (Passed v) e =
         let same = memories-view (m .board) lent v (sym e) in
         rw same (wake-kept off lent (rw same at (memories-shaped (m .board) lent v (sym e))) allowance)
+
+-- ---- what an accepted power-up leaves
+
+module _ {N L : ℕ} {board : List ℕ} {g : Reference} (off : Off N L board g) (lent : List ℕ) where
+  abbrev ss : List Store
+  ss = recoverStores board (undoWith (off .control) L)
+
+  woken-lines : (a : ℕ) → getD (applied board ss) (linesAt L + a) 0 ≡ g .copies (g .persisted) a
+  woken-lines a = ap (λ (d : Durable). d .memory a) (waking-reads off .durable) ∙ power-up-lines (off .safe) a
+
+  -- ok: the stores were all made; otherwise cut
+  wake-lines : (allowance : ℕ) → answered allowance registers.zero board lent (wakeVerdict board lent (viewOf board lent)) .status ≡ status.Ok → (a : ℕ)
+      → getD (answered allowance registers.zero board lent (wakeVerdict board lent (viewOf board lent)) .left .board) (linesAt L + a) 0
+      ≡ g .copies (g .persisted) a
+  unfolding answerOf boardAfter wakeAt
+  wake-lines allowance = rw (wake-due off lent) (go (leb (length ss) allowance) refl)
+    where
+      go : (t : Bool) → leb (length ss) allowance ≡ t
+          → cond t (success (wakeAt board lent (undoWith (off .control) L))) (cutOff allowance) .status ≡ status.Ok → (a : ℕ)
+          → getD (applied board (take allowance ss)) (linesAt L + a) 0 ≡ g .copies (g .persisted) a
+      go true e ok a = rw (take-all allowance ss (leb-true _ _ e)) (woken-lines a)
+      go false e ok a = let z : _≡_ {A = ℕ} 0 1 = cc in absurd (omega arith)
+
+  wake-status : (allowance : ℕ) (s : Status) → answered allowance registers.zero board lent (wakeVerdict board lent (viewOf board lent)) .status ≡ s
+      → (status.Ok ≡ s → ⊥) → (status.Cut ≡ s → ⊥) → ⊥
+  unfolding answerOf wakeAt
+  wake-status allowance s = rw (wake-due off lent) (go (leb (length ss) allowance))
+    where
+      go : (t : Bool) → cond t (success (wakeAt board lent (undoWith (off .control) L))) (cutOff allowance) .status ≡ s → (status.Ok ≡ s → ⊥)
+          → (status.Cut ≡ s → ⊥) → ⊥
+      go true e p q = p e
+      go false e p q = q e
+
+module _ {N L : ℕ} {m : Machine} {g : Reference} (h : Holds N L m g) (lent : List ℕ) (allowance : ℕ) where
+  abbrev o : Off N L (m .board) g
+  o = holds-off h
+
+  pub power-up-lines-of : called m (statement.powerUp lent allowance) .status ≡ status.Ok → (a : ℕ)
+      → getD (called m (statement.powerUp lent allowance) .left .board) (linesAt L + a) 0 ≡ g .copies (g .persisted) a
+  unfolding called powerUpVerdict answerOf boardAfter
+  power-up-lines-of = go (memoriesChecked (m .board) lent) refl
+    where
+      go : (x : Checked) → memoriesChecked (m .board) lent ≡ x
+          → answered allowance registers.zero (m .board) lent (woken (m .board) lent x) .status ≡ status.Ok → (a : ℕ)
+          → getD (answered allowance registers.zero (m .board) lent (woken (m .board) lent x) .left .board) (linesAt L + a) 0 ≡ g .copies (g .persisted) a
+      go (Refused s) e =
+          λ ok a.
+          let w = memories-work (o .reads .sized) lent s (sym e) in
+          let z : _≡_ {A = ℕ} 0 1 = cc in absurd (omega arith)
+      go (Passed v) e = rw (memories-view (m .board) lent v (sym e)) (wake-lines o lent allowance)
+
+  not-refused : (s : Status) → (status.Work ≡ s → ⊥) → (status.Ok ≡ s → ⊥) → (status.Cut ≡ s → ⊥)
+      → called m (statement.powerUp lent allowance) .status ≡ s → ⊥
+  unfolding called powerUpVerdict answerOf
+  not-refused s work ok cut = go (memoriesChecked (m .board) lent) refl
+    where
+      go : (x : Checked) → memoriesChecked (m .board) lent ≡ x
+          → answered allowance registers.zero (m .board) lent (woken (m .board) lent x) .status ≡ s → ⊥
+      go (Refused t) e = λ p. work (sym (memories-work (o .reads .sized) lent t (sym e)) ∙ p)
+      go (Passed v) e = rw (memories-view (m .board) lent v (sym e)) (λ p. wake-status o lent allowance s p ok cut)
+
+  pub power-up-shape : called m (statement.powerUp lent allowance) .status ≡ status.Shape → ⊥
+  power-up-shape = not-refused status.Shape (λ e. differ cc) (λ e. differ cc) (λ e. differ cc)
+
+  pub power-up-entry : called m (statement.powerUp lent allowance) .status ≡ status.Entry → ⊥
+  power-up-entry = not-refused status.Entry (λ e. differ cc) (λ e. differ cc) (λ e. differ cc)

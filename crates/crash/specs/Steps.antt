@@ -1,7 +1,7 @@
 -- One call of a list keeps the invariant of a run, whatever it is and wherever it is cut.
 use Prim.Native.Nat.{ℕ, _+_, _-_, _≤_, _<_}
 use mathlib.Core.Path.{_≡_, refl, sym, ap, subst, _∙_}
-use mathlib.Core.Bool.{Bool, true, false, cond}
+use mathlib.Core.Bool.{Bool, true, false, cond, false≢true}
 use mathlib.Core.List.{List, [], _∷_, _++_}
 use native.Mathlib.Omega.{arith}
 use borrow.Author.Tests.{eqb-false}
@@ -9,6 +9,8 @@ use lib.Dec.{eqb}
 use lib.ListN.{length}
 use Rattle.status.specs.Numbers.{numberOf}
 use Rattle.status.specs.declared.Status.{Status}
+use Rattle.status.specs.declared.Status.the-variants as status
+use Rattle.picl.specs.Answers.{answerOf}
 use Rattle.layout.specs.Limits.{lastEpoch, mostAhead}
 use Rattle.checks.specs.declared.Checked.{Checked}
 use Rattle.checks.specs.declared.Checked.the-variants.{Refused, Passed}
@@ -25,7 +27,7 @@ use Rattle.crash.specs.Statement as statement
 use Rattle.crash.specs.Statement.{Machine, answered, called}
 use Rattle.crash.specs.State.{Up, Down, Holds, is-up, is-down}
 use Rattle.crash.specs.Answer.{Kept, refused-numbered, refused-kept}
-use Rattle.crash.specs.Calls.{down-stays, load-up, store-up, evict-up, commit-up, scan-up}
+use Rattle.crash.specs.Calls.{down-stays, load-up, load-up-value, store-up, evict-up, commit-up, scan-up}
 
 -- no row of the table refuses as 0
 line-numbered : (board work : List ℕ) (r : Registers) (a : ℕ) (s : Status) → Refused s ≡ lineChecked board work r a → eqb (numberOf s) 0 ≡ false
@@ -53,7 +55,7 @@ scan-numbered board work r s e =
     (refl, (refl, (refl, (refl, (refl, (refl, tt)))))) e
 
 module _ {N L : ℕ} {m : Machine} {g : Reference} (h : Holds N L m g) where
-  load-kept : (a allowance : ℕ) → Kept N L (statement.load a allowance) g (length (m .work)) (called m (statement.load a allowance))
+  pub load-kept : (a allowance : ℕ) → Kept N L (statement.load a allowance) g (length (m .work)) (called m (statement.load a allowance))
   unfolding called loadVerdict
   load-kept a allowance = go (lineChecked (m .board) (m .work) (m .registers) a) refl h
     where
@@ -67,7 +69,7 @@ module _ {N L : ℕ} {m : Machine} {g : Reference} (h : Holds N L m g) where
           let same = line-view (m .board) (m .work) (m .registers) a v (sym e) in
           rw same (load-up u a (rw same at (line-named (m .board) (m .work) (m .registers) a v (sym e))) allowance)
 
-  evict-kept : (a allowance : ℕ) → Kept N L (statement.evict a allowance) g (length (m .work)) (called m (statement.evict a allowance))
+  pub evict-kept : (a allowance : ℕ) → Kept N L (statement.evict a allowance) g (length (m .work)) (called m (statement.evict a allowance))
   unfolding called evictVerdict
   evict-kept a allowance = go (lineChecked (m .board) (m .work) (m .registers) a) refl h
     where
@@ -81,7 +83,7 @@ module _ {N L : ℕ} {m : Machine} {g : Reference} (h : Holds N L m g) where
           let same = line-view (m .board) (m .work) (m .registers) a v (sym e) in
           rw same (evict-up u a (rw same at (line-named (m .board) (m .work) (m .registers) a v (sym e))) allowance)
 
-  store-kept : (a value allowance : ℕ) → Kept N L (statement.store a value allowance) g (length (m .work)) (called m (statement.store a value allowance))
+  pub store-kept : (a value allowance : ℕ) → Kept N L (statement.store a value allowance) g (length (m .work)) (called m (statement.store a value allowance))
   unfolding called storeVerdict
   store-kept a value allowance = go (storeChecked (m .board) (m .work) (m .registers) a) refl h
     where
@@ -101,7 +103,7 @@ module _ {N L : ℕ} {m : Machine} {g : Reference} (h : Holds N L m g) where
           (store-up u a (rw same at (line-named (m .board) (m .work) (m .registers) a v line)) value allowance
           (rw same at (store-room (m .board) (m .work) (m .registers) a v (sym e))))
 
-  commit-kept : (allowance : ℕ) → Kept N L (statement.commit allowance) g (length (m .work)) (called m (statement.commit allowance))
+  pub commit-kept : (allowance : ℕ) → Kept N L (statement.commit allowance) g (length (m .work)) (called m (statement.commit allowance))
   unfolding called commitVerdict
   commit-kept allowance = go (commitChecked (m .board) (m .work) (m .registers)) refl h
     where
@@ -115,7 +117,7 @@ module _ {N L : ℕ} {m : Machine} {g : Reference} (h : Holds N L m g) where
           commit-up u allowance (commit-early (m .board) (m .work) (m .registers) v (sym e))
           (rw (commit-view (m .board) (m .work) (m .registers) v (sym e)) at (commit-window (m .board) (m .work) (m .registers) v (sym e)))
 
-  scan-kept : (allowance : ℕ) → Kept N L (statement.scan allowance) g (length (m .work)) (called m (statement.scan allowance))
+  pub scan-kept : (allowance : ℕ) → Kept N L (statement.scan allowance) g (length (m .work)) (called m (statement.scan allowance))
   unfolding called scanVerdict
   scan-kept allowance = go (scanChecked (m .board) (m .work) (m .registers)) refl h
     where
@@ -128,3 +130,20 @@ module _ {N L : ℕ} {m : Machine} {g : Reference} (h : Holds N L m g) where
       go (Passed v) e (is-up u) =
           let same = scan-view (m .board) (m .work) (m .registers) v (sym e) in
           rw same (scan-up u allowance (rw same at (scan-waiting (m .board) (m .work) (m .registers) v (sym e))))
+
+  -- an accepted load gives the uncached machine's line
+  pub load-value : (a allowance : ℕ) → called m (statement.load a allowance) .status ≡ status.Ok → called m (statement.load a allowance) .value ≡ g .lines a
+  unfolding called loadVerdict answerOf
+  load-value a allowance = go (lineChecked (m .board) (m .work) (m .registers) a) refl h
+    where
+      go : (x : Checked) → lineChecked (m .board) (m .work) (m .registers) a ≡ x → Holds N L m g
+          → answered allowance (m .registers) (m .board) (m .work) (judged x (loadOutcome (m .board) (m .work) (m .registers) a)) .status ≡ status.Ok
+          → answered allowance (m .registers) (m .board) (m .work) (judged x (loadOutcome (m .board) (m .work) (m .registers) a)) .value ≡ g .lines a
+      go (Refused s) e h =
+          λ ok.
+          let n = line-numbered (m .board) (m .work) (m .registers) a s (sym e) in
+          absurd (false≢true (sym (rw ok at n)))
+      go (Passed v) e (is-down d) = absurd (down-stays d v (line-running (m .board) (m .work) (m .registers) a v (sym e)))
+      go (Passed v) e (is-up u) =
+          let same = line-view (m .board) (m .work) (m .registers) a v (sym e) in
+          rw same (load-up-value u a (rw same at (line-named (m .board) (m .work) (m .registers) a v (sym e))) allowance)

@@ -17,7 +17,7 @@ use Rattle.history.specs.Restore.{restoredAll, restoredPart, part-safe, power-u
 use Rattle.durable.specs.Proper.{proper-named}
 use Rattle.durable.specs.Reads.{reads-bounded, reads-persisted}
 use Rattle.durable.specs.Recover.{recover-cut, recover-reads}
-use Rattle.durable.specs.View.{undoWith}
+use Rattle.durable.specs.View.{Reads, undoWith}
 use Rattle.volatile.specs.Proper.{withEpochs}
 use Rattle.volatile.specs.Slotted.{zeroWork, zero-slotted}
 use Rattle.volatile.specs.Swept.{swept-none, commit-slotted}
@@ -28,7 +28,7 @@ use Rattle.refine.specs.Along.{Along}
 -- ---- power-up
 
 module _ {N L : ℕ} {board : List ℕ} {g : Reference} (off : Off N L board g) where
-  abbrev u : Undo
+  abbrev pub u : Undo
   u = undoWith (off .control) L
 
   named : Every (λ x. x .address < N) (off .durable .log)
@@ -43,6 +43,9 @@ module _ {N L : ℕ} {board : List ℕ} {g : Reference} (off : Off N L board g) 
         safe = part-safe (off .safe) k;
       }
 
+  pub waking-reads : Reads N L (applied board (recoverStores board u)) (undo.emptied (off .control)) (cleared (restoredAll (off .durable)))
+  waking-reads = recover-reads u (off .reads) refl named
+
   abbrev pub wakeBounds : (slots : ℕ) → Bounds
   wakeBounds slots = record { lines = N; slots = slots; persisted = off .control .persisted; epoch = off .control .persisted + 1 }
 
@@ -52,7 +55,7 @@ module _ {N L : ℕ} {board : List ℕ} {g : Reference} (off : Off N L board g) 
       let p : off .control .persisted ≡ off .durable .persisted = reads-persisted (off .reads) in
       record {
         durable = cleared (restoredAll (off .durable));
-        reads = recover-reads u (off .reads) refl named;
+        reads = waking-reads;
         ring = refl;
         slotted = zero-slotted (wakeBounds slots) some most;
         persisted = p;
