@@ -1,1 +1,1 @@
-// The paper's worked examples, checked by proof: they stand in specs/.
+// The paper's worked examples and traps, checked by proof: they stand in specs/.

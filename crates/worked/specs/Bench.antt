@@ -1,0 +1,85 @@
+-- The bench of the worked examples: a board as the paper's replay formats it, "n 4 8 2", and one line in the cache. Every example
+-- is about line 3, which belongs in slot 1; the board has 7 for it, and a store puts 9.
+use Prim.Native.Nat.{ℕ, _-_, _*_}
+use mathlib.Core.Bool.{Bool, true, false}
+use mathlib.Core.List.{List, [], _∷_, _++_}
+use lib.ListN.{length, replicate}
+use Rattle.layout.specs.declared.Control.{Control}
+use Rattle.layout.specs.declared.Shape.{Shape}
+use Rattle.layout.specs.declared.Entry.{Entry}
+use Rattle.layout.specs.declared.Slot.{Slot}
+use Rattle.layout.specs.Limits.{boardVersion}
+use Rattle.layout.specs.Memory.{bufferWords}
+use Rattle.layout.specs.Words.{encodeControl, encodeShape, encodeEntry, encodeSlot}
+use Rattle.status.specs.declared.Status.the-variants as status
+use Rattle.checks.specs.declared.Registers.{Registers}
+use Rattle.picl.specs.declared.Answer.{Answer}
+use Rattle.picl.specs.Answers.{Verdict, due}
+use Rattle.picl.specs.Calls.{storeVerdict, evictVerdict, commitVerdict, scanVerdict, powerUpVerdict}
+
+-- words by their fields
+abbrev pub control : (persisted start length : ℕ) → Control
+control persisted start length = record { persisted = persisted; start = start; length = length }
+
+abbrev pub shape : (lines entries : ℕ) → Shape
+shape lines entries = record { version = boardVersion; lines = lines; entries = entries }
+
+abbrev pub entry : (address from till : ℕ) → Entry
+entry address from till = record { address = address; from = from; till = till }
+
+abbrev pub slot : (valid dirty : Bool) → (address tag : ℕ) → Slot
+slot valid dirty address tag = record { valid = valid; dirty = dirty; address = address; tag = tag; spare = 0 }
+
+abbrev pub clean : Slot
+clean = slot true false 3 0
+
+abbrev pub dirty : (tag : ℕ) → Slot
+dirty tag = slot true true 3 tag
+
+-- the two words of an undo entry
+abbrev pub undo : (address from till old : ℕ) → List ℕ
+undo address from till old = encodeEntry (entry address from till) ∷ old ∷ []
+
+-- W6's log
+abbrev pub twice : List ℕ
+twice = undo 3 0 2 4 ++ undo 3 0 2 6
+
+-- the memories: a board with a control word, the log's first words and line 3; a work memory with slot 1 and the buffer's first words
+abbrev padded : ℕ → List ℕ → List ℕ
+padded size words = words ++ replicate (size - length words) 0
+
+abbrev pub board : Control → (log : List ℕ) → (line : ℕ) → List ℕ
+board c log line = encodeControl c ∷ encodeShape (shape 4 8) ∷ padded (2 * 8) log ++ 0 ∷ 0 ∷ 0 ∷ line ∷ []
+
+abbrev pub work : Slot → (line : ℕ) → (buffer : List ℕ) → List ℕ
+work s line buffer = 0 ∷ 0 ∷ encodeSlot s ∷ line ∷ padded bufferWords buffer
+
+abbrev pub registers : (epoch buffered cursor : ℕ) → Registers
+registers epoch buffered cursor = record { epoch = epoch; buffered = buffered; cursor = cursor }
+
+-- a board with an empty log
+abbrev pub quiet : (persisted : ℕ) → List ℕ
+quiet persisted = board (control persisted 0 0) [] 7
+
+-- the calls that the examples make
+abbrev pub wake : Control → (log : List ℕ) → Verdict
+wake c log = powerUpVerdict (board c log 7) (work clean 7 [])
+
+abbrev pub store : (persisted epoch : ℕ) → Slot → Verdict
+store persisted epoch held = storeVerdict (quiet persisted) (work held 7 []) (registers epoch 0 0) 3 9
+
+abbrev pub evict : (buffer : List ℕ) → Verdict
+evict buffer = evictVerdict (quiet 0) (work (dirty 2) 9 buffer) (registers 2 1 0) 3
+
+abbrev pub commit : (persisted epoch : ℕ) → Verdict
+commit persisted epoch = commitVerdict (quiet persisted) (work clean 7 []) (registers epoch 0 0)
+
+abbrev pub scan : (tag : ℕ) → Verdict
+scan tag = scanVerdict (quiet 0) (work (dirty tag) 9 (undo 3 0 tag 7)) (registers 2 1 1)
+
+-- what they come to: a verdict with no store due, and an answer of number 0
+abbrev pub still : Registers → (work : List ℕ) → Verdict
+still r work = due (record { value = 0; registers = r; work = work; stores = [] })
+
+abbrev pub ok : (value stores : ℕ) → Registers → Answer
+ok value stores r = record { status = status.Ok; value = value; stores = stores; registers = r }
