@@ -1,5 +1,5 @@
 -- The paper's widths and limits. Each number has its name here and nowhere else.
-use Prim.Native.Nat.{ℕ, _-_, _^_}
+use Prim.Native.Nat.{ℕ, _+_, _-_, _*_, _^_}
 
 -- "All words are 64 bits, unsigned."
 abbrev pub wordBits : ℕ
@@ -56,3 +56,7 @@ bufferPlaces = 32
 -- "s − P ≤ 16": how far the running epoch may be ahead of the persisted one
 abbrev pub mostAhead : ℕ
 mostAhead = 16
+
+-- "No call but format and power-up makes more than 66 board stores": a line, a full buffer of two words each, and a control word
+abbrev pub mostStores : ℕ
+mostStores = 2 * bufferPlaces + 2

@@ -61,23 +61,27 @@ registers epoch buffered cursor = record { epoch = epoch; buffered = buffered; c
 abbrev pub quiet : (persisted : ℕ) → List ℕ
 quiet persisted = board (control persisted 0 0) [] 7
 
--- the calls that the examples make
+-- power-up
 abbrev pub wake : Control → (log : List ℕ) → Verdict
 wake c log = powerUpVerdict (board c log 7) (work clean 7 [])
 
+-- a store to line 3, as slot 1 holds it
 abbrev pub store : (persisted epoch : ℕ) → Slot → Verdict
 store persisted epoch held = storeVerdict (quiet persisted) (work held 7 []) (registers epoch 0 0) 3 9
 
+-- an eviction of line 3, stored to in the running epoch 2, with one entry buffered
 abbrev pub evict : (buffer : List ℕ) → Verdict
 evict buffer = evictVerdict (quiet 0) (work (dirty 2) 9 buffer) (registers 2 1 0) 3
 
+-- a commit
 abbrev pub commit : (persisted epoch : ℕ) → Verdict
 commit persisted epoch = commitVerdict (quiet persisted) (work clean 7 []) (registers epoch 0 0)
 
+-- a scan's visit of slot 1, its target 1, with line 3 stored to in epoch 1 or 2 and its entry buffered
 abbrev pub scan : (tag : ℕ) → Verdict
 scan tag = scanVerdict (quiet 0) (work (dirty tag) 9 (undo 3 0 tag 7)) (registers 2 1 1)
 
--- what they come to: a verdict with no store due, and an answer of number 0
+-- what calls come to: a verdict with no store due, and an answer of number 0
 abbrev pub still : Registers → (work : List ℕ) → Verdict
 still r work = due (record { value = 0; registers = r; work = work; stores = [] })
 

@@ -1,0 +1,110 @@
+-- "No call but format and power-up makes more than 66 board stores; power-up makes at most length + 1." On every input.
+use Prim.Native.Nat.{ℕ, _+_, _≤_}
+use mathlib.Core.Path.{_≡_, refl, ap}
+use mathlib.Core.Bool.{Bool, true, false, cond}
+use mathlib.Core.List.{List}
+use native.Mathlib.Omega.{arith}
+use borrow.Author.Tests.{leb-false}
+use lib.Dec.{ltb, leb}
+use lib.ListN.{length}
+use Rattle.layout.specs.Limits.{mostStores}
+use Rattle.layout.specs.Memory.{controlIn}
+use Rattle.status.specs.declared.Status.{Status}
+use Rattle.undo.specs.Log.{firstImproper}
+use Rattle.cache.specs.Slots.{spotOf}
+use Rattle.checks.specs.declared.Checked.{Checked}
+use Rattle.checks.specs.declared.Checked.the-variants.{Refused, Passed}
+use Rattle.checks.specs.declared.Registers.{Registers}
+use Rattle.checks.specs.declared.View.{View}
+use Rattle.checks.specs.Laws.{line-running, store-line, scan-running, memories-view}
+use Rattle.checks.specs.Refusals.{memoriesChecked, lineChecked, storeChecked, commitChecked, scanChecked}
+use Rattle.checks.specs.Registers.{zero}
+use Rattle.checks.specs.View.{viewOf, undoOf}
+use Rattle.picl.specs.Answers.{Outcome, Verdict, refused, due, success, cutOff, answerOf}
+use Rattle.picl.specs.Calls.{judged, targetOf, loadAt, loadOutcome, loadVerdict, storeAt, storeOutcome, storeVerdict}
+use Rattle.picl.specs.Calls.{evictAt, evictOutcome, evictVerdict, commitOutcome, commitVerdict, scanOutcome, scanVerdict}
+use Rattle.picl.specs.Calls.{woken, wakeAt, wakeVerdict, powerUpVerdict}
+use Rattle.bounds.specs.Costs.{either, owed, owed-most, loading-cost, evicting-cost, visiting-cost}
+use Rattle.bounds.specs.Costs.{storing-most, persisting-most, recover-most}
+
+-- A verdict owes at most n stores, and under no allowance does its answer tell of more.
+pub record Bounded (n : ℕ) (v : Verdict) : Type 0 where
+  pub owes : (o : Outcome) → v ≡ due o → length (o .stores) ≤ n
+  pub tells : (allowance : ℕ) (given : Registers) → answerOf allowance given v .stores ≤ n
+
+refused-bounded : (n : ℕ) (why : Status) (value : ℕ) → Bounded n (refused why value)
+unfolding answerOf
+refused-bounded n why value =
+    record {
+      owes = λ o e. let z : _≡_ {A = ℕ} 0 1 = cc in absurd (omega arith);
+      tells = λ allowance given. omega arith;
+    }
+
+due-bounded : (n : ℕ) (o : Outcome) → length (o .stores) ≤ n → Bounded n (due o)
+unfolding answerOf
+due-bounded n o h =
+    record {
+      owes = λ p e. let same : p ≡ o = cc in rw same h;
+      tells = λ allowance given. told allowance (leb (length (o .stores)) allowance) refl;
+    }
+  where
+    told : (allowance : ℕ) (t : Bool) → leb (length (o .stores)) allowance ≡ t → cond t (success o) (cutOff allowance) .stores ≤ n
+    told allowance true e = h
+    told allowance false e = omega (arith, leb-false (length (o .stores)) allowance e)
+
+judged-bounded : (n : ℕ) (k : Checked) (f : View → Outcome) → ((v : View) → Passed v ≡ k → length (f v .stores) ≤ n)
+    → Bounded n (judged k f)
+judged-bounded n (Refused why) f h = refused-bounded n why 0
+judged-bounded n (Passed v) f h = due-bounded n (f v) (h v refl)
+
+module _ (board work : List ℕ) (r : Registers) where
+  line-most : (address : ℕ) (v : View) → Passed v ≡ lineChecked board work r address → owed (r .buffered) + 3 ≤ mostStores
+  line-most address v p = owed-most (r .buffered) (line-running board work r address v p .buffered)
+
+  pub load-bounded : (address : ℕ) → Bounded mostStores (loadVerdict board work r address)
+  unfolding loadVerdict loadOutcome loadAt
+  load-bounded address =
+      judged-bounded mostStores (lineChecked board work r address) (loadOutcome board work r address)
+      (λ v p. omega (arith, line-most address v p, loading-cost board (undoOf v r) work address (spotOf work (v .slots) address)))
+
+  pub store-bounded : (address value : ℕ) → Bounded mostStores (storeVerdict board work r address value)
+  unfolding storeVerdict storeOutcome storeAt
+  store-bounded address value =
+      judged-bounded mostStores (storeChecked board work r address) (storeOutcome board work r address value)
+      (λ v p.
+      let spot = spotOf work (v .slots) address in
+      let most = line-most address v (store-line board work r address v p) in
+      omega (arith, most, storing-most board (undoOf v r) work address spot (r .epoch) value))
+
+  pub evict-bounded : (address : ℕ) → Bounded mostStores (evictVerdict board work r address)
+  unfolding evictVerdict evictOutcome evictAt
+  evict-bounded address =
+      judged-bounded mostStores (lineChecked board work r address) (evictOutcome work r address)
+      (λ v p. omega (arith, line-most address v p, evicting-cost (undoOf v r) work (spotOf work (v .slots) address)))
+
+  pub commit-bounded : Bounded mostStores (commitVerdict board work r)
+  unfolding commitVerdict commitOutcome
+  commit-bounded = judged-bounded mostStores (commitChecked board work r) (λ v. commitOutcome work r) (λ v p. omega arith)
+
+  pub scan-bounded : Bounded mostStores (scanVerdict board work r)
+  unfolding scanVerdict scanOutcome
+  scan-bounded =
+      judged-bounded mostStores (scanChecked board work r) (scanOutcome board work r)
+      (λ v p.
+      let most = owed-most (r .buffered) (scan-running board work r v p .buffered) in
+      either (λ (o : Outcome). length (o .stores) ≤ mostStores) (ltb (r .cursor) (v .slots))
+      (omega (arith, most, visiting-cost (undoOf v r) work (r .cursor) (targetOf v)))
+      (omega (arith, most, persisting-most board (undoOf v r) work (targetOf v))))
+
+pub power-up-bounded : (board work : List ℕ) → Bounded (controlIn board .length + 1) (powerUpVerdict board work)
+unfolding powerUpVerdict wakeVerdict wakeAt viewOf
+power-up-bounded board work = go (memoriesChecked board work) refl
+  where
+    go : (k : Checked) → k ≡ memoriesChecked board work → Bounded (controlIn board .length + 1) (woken board work k)
+    go (Refused why) e = refused-bounded _ why 0
+    go (Passed v) e =
+        let same : v .control .length ≡ controlIn board .length = ap (λ (x : View). x .control .length) (memories-view board work v e) in
+        either (Bounded (controlIn board .length + 1))
+        (ltb (firstImproper board (undoOf v zero) (v .shape .lines)) (v .control .length))
+        (refused-bounded _ _ _)
+        (due-bounded _ _ (omega (arith, recover-most board (undoOf v zero))))

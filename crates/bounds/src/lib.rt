@@ -1,0 +1,1 @@
+// How many board stores a call can owe: it stands in specs/.
