@@ -5,3 +5,4 @@ pub mod Calls
 pub mod Steps
 pub mod Power
 pub mod Theorem
+pub mod Progress

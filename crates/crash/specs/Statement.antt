@@ -1,12 +1,12 @@
 -- Demand 3 of the customer, as definitions: lists of calls on a board just formatted, cut anywhere; the uncached machine that is fed
 -- the same list; and what has to hold after every list. A step is made of the definitions that the public contracts cite.
-use Prim.Native.Nat.{ℕ, _+_, _<_}
+use Prim.Native.Nat.{ℕ, _+_, _≤_, _<_}
 use mathlib.Core.Path.{_≡_}
 use mathlib.Core.Bool.{cond}
 use mathlib.Core.List.{List, [], _∷_}
 use lib.Dec.{eqb}
-use lib.ListN.{getD}
-use Rattle.layout.specs.Memory.{linesAt, controlIn}
+use lib.ListN.{length, getD}
+use Rattle.layout.specs.Memory.{linesAt, slotsOf, controlIn}
 use Rattle.status.specs.declared.Status.{Status}
 use Rattle.status.specs.declared.Status.the-variants as status
 use Rattle.status.specs.Numbers.{numberOf}
@@ -134,3 +134,40 @@ pub record Consistent (N L : ℕ) (s : Both) : Type 0 where
   -- "a held line gives its data. Otherwise .. from memory": the uncached machine's line
   pub loads : (a allowance : ℕ) → called (s .machine) (load a allowance) .status ≡ status.Ok
       → called (s .machine) (load a allowance) .value ≡ s .reference .lines a
+
+-- ---- the scan comes to its end
+
+-- "with no cut or power-up between them"
+abbrev pub Unbroken : Both → Call → Type 0
+Unbroken s (powerUp lent k) = ⊥
+Unbroken s (load a k) = called (s .machine) (load a k) .status ≡ status.Cut → ⊥
+Unbroken s (store a v k) = called (s .machine) (store a v k) .status ≡ status.Cut → ⊥
+Unbroken s (evict a k) = called (s .machine) (evict a k) .status ≡ status.Cut → ⊥
+Unbroken s (commit k) = called (s .machine) (commit k) .status ≡ status.Cut → ⊥
+Unbroken s (scan k) = called (s .machine) (scan k) .status ≡ status.Cut → ⊥
+Unbroken s tally = Unit {0}
+
+abbrev pub Stretch : Both → List Call → Type 0
+Stretch s [] = Unit {0}
+Stretch s (c ∷ cs) = Unbroken s c × Stretch (after s c) cs
+
+-- "accepted scan calls"
+abbrev pub scanned : Both → Call → ℕ
+scanned s (scan k) = cond (eqb (numberOf (called (s .machine) (scan k) .status)) 0) 1 0
+scanned s (load a k) = 0
+scanned s (store a v k) = 0
+scanned s (evict a k) = 0
+scanned s (commit k) = 0
+scanned s tally = 0
+scanned s (powerUp lent k) = 0
+
+unfoldable pub scans : Both → List Call → ℕ
+scans s [] = 0
+scans s (c ∷ cs) = scanned s c + scans (after s c) cs
+
+-- "For a cache of S slots, after any S + 1 accepted scan calls of the list with no cut or power-up between them, whatever other calls come
+-- there, the oldest epoch that waited just before the first is persisted": the oldest that waits is p + 1
+abbrev pub Persists : Both → Type 0
+Persists s =
+    (cs : List Call) → Stretch s cs → slotsOf (length (s .machine .work)) + 1 ≤ scans s cs
+    → s .reference .persisted + 1 ≤ run s cs .reference .persisted

@@ -30,25 +30,25 @@ use Rattle.crash.specs.Answer.{Kept, refused-numbered, refused-kept}
 use Rattle.crash.specs.Calls.{down-stays, load-up, load-up-value, store-up, evict-up, commit-up, scan-up}
 
 -- no row of the table refuses as 0
-line-numbered : (board work : List ℕ) (r : Registers) (a : ℕ) (s : Status) → Refused s ≡ lineChecked board work r a → eqb (numberOf s) 0 ≡ false
+pub line-numbered : (board work : List ℕ) (r : Registers) (a : ℕ) (s : Status) → Refused s ≡ lineChecked board work r a → eqb (numberOf s) 0 ≡ false
 unfolding lineChecked
 line-numbered board work r a s e =
     refused-numbered (runningRows board work r ++ lineRows (viewOf board work) work r a) (viewOf board work) s
     (refl, (refl, (refl, (refl, (refl, (refl, tt)))))) e
 
-store-numbered : (board work : List ℕ) (r : Registers) (a : ℕ) (s : Status) → Refused s ≡ storeChecked board work r a → eqb (numberOf s) 0 ≡ false
+pub store-numbered : (board work : List ℕ) (r : Registers) (a : ℕ) (s : Status) → Refused s ≡ storeChecked board work r a → eqb (numberOf s) 0 ≡ false
 unfolding storeChecked
 store-numbered board work r a s e =
     refused-numbered ((runningRows board work r ++ lineRows (viewOf board work) work r a) ++ roomRows (viewOf board work) work r a)
     (viewOf board work) s (refl, (refl, (refl, (refl, (refl, (refl, (refl, tt))))))) e
 
-commit-numbered : (board work : List ℕ) (r : Registers) (s : Status) → Refused s ≡ commitChecked board work r → eqb (numberOf s) 0 ≡ false
+pub commit-numbered : (board work : List ℕ) (r : Registers) (s : Status) → Refused s ≡ commitChecked board work r → eqb (numberOf s) 0 ≡ false
 unfolding commitChecked
 commit-numbered board work r s e =
     refused-numbered (runningRows board work r ++ commitRows (viewOf board work) work r) (viewOf board work) s
     (refl, (refl, (refl, (refl, (refl, (refl, tt)))))) e
 
-scan-numbered : (board work : List ℕ) (r : Registers) (s : Status) → Refused s ≡ scanChecked board work r → eqb (numberOf s) 0 ≡ false
+pub scan-numbered : (board work : List ℕ) (r : Registers) (s : Status) → Refused s ≡ scanChecked board work r → eqb (numberOf s) 0 ≡ false
 unfolding scanChecked
 scan-numbered board work r s e =
     refused-numbered (runningRows board work r ++ scanRows (viewOf board work) work r) (viewOf board work) s

@@ -34,7 +34,7 @@ use Rattle.crash.specs.Steps.{load-value}
 -- ---- every list keeps the invariant
 
 -- the uncached machine does not know of a tally
-tally-fed : (number value : ℕ) (g : Reference) → fed tally number value g ≡ g
+pub tally-fed : (number value : ℕ) (g : Reference) → fed tally number value g ≡ g
 tally-fed number value g = go (eqb number 0)
   where
     go : (t : Bool) → cond t g g ≡ g
@@ -71,7 +71,7 @@ fresh-safe : (N : ℕ) → Safe N mostAhead durable.blank fresh
 unfolding recall
 fresh-safe N = record { named = refl; proper = tt; recovers = λ a. refl }
 
-start-holds : (N L : ℕ) → 0 < N → N ≤ mostLines → 0 < L → L ≤ mostEntries → Holds N L (start N L .machine) (start N L .reference)
+pub start-holds : (N L : ℕ) → 0 < N → N ≤ mostLines → 0 < L → L ≤ mostEntries → Holds N L (start N L .machine) (start N L .reference)
 start-holds N L a b c d =
     is-down
     (record {
