@@ -6,3 +6,4 @@ pub mod Steps
 pub mod Power
 pub mod Theorem
 pub mod Progress
+pub mod Proper

@@ -47,7 +47,7 @@ use Rattle.crash.specs.Answer.{Kept, refused-numbered, due-kept}
 differ : _≡_ {A = ℕ} 0 1 → ⊥
 differ e = omega arith
 
-and-true : (a b : Bool) → a ≡ true → b ≡ true → a && b ≡ true
+pub and-true : (a b : Bool) → a ≡ true → b ≡ true → a && b ≡ true
 and-true a b p q = rw (p, q)
 
 not-last : (n : ℕ) → n < lastEpoch → not (eqb n lastEpoch) ≡ true

@@ -135,6 +135,32 @@ pub record Consistent (N L : ℕ) (s : Both) : Type 0 where
   pub loads : (a allowance : ℕ) → called (s .machine) (load a allowance) .status ≡ status.Ok
       → called (s .machine) (load a allowance) .value ≡ s .reference .lines a
 
+-- ---- beyond the demand
+
+-- "registers are all zero": a cut, or a power-up that was refused or cut, leaves them so
+abbrev pub Awake : Both → Type 0
+Awake s = s .machine .registers .epoch ≡ 0 → ⊥
+
+-- the answers of a controller that is awake: shape, work, registers, slots and buffer are never at fault
+pub data Answered : Status → Type 0 where
+  ok : Answered status.Ok
+  address : Answered status.Address
+  room : Answered status.Room
+  waiting : Answered status.Waiting
+  last : Answered status.Last
+  none : Answered status.None
+  cut : Answered status.Cut
+
+pub record Sound (L : ℕ) (s : Both) : Type 0 where
+  pub loads : (a k : ℕ) → Answered (called (s .machine) (load a k) .status)
+  pub stores : (a v k : ℕ) → Answered (called (s .machine) (store a v k) .status)
+  pub evicts : (a k : ℕ) → Answered (called (s .machine) (evict a k) .status)
+  pub commits : (k : ℕ) → Answered (called (s .machine) (commit k) .status)
+  pub scans : (k : ℕ) → Answered (called (s .machine) (scan k) .status)
+  -- "8 room" only where the log and what is buffered for it fill all L entries
+  pub full : (a v k : ℕ) → called (s .machine) (store a v k) .status ≡ status.Room
+      → controlIn (s .machine .board) .length + s .machine .registers .buffered ≡ L
+
 -- ---- the scan comes to its end
 
 -- "with no cut or power-up between them"
