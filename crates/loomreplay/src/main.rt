@@ -1,0 +1,106 @@
+// Replays a script from standard input on a bench of its own, and prints a line for each call. The script may be of any length,
+// and so may its lines: input and output go through buffers of a fixed size.
+ghost use Prim.Native.Nat.{_+_, _≤_};
+ghost use lib.ListN.{length};
+ghost use Rattle.replay.specs.Contracts.{benchBoard, benchWork};
+ghost use Rattle.transcript.specs.Room.{longest, Ready, Roomy};
+use libc::STDIN_FILENO;
+use libc::STDOUT_FILENO;
+use replay::BOARD_WORDS;
+use replay::WORK_WORDS;
+use transcript::LONGEST_LINE;
+use transcript::Session;
+
+// Writes out what has been printed, where the next line may not fit behind it.
+fn make_room(session: Session, out: &[u8]) -> Session
+    requires { ⌜ session .used ≤ length (now out) ⌝ }
+    ensures { λ r. ⌜ Roomy session (now (out .entry)) r ⌝ }
+{
+    let used = session.used;
+    if out.len() - used >= LONGEST_LINE {
+        return session;
+    }
+    io::write_all(STDOUT_FILENO, &out[0..used]);
+    session.emptied()
+}
+
+fn replay_byte(
+    session: Session,
+    byte: u8,
+    board: &mut [u64],
+    work: &mut [u64],
+    out: &mut [u8],
+) -> Session
+    requires { ⌜ Ready session (now board) (now work) (now out) ⌝ }
+    ensures { λ r. ⌜ Ready r (now (board .exit)) (now (work .exit)) (now (out .exit)) ⌝ }
+{
+    let fed = transcript::feed(session, byte, board, work, out);
+    make_room(fed, out)
+}
+
+fn replay_end(session: Session, board: &mut [u64], work: &mut [u64], out: &mut [u8]) -> Session
+    requires { ⌜ Ready session (now board) (now work) (now out) ⌝ }
+    ensures { λ r. ⌜ Ready r (now (board .exit)) (now (work .exit)) (now (out .exit)) ⌝ }
+{
+    let finished = transcript::finish(session, board, work, out);
+    make_room(finished, out)
+}
+
+fn replay_bytes(
+    session: Session,
+    input: &[u8],
+    board: &mut [u64],
+    work: &mut [u64],
+    out: &mut [u8],
+) -> Session
+    requires { ⌜ Ready session (now board) (now work) (now out) ⌝ }
+    ensures { λ r. ⌜ Ready r (now (board .exit)) (now (work .exit)) (now (out .exit)) ⌝ }
+{
+    let mut s = session;
+    let mut i = 0;
+    while i < input.len() {
+        s = replay_byte(s, input[i], board, work, out);
+        i += 1;
+    }
+    s
+}
+
+// Reads once. Where nothing comes the script is at its end.
+fn replay_some(session: Session, board: &mut [u64], work: &mut [u64], out: &mut [u8]) -> Session
+    requires { ⌜ Ready session (now board) (now work) (now out) ⌝ }
+    ensures { λ r. ⌜ Ready r (now (board .exit)) (now (work .exit)) (now (out .exit)) ⌝ }
+{
+    let mut input = io::large_buffer();
+    let got = libc::read(STDIN_FILENO, &mut input);
+    let count = io::count(got, &input);
+    if count == 0 {
+        return replay_end(session, board, work, out);
+    }
+    replay_bytes(session, &input[..count], board, work, out)
+}
+
+// A proved loop has to end, and nothing says that a script does. So the loop counts its turns down from a number that no run uses up.
+fn replay_all(board: &mut [u64], work: &mut [u64], out: &mut [u8])
+    requires { ⌜ benchBoard ≤ length (now board) ⌝ }
+    requires { ⌜ benchWork ≤ length (now work) ⌝ }
+    requires { ⌜ longest ≤ length (now out) ⌝ }
+{
+    let mut session = Session::new();
+    let mut turns = u64::MAX;
+    while turns > 0 {
+        if session.over {
+            break;
+        }
+        session = replay_some(session, board, work, out);
+        turns -= 1;
+    }
+    let used = session.used;
+    io::write_all(STDOUT_FILENO, &out[0..used]);
+}
+
+fn main() {
+    let mut board = [0u64; BOARD_WORDS];
+    let mut work = [0u64; WORK_WORDS];
+    let mut out = io::large_buffer();
+    replay_all(&mut board, &mut work, &mut out);
+}

@@ -1,0 +1,253 @@
+// A replay's text: a script goes in byte by byte, and the lines that it prints are put into a buffer that the caller lends and
+// empties.
+ghost use Prim.Native.Nat.{_+_, _*_, _≤_, _<_};
+ghost use mathlib.Core.Path.{_≡_};
+ghost use lib.ListN.{length};
+ghost use Rattle.transcript.specs.Room.{longest, Within, Ready, Open, Kept, Emptied};
+use replay::Bench;
+use replay::Line;
+use replay::Reply;
+use script::Reader;
+use status::Status;
+
+// The most bytes of a line: letter, space and name, six numbers with a space before each, and the line feed.
+pub const LONGEST_LINE: usize = 137;
+
+const DIGITS: usize = 20;
+
+// A replay between two bytes of its script.
+pub struct Session {
+    pub bench: Bench,
+    pub reader: Reader,
+    // The number of the line that is being read, counted from 1, and whether it has a byte.
+    pub number: u64,
+    pub begun: bool,
+    // Whether the replay has ended: what follows in the script is not read.
+    pub over: bool,
+    // How many bytes of the buffer have been printed to.
+    pub used: usize,
+}
+
+fn put_byte(out: &mut [u8], at: usize, byte: u8) -> usize
+    requires { ⌜ at < length (now out) ⌝ }
+    ensures { λ r. ⌜ r ≡ at + 1 ⌝ }
+{
+    out[at] = byte;
+    at + 1
+}
+
+fn put(out: &mut [u8], at: usize, text: &[u8]) -> usize
+    requires { ⌜ at + length (now text) ≤ length (now out) ⌝ }
+    ensures { λ r. ⌜ r ≡ at + length (now (text .entry)) ⌝ }
+{
+    let mut i = 0;
+    while i < text.len() {
+        out[at + i] = text[i];
+        i += 1;
+    }
+    at + text.len()
+}
+
+fn put_decimal(out: &mut [u8], at: usize, n: u64) -> usize
+    requires { ⌜ at + 20 ≤ length (now out) ⌝ }
+    ensures { λ r. ⌜ Within at 20 r ⌝ }
+{
+    let mut digits = [0u8; DIGITS];
+    let count = io::decimal(n, &mut digits);
+    put(out, at, &digits[..count])
+}
+
+// Each number with a space before it.
+fn put_numbers(out: &mut [u8], at: usize, numbers: &[u64]) -> usize
+    requires { ⌜ at + 21 * length (now numbers) ≤ length (now out) ⌝ }
+    ensures { λ r. ⌜ Within at (21 * length (now (numbers .entry))) r ⌝ }
+{
+    let mut end = at;
+    let mut i = 0;
+    while i < numbers.len() {
+        end = put_byte(out, end, b' ');
+        end = put_decimal(out, end, numbers[i]);
+        i += 1;
+    }
+    end
+}
+
+// The letter, a space and the name.
+fn put_head(out: &mut [u8], at: usize, letter: u8, status: Status) -> usize
+    requires { ⌜ at + 10 ≤ length (now out) ⌝ }
+    ensures { λ r. ⌜ Within at 10 r ⌝ }
+{
+    let name = status::name_of(status.number());
+    let row = name.row;
+    let count = name.length;
+    let next = put_byte(out, at, letter);
+    let start = put_byte(out, next, b' ');
+    put(out, start, &row[0..count])
+}
+
+fn put_line(out: &mut [u8], at: usize, line: Line) -> usize
+    requires { ⌜ at + longest ≤ length (now out) ⌝ }
+    ensures { λ r. ⌜ Within at longest r ⌝ }
+{
+    let status = line.status;
+    let numbers = [
+        line.value,
+        line.stores as u64,
+        line.epoch,
+        line.persisted,
+        line.length,
+        line.buffered,
+    ];
+    let head = put_head(out, at, line.letter, status);
+    let end = put_numbers(out, head, &numbers);
+    put_byte(out, end, b'\n')
+}
+
+// A question mark and the number of the bad line.
+fn put_bad(out: &mut [u8], at: usize, number: u64) -> usize
+    requires { ⌜ at + longest ≤ length (now out) ⌝ }
+    ensures { λ r. ⌜ Within at longest r ⌝ }
+{
+    let numbers = [number];
+    let mark = put_byte(out, at, b'?');
+    let end = put_numbers(out, mark, &numbers);
+    put_byte(out, end, b'\n')
+}
+
+fn put_reply(out: &mut [u8], at: usize, reply: Reply, number: u64) -> usize
+    requires { ⌜ at + longest ≤ length (now out) ⌝ }
+    ensures { λ r. ⌜ Within at longest r ⌝ }
+{
+    match reply {
+        Reply::Quiet => at,
+        Reply::Said(line) => put_line(out, at, line),
+        Reply::Last(line) => put_line(out, at, line),
+        Reply::Bad => put_bad(out, at, number),
+    }
+}
+
+fn is_end(reply: Reply) -> bool {
+    match reply {
+        Reply::Quiet => false,
+        Reply::Said(_) => false,
+        Reply::Last(_) => true,
+        Reply::Bad => true,
+    }
+}
+
+impl Session {
+    // The replay before the first byte of its script.
+    pub fn new() -> Session
+        ensures { λ r. ⌜ Open r 0 ⌝ }
+    {
+        Session {
+            bench: Bench::new(),
+            reader: Reader::new(),
+            number: 1,
+            begun: false,
+            over: false,
+            used: 0,
+        }
+    }
+
+    // The caller has taken what was printed: the buffer is empty.
+    pub fn emptied(self) -> Session
+        ensures { λ r. ⌜ Emptied self r ⌝ }
+    {
+        let bench = self.bench;
+        let reader = self.reader;
+        Session {
+            bench,
+            reader,
+            number: self.number,
+            begun: self.begun,
+            over: self.over,
+            used: 0,
+        }
+    }
+
+    // One more byte of the line that is being read.
+    fn reading(self, byte: u8) -> Session
+        ensures { λ r. ⌜ Kept self r ⌝ }
+    {
+        let bench = self.bench;
+        let reader = self.reader;
+        Session {
+            bench,
+            reader: reader.step(byte),
+            number: self.number,
+            begun: true,
+            over: self.over,
+            used: self.used,
+        }
+    }
+
+    fn ended(self) -> Session
+        ensures { λ r. ⌜ Kept self r ⌝ }
+    {
+        let bench = self.bench;
+        let reader = self.reader;
+        Session {
+            bench,
+            reader,
+            number: self.number,
+            begun: false,
+            over: true,
+            used: self.used,
+        }
+    }
+}
+
+// The line that has been read is performed. No script has 2^64 lines, so its number does not wrap.
+fn end_line(session: Session, board: &mut [u64], work: &mut [u64], out: &mut [u8]) -> Session
+    requires { ⌜ Ready session (now board) (now work) (now out) ⌝ }
+    ensures { λ r. ⌜ Open r (session .used + longest) ⌝ }
+{
+    let bench = session.bench;
+    let reader = session.reader;
+    let step = replay::perform(board, work, bench, reader.command());
+    let after = step.bench;
+    let reply = step.reply;
+    Session {
+        bench: after,
+        reader: Reader::new(),
+        number: std::num::wrapping_add_u64(session.number, 1),
+        begun: false,
+        over: is_end(reply),
+        used: put_reply(out, session.used, reply, session.number),
+    }
+}
+
+// One byte of the script.
+pub fn feed(
+    session: Session,
+    byte: u8,
+    board: &mut [u64],
+    work: &mut [u64],
+    out: &mut [u8],
+) -> Session
+    requires { ⌜ Ready session (now board) (now work) (now out) ⌝ }
+    ensures { λ r. ⌜ Open r (session .used + longest) ⌝ }
+{
+    if session.over {
+        return session;
+    }
+    if byte == b'\n' {
+        return end_line(session, board, work, out);
+    }
+    session.reading(byte)
+}
+
+// The end of the script: a last line with no line feed is a line, if it has a byte.
+pub fn finish(session: Session, board: &mut [u64], work: &mut [u64], out: &mut [u8]) -> Session
+    requires { ⌜ Ready session (now board) (now work) (now out) ⌝ }
+    ensures { λ r. ⌜ Open r (session .used + longest) ⌝ }
+{
+    if session.over {
+        return session;
+    }
+    if !session.begun {
+        return session.ended();
+    }
+    end_line(session, board, work, out).ended()
+}
