@@ -36,7 +36,8 @@ fn put_byte(out: &mut [u8], at: usize, byte: u8) -> usize
     at + 1
 }
 
-fn put(out: &mut [u8], at: usize, text: &[u8]) -> usize
+// Puts a text into a buffer from a place on, and answers the place behind it.
+pub fn put(out: &mut [u8], at: usize, text: &[u8]) -> usize
     requires { ⌜ at + length (now text) ≤ length (now out) ⌝ }
     ensures { λ r. ⌜ r ≡ at + length (now (text .entry)) ⌝ }
 {

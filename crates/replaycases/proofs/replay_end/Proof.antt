@@ -1,0 +1,29 @@
+use native.Mathlib.Omega.{arith}
+use borrow.Author.Needs.{needs}
+use Rattle.transcript.specs.Laws.{ready-again}
+use Rattle.replaycases.proofs.replay_end.Statement.{statement}
+use Rattle.replaycases.proofs.replay_end.Tie as tie
+
+finish-requires : tie.Need-finish-requires
+finish-requires c κs = search needs
+
+keep-room-requires : tie.Need-keep-room-requires
+keep-room-requires c κs = search needs
+
+same-length : tie.Need-same-length
+same-length c = search needs
+
+same-length-2 : tie.Need-same-length-2
+same-length-2 c = search needs
+
+same-length-3 : tie.Need-same-length-3
+same-length-3 c = search needs
+
+returns : tie.Need-returns
+returns c =
+    ready-again _ _ _ _ _ _ _ _ (c .before .before .before .before .before .before .before .before .before .before .before .before .before .before .before .pre) (c .before .before .before .before .before .before .before .before .finish .ensures) (omega arith) _ (omega arith) (omega arith) (c .keep-room .ensures)
+
+pub replay-end-spec : {M : Type 1} → statement M
+replay-end-spec =
+    tie.close
+    (tie.spec finish-requires keep-room-requires same-length same-length-2 same-length-3 returns)
