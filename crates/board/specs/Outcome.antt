@@ -1,11 +1,10 @@
 -- What the meter says at the end of a call that owed the stores ss under an allowance.
 use Prim.Native.Nat.{ℕ, _-_, _<_, _≤_}
-use mathlib.Core.Path.{_≡_, refl, sym, ap, _∙_}
-use mathlib.Core.Bool.{Bool, true, false}
+use mathlib.Core.Path.{_≡_, sym, ap, _∙_}
+use mathlib.Core.Bool.{true, false}
 use mathlib.Core.List.{List}
 use native.Mathlib.Omega.{arith}
 use borrow.Author.Tests.{ltb-true, ltb-false}
-use lib.Dec.{ltb}
 use lib.ListN.{length, take}
 use Rattle.board.specs.declared.Meter.{Meter}
 use Rattle.board.specs.Stores.{Store, full, applied, stored, spent, Ran}

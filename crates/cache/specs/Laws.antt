@@ -1,15 +1,14 @@
 -- Where an address is found, and what a proper slot names.
 use Prim.Native.Nat.{ℕ, _*_, _<_, _≤_}
-use mathlib.Core.Path.{_≡_, refl, sym, ap, _∙_}
+use mathlib.Core.Path.{_≡_, refl}
 use mathlib.Core.Bool.{Bool, true, false, _||_}
 use mathlib.Core.List.{List}
 use native.Mathlib.Nat.{mod-lt}
 use native.Mathlib.Omega.{arith}
-use borrow.Author.Tests.{eqb-true, ltb-true}
+use borrow.Author.Tests.{eqb-true}
 use lib.Dec.{eqb}
 use lib.ListN.{getD}
 use Rattle.base.specs.Tests.{held}
-use Rattle.layout.specs.declared.Slot.{Slot}
 use Rattle.layout.specs.Laws.{decode-zero-slot}
 use Rattle.layout.specs.Memory.{slotIn}
 use Rattle.layout.specs.Words.{decodeSlot}

@@ -1,21 +1,20 @@
 -- What a passed check tells of the view and the registers.
 use Prim.Native.Nat.{ℕ, _+_, _-_, _<_, _≤_}
-use mathlib.Core.Path.{_≡_, refl, sym, ap, _∙_}
+use mathlib.Core.Path.{_≡_, refl, ap, _∙_}
 use mathlib.Core.Bool.{Bool, true, false, not, cond, _&&_, false≢true}
 use mathlib.Core.List.{List, [], _∷_, _++_}
 use native.Mathlib.Omega.{arith}
-use borrow.Author.Tests.{leb-true, ltb-true, eqb-true, eqb-false, leb-false, ltb-false, lt-ltb, not-true, not-false}
-use lib.Dec.{ltb, leb, eqb}
+use borrow.Author.Tests.{eqb-false, leb-false, ltb-false, lt-ltb, not-true, not-false}
+use lib.Dec.{ltb}
 use lib.ListN.{length, getD}
-use Rattle.base.specs.Tests.{and-left, and-right, held}
-use Rattle.layout.specs.Limits.{lastEpoch, mostLines, mostEntries, mostSlots, bufferPlaces, mostAhead}
+use Rattle.base.specs.Tests.{held}
+use Rattle.layout.specs.Limits.{lastEpoch, mostAhead}
 use Rattle.layout.specs.Laws.{decoded-fits-control}
-use Rattle.layout.specs.Memory.{boardWords, workWords, slotsOf, controlAt}
+use Rattle.layout.specs.Memory.{slotsOf, controlAt}
 use Rattle.layout.specs.Words.{ControlFits}
 use Rattle.status.specs.declared.Status.{Status}
 use Rattle.cache.specs.Slots.{properAt, properFor, spotOf}
 use Rattle.cache.specs.Effects.{undoDue}
-use Rattle.checks.specs.declared.Checked.{Checked}
 use Rattle.checks.specs.declared.Checked.the-variants.{Refused, Passed}
 use Rattle.checks.specs.declared.Registers.{Registers}
 use Rattle.checks.specs.declared.View.{View}

@@ -1,8 +1,8 @@
 -- From a verdict to what a run keeps: a refusal leaves both machines, a cut leaves a board that recovers, and a call that goes through
 -- moves both.
-use Prim.Native.Nat.{ℕ, _+_, _≤_, _<_}
-use mathlib.Core.Path.{_≡_, refl, sym, ap, subst, _∙_}
-use mathlib.Core.Bool.{Bool, true, false, cond, false≢true}
+use Prim.Native.Nat.{ℕ}
+use mathlib.Core.Path.{_≡_, refl}
+use mathlib.Core.Bool.{Bool, true, false, cond}
 use mathlib.Core.List.{List, [], _∷_}
 use native.Mathlib.Omega.{arith}
 use borrow.Author.Tests.{leb-true, leb-false}
@@ -12,8 +12,7 @@ use lib.Seq.{take-all}
 use Rattle.board.specs.Stores.{applied}
 use Rattle.status.specs.declared.Status.{Status}
 use Rattle.status.specs.Numbers.{numberOf}
-use Rattle.checks.specs.declared.Checked.{Checked}
-use Rattle.checks.specs.declared.Checked.the-variants.{Refused, Passed}
+use Rattle.checks.specs.declared.Checked.the-variants.{Refused}
 use Rattle.checks.specs.declared.Registers.{Registers}
 use Rattle.checks.specs.declared.View.{View}
 use Rattle.checks.specs.Refusals.{Row, tested}

@@ -1,14 +1,14 @@
 -- Each call keeps the invariant of a run, refused, cut or accepted.
-use Prim.Native.Nat.{ℕ, _+_, _-_, _≤_, _<_}
+use Prim.Native.Nat.{ℕ, _+_, _≤_, _<_}
 use mathlib.Core.Path.{_≡_, refl, sym, ap, subst, _∙_}
 use mathlib.Core.Bool.{Bool, true, false, not, cond, _&&_, _||_}
-use mathlib.Core.List.{List, [], _∷_, _++_}
+use mathlib.Core.List.{List}
 use native.Mathlib.Omega.{arith}
 use borrow.Author.Tests.{ltb-true, ltb-false, eqb-false, ne-eqb}
 use lib.Dec.{ltb, leb, eqb}
 use Rattle.layout.specs.Limits.{bufferPlaces, lastEpoch, mostAhead}
 use lib.ListN.{length}
-use Rattle.layout.specs.Memory.{workWords, bufferIn, slotIn, dataIn, shapeIn}
+use Rattle.layout.specs.Memory.{workWords, bufferIn, slotIn, dataIn}
 use Rattle.board.specs.Laws.{applied-append}
 use Rattle.board.specs.Stores.{applied}
 use Rattle.layout.specs.Words.{bit}
@@ -21,16 +21,12 @@ use Rattle.cache.specs.Effects.{Effect, nothing, flushing, flushingIf, writingO
 use Rattle.cache.specs.Effects.{storing, evicting, sweeping, visiting, persisting}
 use Rattle.cache.specs.Laws.{spot-below}
 use Rattle.cache.specs.Slots.{spotOf, holds, dirtied}
-use Rattle.checks.specs.declared.Checked.{Checked}
-use Rattle.checks.specs.declared.Checked.the-variants.{Refused, Passed}
 use Rattle.checks.specs.declared.Registers.{Registers}
 use Rattle.checks.specs.declared.View.{View}
-use Rattle.checks.specs.Laws.{line-view, line-running, line-named}
 use Rattle.checks.specs.Contracts.{Running}
-use Rattle.checks.specs.Refusals.{runningRows, lineRows, lineChecked}
-use Rattle.checks.specs.Registers.{zero, buffering, committed, stepped, restarted}
+use Rattle.checks.specs.Registers.{buffering, committed, stepped, restarted}
 use Rattle.checks.specs.View.{viewOf, boundsOf, undoOf}
-use Rattle.picl.specs.Calls.{carried, judged, loadAt, loadOutcome, loadVerdict, storeAt, storeOutcome, storeVerdict, evictAt, evictOutcome, evictVerdict, commitOutcome}
+use Rattle.picl.specs.Calls.{carried, loadAt, loadOutcome, storeAt, storeOutcome, evictAt, evictOutcome, commitOutcome}
 use Rattle.picl.specs.Calls.{targetOf, scanOutcome}
 use Rattle.picl.specs.Answers.{Outcome, due, success, cutOff, answerOf}
 use Rattle.history.specs.Machine.{Reference, stores, commits, persists}
@@ -44,9 +40,9 @@ use Rattle.refine.specs.Wake.{commit-ok}
 use Rattle.refine.specs.Mark.{marking-keeps}
 use Rattle.refine.specs.Load.{full-reads, loading-keeps, loading-full, loading-fewer}
 use Rattle.crash.specs.Statement as statement
-use Rattle.crash.specs.Statement.{Machine, answered, called}
-use Rattle.crash.specs.State.{Up, Down, Holds, is-up, is-down, up-of}
-use Rattle.crash.specs.Answer.{Kept, refused-numbered, refused-kept, due-kept}
+use Rattle.crash.specs.Statement.{Machine, answered}
+use Rattle.crash.specs.State.{Up, Down, up-of}
+use Rattle.crash.specs.Answer.{Kept, due-kept}
 
 -- with the current off no call but a power-up passes its tests
 pub down-stays : {N L : ℕ} {m : Machine} {g : Reference} → Down N L m g → (v : View) → Running (m .board) (m .work) (m .registers) v → ⊥

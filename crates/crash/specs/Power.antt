@@ -1,46 +1,40 @@
 -- A power-up keeps the invariant of a run from any state, and never answers 1 or 3.
-use Prim.Native.Nat.{ℕ, _+_, _-_, _≤_, _<_}
-use mathlib.Core.Path.{_≡_, refl, sym, ap, subst, _∙_}
+use Prim.Native.Nat.{ℕ, _+_, _<_}
+use mathlib.Core.Path.{_≡_, refl, sym, ap, _∙_}
 use mathlib.Core.Bool.{Bool, true, false, not, cond, _&&_}
-use mathlib.Core.List.{List, [], _∷_}
+use mathlib.Core.List.{List}
 use native.Mathlib.Omega.{arith}
 use borrow.Author.Tests.{leb-true, lt-ltb, le-ltb, le-leb, eq-eqb, ne-eqb}
-use lib.Dec.{ltb, leb, eqb}
+use lib.Dec.{leb, eqb}
 use lib.ListN.{length, getD, take, replicate, length-replicate}
 use lib.Seq.{take-all}
 use Rattle.layout.specs.declared.Control.{Control}
 use Rattle.layout.specs.declared.Shape.{Shape}
-use Rattle.layout.specs.Limits.{boardVersion, lastEpoch, mostLines, mostEntries, mostAhead}
-use Rattle.layout.specs.Memory.{logAt, linesAt, boardWords, shapeIn, controlIn}
+use Rattle.layout.specs.Limits.{lastEpoch, mostLines, mostEntries, mostAhead}
+use Rattle.layout.specs.Memory.{logAt, linesAt, boardWords, controlIn}
 use Rattle.board.specs.Stores.{Store, applied}
 use Rattle.status.specs.declared.Status.{Status}
 use Rattle.status.specs.declared.Status.the-variants as status
-use Rattle.status.specs.Numbers.{numberOf}
-use Rattle.undo.specs.declared.Undo.{Undo}
-use Rattle.undo.specs.Log.{firstImproper, recoverStores, emptied}
+use Rattle.undo.specs.Log.{firstImproper, recoverStores}
 use Rattle.checks.specs.declared.Checked.{Checked}
 use Rattle.checks.specs.declared.Checked.the-variants.{Refused, Passed}
-use Rattle.checks.specs.declared.Registers.{Registers}
-use Rattle.checks.specs.declared.View.{View}
 use Rattle.checks.specs.Contracts.{Shaped}
 use Rattle.checks.specs.Laws.{memories-view, memories-shaped}
-use Rattle.checks.specs.Refusals.{memoryRows, memoriesChecked}
+use Rattle.checks.specs.Refusals.{memoriesChecked}
 use Rattle.checks.specs.Registers as registers
 use Rattle.checks.specs.View.{viewOf, goodSizes, goodControl, goodShape, goodWork, undoOf}
-use Rattle.picl.specs.Answers.{Verdict, refused, due, success, cutOff, answerOf, boardAfter, workAfter}
+use Rattle.picl.specs.Answers.{refused, due, success, cutOff, answerOf, boardAfter, workAfter}
 use Rattle.picl.specs.Calls.{wakeAt, wakeVerdict, woken, powerUpVerdict}
 use Rattle.history.specs.Machine.{Durable, Reference, wakes}
 use Rattle.history.specs.Restore.{power-up-lines}
 use Rattle.durable.specs.Proper.{reads-passes}
-use Rattle.durable.specs.View.{Sized, Reads, undoWith}
-use Rattle.refine.specs.Along.{Along}
+use Rattle.durable.specs.View.{Sized, undoWith}
 use Rattle.refine.specs.State.{Off, Ok}
 use Rattle.refine.specs.Wake.{waking-along, waking-reads, waking-ok}
-use Rattle.volatile.specs.Slotted.{zeroWork}
 use Rattle.crash.specs.Statement as statement
 use Rattle.crash.specs.Statement.{Machine, answered, called}
-use Rattle.crash.specs.State.{Up, Down, Holds, is-up, is-down, up-of, holds-off}
-use Rattle.crash.specs.Answer.{Kept, refused-numbered, due-kept}
+use Rattle.crash.specs.State.{Up, Holds, is-down, up-of, holds-off}
+use Rattle.crash.specs.Answer.{Kept, due-kept}
 
 -- ---- the tests
 

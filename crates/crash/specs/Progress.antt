@@ -10,7 +10,7 @@ use lib.Dec.{ltb, leb, eqb}
 use lib.ListN.{length}
 use Rattle.layout.specs.declared.Control.{Control}
 use Rattle.layout.specs.Limits.{mostLines, mostEntries}
-use Rattle.layout.specs.Memory.{slotsOf, controlIn}
+use Rattle.layout.specs.Memory.{slotsOf}
 use Rattle.status.specs.declared.Status.{Status}
 use Rattle.status.specs.declared.Status.the-variants as status
 use Rattle.status.specs.Numbers.{numberOf}
@@ -18,7 +18,7 @@ use Rattle.checks.specs.declared.Checked.{Checked}
 use Rattle.checks.specs.declared.Checked.the-variants.{Refused, Passed}
 use Rattle.checks.specs.declared.Registers.{Registers}
 use Rattle.checks.specs.declared.View.{View}
-use Rattle.checks.specs.Laws.{scan-running, scan-view, scan-waiting}
+use Rattle.checks.specs.Laws.{scan-running, scan-view}
 use Rattle.checks.specs.Refusals.{lineChecked, storeChecked, commitChecked, scanChecked}
 use Rattle.checks.specs.View.{viewOf}
 use Rattle.picl.specs.Answers as picl
@@ -30,7 +30,7 @@ use Rattle.history.specs.Recall.{below-or-not}
 use Rattle.durable.specs.Reads.{reads-persisted}
 use Rattle.crash.specs.Statement.{Call, load, store, evict, commit, scan, tally, powerUp, Machine, Outcome, answered, called, accepted, fed}
 use Rattle.crash.specs.Statement.{Both, after, run, start, Unbroken, Stretch, scanned, scans, Persists}
-use Rattle.crash.specs.State.{Up, Down, Holds, is-up, is-down, holds-off}
+use Rattle.crash.specs.State.{Up, Holds, is-up, is-down, holds-off}
 use Rattle.crash.specs.Steps.{line-numbered, store-numbered, commit-numbered, scan-numbered}
 use Rattle.crash.specs.Steps.{load-kept, store-kept, evict-kept, commit-kept, scan-kept}
 use Rattle.crash.specs.Calls.{down-stays, visit, persist}

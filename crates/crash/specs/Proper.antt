@@ -1,14 +1,13 @@
 -- A controller that is awake passes its tests: only what a call asks for can be refused.
 use Prim.Native.Nat.{ℕ, zero, suc, _+_, _-_, _≤_, _<_}
-use mathlib.Core.Path.{_≡_, refl, sym, ap, subst, _∙_}
+use mathlib.Core.Path.{_≡_, refl, ap}
 use mathlib.Core.Bool.{Bool, true, false, not, cond, _&&_, _||_}
-use mathlib.Core.List.{List, [], _∷_, _++_}
+use mathlib.Core.List.{List}
 use native.Mathlib.Omega.{arith}
 use borrow.Author.Tests.{lt-ltb, le-leb, eq-eqb, ne-eqb, ltb-true}
 use lib.Dec.{ltb, leb, eqb}
 use lib.ListN.{length}
-use Rattle.base.specs.Tests.{and-left, and-right}
-use Rattle.layout.specs.declared.Shape.{Shape}
+use Rattle.base.specs.Tests.{and-right}
 use Rattle.layout.specs.Limits.{lastEpoch, mostLines, mostEntries, mostSlots, bufferPlaces, mostAhead}
 use Rattle.layout.specs.Memory.{bufferIn, slotsOf, workWords, controlIn, shapeIn}
 use Rattle.status.specs.declared.Status.{Status}
@@ -16,13 +15,11 @@ use Rattle.status.specs.declared.Status.the-variants as status
 use Rattle.cache.specs.Effects.{undoDue}
 use Rattle.cache.specs.Laws.{spot-below}
 use Rattle.cache.specs.Slots.{spotOf, properAt, properFor}
-use Rattle.checks.specs.declared.Checked.{Checked}
 use Rattle.checks.specs.declared.Checked.the-variants.{Refused, Passed}
 use Rattle.checks.specs.declared.Registers.{Registers}
 use Rattle.checks.specs.declared.View.{View}
-use Rattle.checks.specs.Refusals.{Row, tested, runningRows, lineRows, roomRows, commitRows, scanRows}
 use Rattle.checks.specs.Refusals.{lineChecked, storeChecked, commitChecked, scanChecked}
-use Rattle.checks.specs.View.{viewOf, boundsOf, undoOf, goodShape, goodWork, properEpoch, properCounts, properRegisters, goodBuffer}
+use Rattle.checks.specs.View.{viewOf, boundsOf, goodShape, goodWork, properEpoch, properCounts, properRegisters, goodBuffer}
 use Rattle.history.specs.Machine.{Reference}
 use Rattle.history.specs.Lines.{entries-proper}
 use Rattle.volatile.specs.Buffer.{entries-buffer-proper}

@@ -1,7 +1,7 @@
 -- The invariant of a run: a controller at work on its board, or a board with the current off and registers that every call but a
 -- power-up refuses.
-use Prim.Native.Nat.{ℕ, _+_, _-_, _*_, _/_, _≤_, _<_}
-use mathlib.Core.Path.{_≡_, refl, sym, ap, subst, _∙_}
+use Prim.Native.Nat.{ℕ, _<_}
+use mathlib.Core.Path.{_≡_, sym, ap, subst, _∙_}
 use mathlib.Core.List.{List}
 use native.Mathlib.Omega.{arith}
 use lib.ListN.{length}
@@ -12,7 +12,6 @@ use Rattle.layout.specs.Memory.{slotsOf, workWords, shapeIn, controlIn}
 use Rattle.undo.specs.declared.Undo.{Undo}
 use Rattle.cache.specs.declared.Bounds.{Bounds}
 use Rattle.checks.specs.declared.Registers.{Registers}
-use Rattle.checks.specs.declared.View.{View}
 use Rattle.checks.specs.Registers.{zero}
 use Rattle.checks.specs.View.{viewOf, boundsOf, undoOf}
 use Rattle.history.specs.Machine.{Reference}

@@ -12,7 +12,6 @@ use Rattle.status.specs.declared.Status.the-variants as status
 use Rattle.status.specs.Numbers.{numberOf}
 use Rattle.checks.specs.declared.Registers.{Registers}
 use Rattle.checks.specs.Registers.{zero}
-use Rattle.picl.specs.declared.Answer.{Answer}
 use Rattle.picl.specs.Answers.{Verdict, answerOf, boardAfter, workAfter}
 use Rattle.picl.specs.Calls.{loadVerdict, storeVerdict, evictVerdict, commitVerdict, scanVerdict, powerUpVerdict, tallyReport, formatted}
 use Rattle.history.specs.Machine.{Reference, stores, commits, persists, wakes}

@@ -1,21 +1,17 @@
 -- One call of a list keeps the invariant of a run, whatever it is and wherever it is cut.
-use Prim.Native.Nat.{ℕ, _+_, _-_, _≤_, _<_}
-use mathlib.Core.Path.{_≡_, refl, sym, ap, subst, _∙_}
-use mathlib.Core.Bool.{Bool, true, false, cond, false≢true}
-use mathlib.Core.List.{List, [], _∷_, _++_}
-use native.Mathlib.Omega.{arith}
-use borrow.Author.Tests.{eqb-false}
+use Prim.Native.Nat.{ℕ, _+_}
+use mathlib.Core.Path.{_≡_, refl, sym}
+use mathlib.Core.Bool.{true, false, false≢true}
+use mathlib.Core.List.{List, _++_}
 use lib.Dec.{eqb}
 use lib.ListN.{length}
 use Rattle.status.specs.Numbers.{numberOf}
 use Rattle.status.specs.declared.Status.{Status}
 use Rattle.status.specs.declared.Status.the-variants as status
 use Rattle.picl.specs.Answers.{answerOf}
-use Rattle.layout.specs.Limits.{lastEpoch, mostAhead}
 use Rattle.checks.specs.declared.Checked.{Checked}
 use Rattle.checks.specs.declared.Checked.the-variants.{Refused, Passed}
 use Rattle.checks.specs.declared.Registers.{Registers}
-use Rattle.checks.specs.declared.View.{View}
 use Rattle.checks.specs.Laws.{line-view, line-running, line-named, store-line, store-room}
 use Rattle.checks.specs.Laws.{commit-running, commit-view, commit-window, commit-early, scan-running, scan-view, scan-waiting}
 use Rattle.checks.specs.Refusals.{runningRows, lineRows, roomRows, commitRows, scanRows, lineChecked, storeChecked, commitChecked, scanChecked}
@@ -25,7 +21,7 @@ use Rattle.picl.specs.Calls.{scanOutcome, scanVerdict}
 use Rattle.history.specs.Machine.{Reference}
 use Rattle.crash.specs.Statement as statement
 use Rattle.crash.specs.Statement.{Machine, answered, called}
-use Rattle.crash.specs.State.{Up, Down, Holds, is-up, is-down}
+use Rattle.crash.specs.State.{Holds, is-up, is-down}
 use Rattle.crash.specs.Answer.{Kept, refused-numbered, refused-kept}
 use Rattle.crash.specs.Calls.{down-stays, load-up, load-up-value, store-up, evict-up, commit-up, scan-up}
 

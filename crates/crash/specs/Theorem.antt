@@ -1,32 +1,24 @@
 -- Demand 3: after every list of calls, cut anywhere, the board recovers to the uncached machine's copy of the persisted epoch.
-use Prim.Native.Nat.{ℕ, _+_, _≤_, _<_}
-use mathlib.Core.Path.{_≡_, refl, sym, ap, subst, _∙_}
+use Prim.Native.Nat.{ℕ, _≤_, _<_}
+use mathlib.Core.Path.{_≡_, refl, ap, _∙_}
 use mathlib.Core.Bool.{Bool, true, false, cond}
-use mathlib.Core.List.{List, [], _∷_, _++_}
-use native.Mathlib.Omega.{arith}
-use lib.Dec.{leb, eqb}
-use lib.ListN.{length, getD, take, replicate}
+use mathlib.Core.List.{List, [], _∷_}
+use lib.Dec.{eqb}
 use Rattle.layout.specs.declared.Control.{Control}
 use Rattle.layout.specs.Limits.{mostLines, mostEntries, mostAhead}
-use Rattle.layout.specs.Memory.{linesAt, controlIn, dataIn}
-use Rattle.board.specs.Stores.{applied}
-use Rattle.status.specs.declared.Status.{Status}
 use Rattle.status.specs.declared.Status.the-variants as status
 use Rattle.status.specs.Numbers.{numberOf}
 use Rattle.checks.specs.declared.Registers.{Registers}
-use Rattle.checks.specs.Registers.{zero}
-use Rattle.picl.specs.Calls.{formatted, tallyReport}
-use Rattle.history.specs.Machine.{Durable, Reference, wakes, recall}
+use Rattle.picl.specs.Calls.{formatted}
+use Rattle.history.specs.Machine.{Reference, wakes, recall}
 use Rattle.history.specs.Invariant.{Safe}
 use Rattle.durable.specs.Format as durable
 use Rattle.durable.specs.Format.{format-reads}
 use Rattle.durable.specs.Reads.{reads-persisted}
-use Rattle.durable.specs.Zeros.{zeros, zeroControl}
-use Rattle.refine.specs.State.{Off, Ok}
+use Rattle.durable.specs.Zeros.{zeroControl}
 use Rattle.crash.specs.Statement.{Call, load, store, evict, commit, scan, tally, powerUp, Machine, called, fed, fresh, Both, after, run, start}
-use Rattle.crash.specs.Statement.{persistedOn, lineOn, Consistent}
-use Rattle.crash.specs.State.{Up, Down, Holds, is-up, is-down, holds-off}
-use Rattle.crash.specs.Answer.{Kept}
+use Rattle.crash.specs.Statement.{persistedOn, Consistent}
+use Rattle.crash.specs.State.{Holds, is-down, holds-off}
 use Rattle.crash.specs.Steps.{load-kept, store-kept, evict-kept, commit-kept, scan-kept}
 use Rattle.crash.specs.Power.{power-up-kept, power-up-lines-of, power-up-shape, power-up-entry}
 use Rattle.crash.specs.Steps.{load-value}

@@ -1,7 +1,7 @@
 -- "Fields are packed most significant bit first, widths in bits."
 -- One packing for every word: a list of widths, and a value for each.
 use Prim.Native.Nat.{ℕ, _+_, _*_, _/_, _%_, _^_, _<_}
-use mathlib.Core.Path.{_≡_, refl, sym, ap, ap₂, _∙_}
+use mathlib.Core.Path.{_≡_, refl, sym, ap₂, _∙_}
 use mathlib.Core.List.{List, [], _∷_}
 use native.Mathlib.Nat.{mod-lt, mod-mod, mod-eq-of-lt}
 use lib.Arith.{digits-lt, lt-one}

@@ -1,29 +1,27 @@
 -- Emptying a slot, and filling it from the board, keep the invariant.
 use Prim.Native.Nat.{ℕ, _+_, _≤_, _<_}
-use mathlib.Core.Path.{_≡_, refl, sym, ap, subst, _∙_}
+use mathlib.Core.Path.{_≡_, refl, sym, subst, _∙_}
 use mathlib.Core.Bool.{Bool, true, false, cond}
 use mathlib.Core.List.{List, []}
 use native.Mathlib.Omega.{arith}
-use lib.ListN.{getD}
 use Rattle.layout.specs.declared.Slot.{Slot}
 use Rattle.layout.specs.Limits.{mostAhead}
-use Rattle.layout.specs.Memory.{linesAt, bufferIn, slotIn, dataIn}
-use Rattle.board.specs.Stores.{Store, applied}
+use Rattle.layout.specs.Memory.{bufferIn, slotIn, dataIn}
+use Rattle.board.specs.Stores.{applied}
 use Rattle.undo.specs.declared.Undo.{Undo}
 use Rattle.undo.specs.Log as undo
 use Rattle.undo.specs.Log.{buffers}
 use Rattle.cache.specs.declared.Bounds.{Bounds}
-use Rattle.cache.specs.Effects.{Effect, nothing, flushing, flushingIf, writingOut, clearing, emptying, lineIn, bringing}
-use Rattle.cache.specs.Slots.{holds, cleanSlot, dirtySlot, zeroed, filled}
-use Rattle.history.specs.Machine.{Line, absent, clean, dirty, update, Durable, Volatile, Reference, written, holding}
+use Rattle.cache.specs.Effects.{nothing, flushingIf, writingOut, clearing, emptying}
+use Rattle.cache.specs.Slots.{holds, cleanSlot, dirtySlot}
+use Rattle.history.specs.Machine.{Line, absent, clean, dirty, update, Volatile, Reference, written}
 use Rattle.history.specs.Invariant.{Live}
-use Rattle.history.specs.Keeps.{fill-live, discard-live}
+use Rattle.history.specs.Keeps.{discard-live}
 use Rattle.history.specs.Recall.{here-or-there, update-same, update-other}
-use Rattle.volatile.specs.Cache.{cacheOf, cache-at, cache-clean}
-use Rattle.volatile.specs.Held.{empty-held}
-use Rattle.volatile.specs.Proper.{AtHome, FullSlot, is-clean, is-dirty, ProperSlot, is-empty, is-full, full-holds}
+use Rattle.volatile.specs.Cache.{cacheOf, cache-clean}
+use Rattle.volatile.specs.Proper.{AtHome, is-clean, is-dirty, ProperSlot, is-empty, is-full, full-holds}
 use Rattle.volatile.specs.Slotted.{slot-kind}
-use Rattle.volatile.specs.Stores.{Stored, zeroed-empty, zeroed-held, filled-empty}
+use Rattle.volatile.specs.Stores.{Stored, zeroed-empty, zeroed-held}
 use Rattle.volatile.specs.Swept.{swept-stored, clean-after}
 use Rattle.volatile.specs.ZeroWord.{emptySlot}
 use Rattle.volatile.specs.View.{volatileOf, withLines}

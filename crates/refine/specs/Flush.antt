@@ -1,5 +1,5 @@
 -- A flush keeps the invariant, at every cut.
-use Prim.Native.Nat.{ℕ, zero, suc, _+_, _≤_, _<_}
+use Prim.Native.Nat.{ℕ, zero, suc, _+_, _≤_}
 use mathlib.Core.Path.{_≡_, refl, sym, ap, subst, _∙_}
 use mathlib.Core.Bool.{Bool, true, false}
 use mathlib.Core.List.{List, [], _∷_, _++_}
@@ -7,12 +7,12 @@ use native.Mathlib.Numerals.{add-one}
 use native.Mathlib.Omega.{arith}
 use Rattle.layout.specs.Limits.{mostAhead}
 use Rattle.layout.specs.Memory.{bufferIn}
-use Rattle.board.specs.Stores.{Store, applied}
+use Rattle.board.specs.Stores.{applied}
 use Rattle.undo.specs.declared.Undo.{Undo}
 use Rattle.undo.specs.Log as undo
 use Rattle.cache.specs.declared.Bounds.{Bounds}
-use Rattle.cache.specs.Effects.{Effect, withBuffer, nothing, flushing, flushingIf}
-use Rattle.history.specs.Machine.{Entry, Volatile, Reference, flushed, unbuffered}
+use Rattle.cache.specs.Effects.{Effect, nothing, flushing, flushingIf}
+use Rattle.history.specs.Machine.{Entry, Volatile, Reference, flushed}
 use Rattle.history.specs.Invariant.{Live}
 use Rattle.history.specs.Keeps.{flush-safe, flush-live}
 use Rattle.durable.specs.View as durable

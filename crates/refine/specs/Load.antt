@@ -1,28 +1,25 @@
 -- Bringing a line into its slot keeps the invariant, and a line in its slot reads as the reference machine has it.
-use Prim.Native.Nat.{ℕ, _+_, _≤_, _<_}
-use mathlib.Core.Path.{_≡_, refl, sym, ap, subst, _∙_}
+use Prim.Native.Nat.{ℕ, _+_, _<_}
+use mathlib.Core.Path.{_≡_, refl, sym, ap, _∙_}
 use mathlib.Core.Bool.{Bool, true, false}
 use mathlib.Core.List.{List}
 use lib.ListN.{getD}
-use Rattle.layout.specs.Limits.{mostAhead}
 use Rattle.layout.specs.Memory.{linesAt, slotIn, dataIn}
 use Rattle.board.specs.Stores.{applied}
 use Rattle.undo.specs.declared.Undo.{Undo}
 use Rattle.cache.specs.declared.Bounds.{Bounds}
 use Rattle.cache.specs.declared.Spot.{Spot}
 use Rattle.cache.specs.Effects.{emptying, lineIn, bringing, loading}
-use Rattle.cache.specs.Slots.{holds, cleanSlot, filled}
-use Rattle.history.specs.Machine.{absent, clean, Durable, Volatile, Reference}
-use Rattle.history.specs.Invariant.{Live}
+use Rattle.cache.specs.Slots.{holds, cleanSlot}
+use Rattle.history.specs.Machine.{absent, Durable, Reference}
 use Rattle.history.specs.Keeps.{fill-live}
 use Rattle.history.specs.Lines.{held-as}
 use Rattle.volatile.specs.Cache.{cacheOf, cache-at, cache-clean, cache-dirty}
-use Rattle.volatile.specs.Held.{heldBy, empty-held}
+use Rattle.volatile.specs.Held.{empty-held}
 use Rattle.volatile.specs.Proper.{AtHome, FullSlot, is-clean, is-dirty}
 use Rattle.volatile.specs.Slotted.{slot-full}
 use Rattle.volatile.specs.Stores.{filled-empty}
 use Rattle.volatile.specs.Swept.{swept-stored, clean-after}
-use Rattle.volatile.specs.View.{volatileOf}
 use Rattle.refine.specs.State.{Ok}
 use Rattle.refine.specs.Flush.{Keeps, nothing-keeps}
 use Rattle.refine.specs.WriteOut.{ok-with}

@@ -1,32 +1,31 @@
 -- A store to a held line keeps the invariant: the undo entry that it makes, and the flush of a full buffer.
 use Prim.Native.Nat.{ℕ, zero, suc, _+_, _^_, _≤_, _<_}
 use mathlib.Core.Path.{_≡_, refl, sym, ap, subst, _∙_}
-use mathlib.Core.Bool.{Bool, true, false, cond}
-use mathlib.Core.List.{List, []}
+use mathlib.Core.Bool.{true, false}
+use mathlib.Core.List.{List}
 use native.Mathlib.Decide.{ℕ-discrete}
 use native.Mathlib.Omega.{arith}
 use borrow.Author.Tests.{eq-eqb, ne-eqb}
 use lib.Dec.{eqb}
-use Rattle.layout.specs.declared.Entry as packed
 use Rattle.layout.specs.Limits.{epochBits, bufferPlaces, mostAhead}
 use Rattle.layout.specs.Memory.{slotIn, dataIn}
 use Rattle.board.specs.Stores.{applied}
 use Rattle.undo.specs.declared.Undo.{Undo}
 use Rattle.undo.specs.Log.{counted}
 use Rattle.cache.specs.declared.Bounds.{Bounds}
-use Rattle.cache.specs.Effects.{Effect, flushingIf, entryDue, entryFor, logged, marking}
+use Rattle.cache.specs.Effects.{flushingIf, entryDue, entryFor, logged, marking}
 use Rattle.cache.specs.Slots.{holds, cleanSlot, dirtySlot, dirtied}
-use Rattle.history.specs.Machine.{Line, clean, dirty, update, Durable, Volatile, Reference, stores, holding, marked}
+use Rattle.history.specs.Machine.{Line, dirty, Volatile, Reference, stores, marked}
 use Rattle.history.specs.Invariant.{Live}
 use Rattle.history.specs.Keeps.{store-safe, store-clean-live, store-committed-live, store-transient-live}
 use Rattle.durable.specs.Reads.{reads-persisted}
 use Rattle.volatile.specs.Cache.{cache-clean, cache-dirty}
-use Rattle.volatile.specs.Proper.{AtHome, FullSlot, is-clean, is-dirty, full-holds, DirtyAfter}
+use Rattle.volatile.specs.Proper.{AtHome, FullSlot, is-clean, is-dirty, full-holds}
 use Rattle.volatile.specs.Stores.{Stored, dirtied-held}
 use Rattle.volatile.specs.Swept.{SweptTo, swept-none, swept-stored, swept-logged}
 use Rattle.volatile.specs.View.{volatileOf, undoFields, marked-stored, view-marked}
-use Rattle.refine.specs.State.{Off, Ok}
-use Rattle.refine.specs.Along.{Along, along-none, off-for}
+use Rattle.refine.specs.State.{Ok}
+use Rattle.refine.specs.Along.{along-none, off-for}
 use Rattle.refine.specs.Flush.{Keeps, flushing-if-keeps}
 use Rattle.refine.specs.WriteOut.{ok-with}
 

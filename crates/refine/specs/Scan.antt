@@ -2,31 +2,28 @@
 use Prim.Native.Nat.{ℕ, _+_, _≤_, _<_}
 use mathlib.Core.Path.{_≡_, refl, sym, ap, subst, _∙_}
 use mathlib.Core.Bool.{Bool, true, false, cond, _&&_, false≢true}
-use mathlib.Core.List.{List, [], _++_}
+use mathlib.Core.List.{List}
 use native.Mathlib.Omega.{arith}
 use lib.Dec.{eqb}
-use Rattle.layout.specs.Limits.{lastEpoch, mostAhead}
 use Rattle.layout.specs.Memory.{bufferIn, slotIn, dataIn}
 use Rattle.board.specs.Laws.{applied-append}
-use Rattle.board.specs.Stores.{one, applied}
+use Rattle.board.specs.Stores.{applied}
 use Rattle.undo.specs.declared.Undo.{Undo}
 use Rattle.undo.specs.Log as undo
 use Rattle.undo.specs.Log.{buffers, advanceStores, dropped}
 use Rattle.cache.specs.declared.Bounds.{Bounds}
 use Rattle.cache.specs.Effects.{nothing, flushingIf, writingOut, sweeping, visiting, persisting}
-use Rattle.cache.specs.Slots.{holds, cleanSlot, dirtySlot, cleaned}
-use Rattle.history.specs.Machine.{clean, Volatile, Reference, persists, advanced}
-use Rattle.history.specs.Invariant.{Live}
+use Rattle.cache.specs.Slots.{holds, cleanSlot, dirtySlot}
+use Rattle.history.specs.Machine.{clean, Reference, persists, advanced}
 use Rattle.history.specs.Keeps.{advance-safe, advance-live}
 use Rattle.durable.specs.Advance.{advance-reads}
 use Rattle.layout.specs.declared.Slot.{Slot}
 use Rattle.base.specs.Tests.{and-left}
 use Rattle.volatile.specs.Buffer.{buffer-none}
-use Rattle.volatile.specs.Proper.{AtHome, FullSlot, is-clean, is-dirty, ProperSlot, is-empty, is-full, full-holds, withEpochs}
+use Rattle.volatile.specs.Proper.{AtHome, is-clean, is-dirty, ProperSlot, is-empty, is-full, full-holds, withEpochs}
 use Rattle.volatile.specs.Slotted.{slot-kind}
 use Rattle.volatile.specs.Stores.{cleaned-held}
 use Rattle.volatile.specs.Swept.{swept-none, SweptTo, swept-visited, swept-passed, swept-scanned, clean-after, advance-slotted}
-use Rattle.volatile.specs.View.{volatileOf}
 use Rattle.refine.specs.State.{Ok}
 use Rattle.refine.specs.Along.{Along, along-none, along-one, along-then}
 use Rattle.refine.specs.Flush.{Keeps, ok-off, flushing-if-keeps}

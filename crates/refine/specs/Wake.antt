@@ -1,6 +1,6 @@
 -- Power-up keeps a board recoverable at every cut and wakes a controller; a commit keeps the invariant.
 use Prim.Native.Nat.{ℕ, _+_, _≤_, _<_}
-use mathlib.Core.Path.{_≡_, refl, sym, ap, subst, _∙_}
+use mathlib.Core.Path.{_≡_, refl}
 use mathlib.Core.List.{List}
 use native.Mathlib.Omega.{arith}
 use Rattle.layout.specs.Limits.{lastEpoch, mostSlots, mostAhead}
@@ -9,9 +9,8 @@ use Rattle.undo.specs.declared.Undo.{Undo}
 use Rattle.undo.specs.Log as undo
 use Rattle.undo.specs.Log.{recoverStores}
 use Rattle.cache.specs.declared.Bounds.{Bounds}
-use Rattle.history.specs.Machine.{Entry, Durable, Volatile, Reference, wakes, commits, cleared}
+use Rattle.history.specs.Machine.{Reference, wakes, commits, cleared}
 use Rattle.history.specs.Every.{Every}
-use Rattle.history.specs.Invariant.{Live}
 use Rattle.history.specs.Keeps.{commit-safe, commit-live}
 use Rattle.history.specs.Restore.{restoredAll, restoredPart, part-safe, power-up-safe, power-up-live}
 use Rattle.durable.specs.Proper.{proper-named}

@@ -2,33 +2,32 @@
 use Prim.Native.Nat.{ℕ, _+_, _≤_, _<_}
 use mathlib.Core.Path.{_≡_, refl, sym, ap, subst, _∙_}
 use mathlib.Core.Bool.{Bool, true, false}
-use mathlib.Core.List.{List, [], _++_}
-use native.Mathlib.Omega.{arith}
+use mathlib.Core.List.{List, _++_}
 use Rattle.layout.specs.declared.Slot.{Slot}
 use Rattle.layout.specs.Limits.{mostAhead}
 use Rattle.layout.specs.Memory.{linesAt, bufferIn, slotIn, dataIn}
 use Rattle.board.specs.Laws.{applied-append}
-use Rattle.board.specs.Stores.{Store, one, applied}
+use Rattle.board.specs.Stores.{one, applied}
 use Rattle.undo.specs.declared.Undo.{Undo}
 use Rattle.undo.specs.Log as undo
 use Rattle.undo.specs.Log.{buffers}
 use Rattle.cache.specs.declared.Bounds.{Bounds}
-use Rattle.cache.specs.Effects.{Effect, withBuffer, flushingIf}
-use Rattle.cache.specs.Slots.{holds, dirtySlot}
-use Rattle.history.specs.Machine.{Entry, Line, clean, dirty, update, Durable, Volatile, Reference, Silent, written, holding, recall}
+use Rattle.cache.specs.Effects.{Effect, flushingIf}
+use Rattle.cache.specs.Slots.{dirtySlot}
+use Rattle.history.specs.Machine.{Line, clean, dirty, Durable, Volatile, Reference, Silent, written, holding, recall}
 use Rattle.history.specs.Invariant.{Safe, Live}
 use Rattle.history.specs.Keeps.{write-out-safe, write-out-live}
 use Rattle.durable.specs.View.{Reads}
 use Rattle.durable.specs.Seen.{line-reads}
 use Rattle.volatile.specs.Buffer.{bufferOf, none-silent}
-use Rattle.volatile.specs.Cache.{cacheOf, cache-dirty}
-use Rattle.volatile.specs.Proper.{AtHome, is-dirty, full-holds, DirtyAfter}
-use Rattle.volatile.specs.Slotted.{Slotted, with-slot, with-value, slot-kind}
+use Rattle.volatile.specs.Cache.{cache-dirty}
+use Rattle.volatile.specs.Proper.{AtHome}
+use Rattle.volatile.specs.Slotted.{Slotted, with-slot, with-value}
 use Rattle.volatile.specs.Stores.{Stored, LineStored}
 use Rattle.volatile.specs.Swept.{SweptTo}
 use Rattle.volatile.specs.View.{volatileOf, withLines, view-stored, flushed-words}
-use Rattle.refine.specs.State.{Off, Ok}
-use Rattle.refine.specs.Along.{Along, along-one, along-then}
+use Rattle.refine.specs.State.{Ok}
+use Rattle.refine.specs.Along.{along-one, along-then}
 use Rattle.refine.specs.Flush.{Keeps, ok-off, flushing-if-keeps}
 
 -- Slot k is stored to, and the board may have moved: all else stays.

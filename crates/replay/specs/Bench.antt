@@ -19,7 +19,7 @@ use Rattle.replay.specs.declared.Reply.{Reply}
 use Rattle.replay.specs.declared.Reply.the-variants.{Quiet, Said, Last, Bad}
 use Rattle.replay.specs.declared.Bench.{Bench}
 use Rattle.replay.specs.declared.Step.{Step}
-use Rattle.replay.specs.Calls.{Left, fullAllowance, letterOf, isOk, called, woken, within}
+use Rattle.replay.specs.Calls.{fullAllowance, letterOf, isOk, called, woken, within}
 
 -- "N ≤ 2,048, L ≤ 1,024, S ≤ 64"
 abbrev pub mostLines : ℕ

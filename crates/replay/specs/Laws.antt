@@ -1,11 +1,11 @@
 -- One law for each way out of a function: its premises are what the code knows there, its conclusion is the contract.
-use Prim.Native.Nat.{ℕ, _+_, _-_, _*_, _≤_}
+use Prim.Native.Nat.{ℕ, _+_, _-_, _≤_}
 use mathlib.Core.Path.{_≡_, refl, sym, ap, _∙_}
 use mathlib.Core.Bool.{Bool, true, false, cond, not}
 use mathlib.Core.List.{List, _++_}
 use borrow.Author.Tests.{eq-eqb, ne-eqb, not-true, not-false}
 use native.Mathlib.Omega.{arith}
-use lib.ListN.{length, getD, take, drop}
+use lib.ListN.{getD, take, drop}
 use Rattle.base.specs.Tests.{held}
 use Rattle.layout.specs.declared.Control.{Control}
 use Rattle.layout.specs.Memory.{controlAt, linesAt, workWords}
@@ -24,14 +24,14 @@ use Rattle.replay.specs.declared.Call.{Call}
 use Rattle.replay.specs.declared.Call.the-variants as call
 use Rattle.replay.specs.declared.Line.{Line}
 use Rattle.replay.specs.declared.Reply.{Reply}
-use Rattle.replay.specs.declared.Reply.the-variants.{Quiet, Said, Last}
+use Rattle.replay.specs.declared.Reply.the-variants.{Said, Last}
 use Rattle.replay.specs.declared.Bench.{Bench}
 use Rattle.replay.specs.declared.Step.{Step}
-use Rattle.replay.specs.Calls.{Left, fullAllowance, left, letterOf, called, reported, woken, within}
+use Rattle.replay.specs.Calls.{Left, fullAllowance, left, letterOf, called, woken, within}
 use Rattle.replay.specs.Bench.{Effect, mostLines, mostEntries, mostSlots, goodSizes, newBench, readyBench, answeredBench, lineWith, lineOf, startReply}
 use Rattle.replay.specs.Bench.{refusedStep, refusing, readyStep, allowedStep, allowing}
 use Rattle.replay.specs.Bench.{running, calling, starting, formatting, performed}
-use Rattle.replay.specs.Contracts.{Leaves, Performs, Sized, Lent, Sizes}
+use Rattle.replay.specs.Contracts.{Leaves, Performs, Lent, Sizes}
 
 -- ── the calls, on the words that they are lent ──
 

@@ -1,7 +1,6 @@
 -- Lines that the definition reads as the paper does: of its worked script those of each kind, and the bounds.
-use Prim.Native.Nat.{ℕ}
 use mathlib.Core.Path.{_≡_, refl}
-use mathlib.Core.List.{List, [], _∷_}
+use mathlib.Core.List.{[], _∷_}
 use Rattle.script.specs.declared.Command.the-variants.{Format, Store, Load, Evict, Commit, Scan, PowerUp, Allow, Bad}
 use Rattle.script.specs.Syntax.{fields, every, isNumber, commandWith, commandIn, commandOf}
 

@@ -20,7 +20,7 @@ use Rattle.script.specs.declared.Reader.{Reader}
 use Rattle.replay.specs.declared.Bench.{Bench}
 use Rattle.replay.specs.declared.Step.{Step}
 use Rattle.replay.specs.Bench.{newBench, performed}
-use Rattle.replay.specs.Contracts.{benchBoard, benchWork, Sized, Performs}
+use Rattle.replay.specs.Contracts.{benchBoard, benchWork, Performs}
 use Rattle.replay.specs.Sizes.{new-sized, performed-sized}
 use Rattle.transcript.specs.declared.Session.{Session}
 use Rattle.transcript.specs.Room.{longest, Within, Ready, Open, Kept, Emptied, Roomy}

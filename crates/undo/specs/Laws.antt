@@ -1,6 +1,5 @@
 -- The log's numbers stay sound from step to step.
-use Prim.Native.Nat.{ℕ, _+_, _<_, _≤_}
-use mathlib.Core.Path.{_≡_}
+use Prim.Native.Nat.{_+_, _<_, _≤_}
 use native.Mathlib.Omega.{arith}
 use Rattle.layout.specs.Limits.{bufferPlaces}
 use Rattle.undo.specs.declared.Undo.{Undo}
