@@ -1,0 +1,50 @@
+-- `model::refusals::buffer_proper` is safe and ends. The loop needs no invariant. The measure is the turns left. Assumes nothing.
+use borrow.Author.Needs.{needs}
+use Prim.Native.Nat.{_-_}
+use Rattle.model.proofs.refusals.buffer_proper.Statement.{statement}
+use Rattle.model.proofs.refusals.buffer_proper.Tie as tie
+
+abbrev Inv-loop : tie.InvT-loop
+Inv-loop m count i₀ i = Unit {0}
+
+abbrev μ-loop : tie.MeasureT-loop
+μ-loop m count i₀ i = count - i
+
+loop-holds : tie.Need-loop-holds Inv-loop μ-loop
+loop-holds c = search needs
+
+buffer-entry-requires : tie.Need-buffer-entry-requires Inv-loop μ-loop
+buffer-entry-requires c κs = search needs
+
+buffer-entry-proper-requires : tie.Need-buffer-entry-proper-requires Inv-loop μ-loop
+buffer-entry-proper-requires c κs = search needs
+
+returns : tie.Need-returns Inv-loop μ-loop
+returns c = search needs
+
+add-i : tie.Need-add-i Inv-loop μ-loop
+add-i c = search needs
+
+loop-less : tie.Need-loop-less Inv-loop μ-loop
+loop-less c = search needs
+
+loop-again : tie.Need-loop-again Inv-loop μ-loop
+loop-again c = search needs
+
+returns-2 : tie.Need-returns-2 Inv-loop μ-loop
+returns-2 c = search needs
+
+pub buffer-proper-spec : {M : Type 1} → statement M
+buffer-proper-spec =
+    tie.close
+    (tie.spec
+    Inv-loop
+    μ-loop
+    loop-holds
+    buffer-entry-requires
+    buffer-entry-proper-requires
+    returns
+    add-i
+    loop-less
+    loop-again
+    returns-2)

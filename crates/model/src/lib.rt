@@ -1,0 +1,201 @@
+// A second model of the cache log, written from the paper "PiCL cache log for loom controller
+// boards" alone, for a test program to compare with the library. Each call decodes the lent words
+// into a `Machine`, tests it, works on it, and last makes the board stores that are due. The
+// comments quote the paper. The model takes boards of up to words::BOARD_CAPACITY words; for a
+// larger one each call answers refusals::TOO_LARGE and touches nothing.
+mod effects;
+mod finish;
+mod machine;
+mod reference_machine;
+mod refusals;
+mod words;
+
+use effects::*;
+use finish::*;
+use machine::decoded;
+pub use reference_machine::Reference;
+use refusals::*;
+use words::*;
+
+// The paper's registers s, b and c.
+pub struct Registers {
+    pub epoch: u64,
+    pub buffered: u64,
+    pub cursor: u64,
+}
+
+// A call's answer: its number in the table, its value, the board stores made, the registers.
+pub struct Answer {
+    pub number: u64,
+    pub value: u64,
+    pub stores: u64,
+    pub registers: Registers,
+}
+
+// "Format (N, L): every board word zero, but for the shape word. Not protected against a cut;
+// reports 0 stores."
+pub fn format(board: &mut [u64], lines: u64, entries: u64) -> Answer {
+    if board.len() > BOARD_CAPACITY {
+        return refused(TOO_LARGE, no_registers());
+    }
+    if !size_good(board.len() as u64, lines, entries) {
+        return refused(SHAPE, no_registers());
+    }
+    zero_all(board);
+    set_word(board, SHAPE_PLACE, shape_word(lines, entries));
+    Answer {
+        number: OK,
+        value: 0,
+        stores: 0,
+        registers: no_registers(),
+    }
+}
+
+// "3 entry: .. value is i of the first"; "registers as given (power-up: all zero)".
+fn entry_refused(i: u64) -> Answer {
+    Answer {
+        number: ENTRY,
+        value: i,
+        stores: 0,
+        registers: no_registers(),
+    }
+}
+
+// Power-up: rows 1, 2, 3 and 12 of the table. Of the registers "Power-up takes none and returns
+// them"; refused, it returns them "all zero".
+pub fn power_up(board: &mut [u64], work: &mut [u64], allowance: u32) -> Answer {
+    let number = memory_refusal(board, work);
+    if number != OK {
+        return refused(number, no_registers());
+    }
+    let m = decoded(board, work, no_registers());
+    let improper = first_improper(m);
+    if improper < m.control.length {
+        return entry_refused(improper);
+    }
+    finished(board, work, powered_up(m), allowance)
+}
+
+// Load (a): rows 1, 2, 4 to 7 and 12; then what `loaded` says.
+pub fn load(
+    board: &mut [u64],
+    work: &mut [u64],
+    registers: Registers,
+    address: u64,
+    allowance: u32,
+) -> Answer {
+    let number = memory_refusal(board, work);
+    if number != OK {
+        return refused(number, registers);
+    }
+    let m = decoded(board, work, registers);
+    let number = line_refusal(m, address);
+    if number != OK {
+        return refused(number, registers);
+    }
+    finished(board, work, loaded(m, address), allowance)
+}
+
+// Store (a, value): rows 1, 2, 4 to 8 and 12; then what `stored` says.
+pub fn store(
+    board: &mut [u64],
+    work: &mut [u64],
+    registers: Registers,
+    address: u64,
+    value: u64,
+    allowance: u32,
+) -> Answer {
+    let number = memory_refusal(board, work);
+    if number != OK {
+        return refused(number, registers);
+    }
+    let m = decoded(board, work, registers);
+    let number = store_refusal(m, address);
+    if number != OK {
+        return refused(number, registers);
+    }
+    finished(board, work, stored(m, address, value), allowance)
+}
+
+// Evict (a): rows 1, 2, 4 to 7 and 12; then what `evicted` says.
+pub fn evict(
+    board: &mut [u64],
+    work: &mut [u64],
+    registers: Registers,
+    address: u64,
+    allowance: u32,
+) -> Answer {
+    let number = memory_refusal(board, work);
+    if number != OK {
+        return refused(number, registers);
+    }
+    let m = decoded(board, work, registers);
+    let number = line_refusal(m, address);
+    if number != OK {
+        return refused(number, registers);
+    }
+    finished(board, work, evicted(m, address), allowance)
+}
+
+// Commit: rows 1, 2, 4, 7, 9 and 10, and no store is ever due; then what `committed` says.
+pub fn commit(board: &mut [u64], work: &mut [u64], registers: Registers, allowance: u32) -> Answer {
+    let number = memory_refusal(board, work);
+    if number != OK {
+        return refused(number, registers);
+    }
+    let m = decoded(board, work, registers);
+    let number = commit_refusal(m);
+    if number != OK {
+        return refused(number, registers);
+    }
+    finished(board, work, committed(m), allowance)
+}
+
+// Scan: rows 1, 2, 4, 6, 7, 11 and 12; then what `scanned` says.
+pub fn scan(board: &mut [u64], work: &mut [u64], registers: Registers, allowance: u32) -> Answer {
+    let number = memory_refusal(board, work);
+    if number != OK {
+        return refused(number, registers);
+    }
+    let m = decoded(board, work, registers);
+    let number = scan_refusal(m);
+    if number != OK {
+        return refused(number, registers);
+    }
+    finished(board, work, scanned(m), allowance)
+}
+
+// One slot word of the tally: "whose valid and dirty bits are both 1, whatever else they hold".
+fn tallied(word: u64) -> u64 {
+    let slot = slot_of(word, 0);
+    if !slot.valid {
+        return 0;
+    }
+    if !slot.dirty {
+        return 0;
+    }
+    1
+}
+
+// "the number of slot words whose valid and dirty bits are both 1".
+fn dirty_count(work: &[u64]) -> u64 {
+    let slots = slot_count(work.len() as u64);
+    let mut count = 0;
+    for k in 0..slots {
+        count = sum(count, tallied(word_at(work, slot_place(k))));
+    }
+    count
+}
+
+// Tally: row 2 alone.
+pub fn tally(work: &[u64]) -> Answer {
+    if !work_good(work.len() as u64) {
+        return refused(WORK, no_registers());
+    }
+    Answer {
+        number: OK,
+        value: dirty_count(work),
+        stores: 0,
+        registers: no_registers(),
+    }
+}

@@ -1,0 +1,306 @@
+// The table of "What an answer says": its numbers, and the tests of each, lowest number first.
+use crate::machine::*;
+use crate::words::*;
+
+// "Returned: number, name".
+pub const OK: u64 = 0;
+
+pub const SHAPE: u64 = 1;
+
+pub const WORK: u64 = 2;
+
+pub const ENTRY: u64 = 3;
+
+pub const REGISTERS: u64 = 4;
+
+pub const ADDRESS: u64 = 5;
+
+pub const SLOT: u64 = 6;
+
+pub const BUFFER: u64 = 7;
+
+pub const ROOM: u64 = 8;
+
+pub const WAITING: u64 = 9;
+
+pub const LAST: u64 = 10;
+
+pub const NONE: u64 = 11;
+
+pub const CUT: u64 = 12;
+
+// Not in the paper: the model does not take a board of more than BOARD_CAPACITY words.
+pub const TOO_LARGE: u64 = 99;
+
+// "s - P <= 16" and "b <= 31" of the proper registers.
+const MOST_WAITING: u64 = 16;
+
+const MOST_BUFFERED: u64 = 31;
+
+// "1 shape: fewer than 2 board words; .. N or L out of range; wrong word count": "Format's shape
+// test reads its arguments and the word count only."
+pub fn size_good(words: u64, lines: u64, entries: u64) -> bool {
+    if lines < 1 {
+        return false;
+    }
+    if lines > MOST_LINES {
+        return false;
+    }
+    if entries < 1 {
+        return false;
+    }
+    if entries > MOST_ENTRIES {
+        return false;
+    }
+    words == 2 + 2 * entries + lines
+}
+
+// "24 bits not zero; .. P = 2^24 - 1; start >= L; length > L".
+fn fields_good(shape: Shape, control: Control) -> bool {
+    if shape.zero != 0 {
+        return false;
+    }
+    if control.persisted == LAST_EPOCH {
+        return false;
+    }
+    if control.start >= shape.entries {
+        return false;
+    }
+    control.length <= shape.entries
+}
+
+// All of row 1, of a board of any words.
+fn shape_good(board: &[u64]) -> bool {
+    if board.len() < 2 {
+        return false;
+    }
+    let shape = shape_of(word_at(board, SHAPE_PLACE));
+    let control = control_of(word_at(board, CONTROL_PLACE));
+    if !size_good(board.len() as u64, shape.lines, shape.entries) {
+        return false;
+    }
+    fields_good(shape, control)
+}
+
+// "2 work: work memory is not 2S + 64 words, S 1 to 256".
+pub fn work_good(words: u64) -> bool {
+    let slots = slot_count(words);
+    if slots < 1 {
+        return false;
+    }
+    if slots > MOST_SLOTS as u64 {
+        return false;
+    }
+    words == 2 * slots + BUFFER_WORDS
+}
+
+// Rows 1 and 2, the tests of the two memories' sizes.
+pub fn memory_refusal(board: &[u64], work: &[u64]) -> u64 {
+    if board.len() > BOARD_CAPACITY {
+        return TOO_LARGE;
+    }
+    if !shape_good(board) {
+        return SHAPE;
+    }
+    if !work_good(work.len() as u64) {
+        return WORK;
+    }
+    OK
+}
+
+// "A proper log entry has address < N, ValidFrom < ValidTill, P < ValidTill, and a ValidTill not
+// below that of the next older entry." For the oldest, `older_till` is 0.
+fn log_entry_proper(entry: Entry, lines: u64, persisted: u64, older_till: u64) -> bool {
+    if entry.address >= lines {
+        return false;
+    }
+    if entry.valid_from >= entry.valid_till {
+        return false;
+    }
+    if persisted >= entry.valid_till {
+        return false;
+    }
+    entry.valid_till >= older_till
+}
+
+// "3 entry: a log entry is not proper; value is i of the first, oldest counted 0": that i, or the
+// log's length where all are proper.
+pub fn first_improper(m: Machine) -> u64 {
+    let length = m.control.length;
+    let mut older_till = 0;
+    for i in 0..length {
+        let entry = log_entry(m, i);
+        if !log_entry_proper(entry, m.line_count, m.control.persisted, older_till) {
+            return i;
+        }
+        older_till = entry.valid_till;
+    }
+    length
+}
+
+// "Proper registers: P < s <= 2^24 - 1, s - P <= 16, b <= 31, c <= S, c = 0 where s = P + 1,
+// length + b <= L."
+fn registers_proper(m: Machine) -> bool {
+    let epoch = m.registers.epoch;
+    let persisted = m.control.persisted;
+    if epoch <= persisted {
+        return false;
+    }
+    if epoch > LAST_EPOCH {
+        return false;
+    }
+    if epoch - persisted > MOST_WAITING {
+        return false;
+    }
+    if m.registers.buffered > MOST_BUFFERED {
+        return false;
+    }
+    if m.registers.cursor > m.slot_count {
+        return false;
+    }
+    if epoch == persisted + 1 {
+        if m.registers.cursor != 0 {
+            return false;
+        }
+    }
+    sum(m.control.length, m.registers.buffered) <= m.entry_count
+}
+
+// "A proper slot word is zero, or is valid with the 22 bits zero, address < N, address mod S its
+// slot, and either clean with tag 0 or dirty with P < tag <= s."
+fn slot_proper(m: Machine, k: u64) -> bool {
+    let slot = slot_at(m, k);
+    if slot_word(slot) == 0 {
+        return true;
+    }
+    if !slot.valid {
+        return false;
+    }
+    if slot.zero != 0 {
+        return false;
+    }
+    if slot.address >= m.line_count {
+        return false;
+    }
+    if home_slot(slot.address, m.slot_count) != k {
+        return false;
+    }
+    tag_proper(slot, m.control.persisted, m.registers.epoch)
+}
+
+// "either clean with tag 0 or dirty with P < tag <= s".
+fn tag_proper(slot: Slot, persisted: u64, epoch: u64) -> bool {
+    if !slot.dirty {
+        return slot.tag == 0;
+    }
+    if slot.tag <= persisted {
+        return false;
+    }
+    slot.tag <= epoch
+}
+
+// "A proper buffered entry has address < N and ValidFrom < ValidTill <= s."
+fn buffer_entry_proper(entry: Entry, lines: u64, epoch: u64) -> bool {
+    if entry.address >= lines {
+        return false;
+    }
+    if entry.valid_from >= entry.valid_till {
+        return false;
+    }
+    entry.valid_till <= epoch
+}
+
+// "7 buffer: a buffered entry is not proper".
+fn buffer_proper(m: Machine) -> bool {
+    let count = m.registers.buffered;
+    for i in 0..count {
+        let entry = buffer_entry(m, i);
+        if !buffer_entry_proper(entry, m.line_count, m.registers.epoch) {
+            return false;
+        }
+    }
+    true
+}
+
+// Rows 4 to 7 of load, store and evict: "5 address: a >= N"; "6 slot: the slot visited is not
+// proper: slot a mod S".
+pub fn line_refusal(m: Machine, address: u64) -> u64 {
+    if !registers_proper(m) {
+        return REGISTERS;
+    }
+    if address >= m.line_count {
+        return ADDRESS;
+    }
+    if !slot_proper(m, home_slot(address, m.slot_count)) {
+        return SLOT;
+    }
+    if !buffer_proper(m) {
+        return BUFFER;
+    }
+    OK
+}
+
+// Whether a store makes an undo entry: "a clean line makes the entry P, s ..; a dirty line with
+// tag t < s makes t, s ..; tag s makes none." A line not held is loaded first, so it is clean.
+pub fn undo_due(m: Machine, address: u64) -> bool {
+    if !holds(m, address) {
+        return true;
+    }
+    let slot = slot_at(m, home_slot(address, m.slot_count));
+    if !slot.dirty {
+        return true;
+    }
+    slot.tag < m.registers.epoch
+}
+
+// Rows 4 to 7, then "8 room: an undo entry is due and length + b + 1 > L".
+pub fn store_refusal(m: Machine, address: u64) -> u64 {
+    let number = line_refusal(m, address);
+    if number != OK {
+        return number;
+    }
+    if !undo_due(m, address) {
+        return OK;
+    }
+    if sum(sum(m.control.length, m.registers.buffered), 1) > m.entry_count {
+        return ROOM;
+    }
+    OK
+}
+
+// Rows 4 and 7 of commit; "9 waiting: s - P = 16"; "10 last: s = 2^24 - 1".
+pub fn commit_refusal(m: Machine) -> u64 {
+    if !registers_proper(m) {
+        return REGISTERS;
+    }
+    if !buffer_proper(m) {
+        return BUFFER;
+    }
+    if m.registers.epoch == sum(m.control.persisted, MOST_WAITING) {
+        return WAITING;
+    }
+    if m.registers.epoch == LAST_EPOCH {
+        return LAST;
+    }
+    OK
+}
+
+// Rows 4, 6 and 7 of scan: "the slot visited is not proper: .. slot c if c < S"; "11 none:
+// s = P + 1".
+pub fn scan_refusal(m: Machine) -> u64 {
+    if !registers_proper(m) {
+        return REGISTERS;
+    }
+    if m.registers.cursor < m.slot_count {
+        if !slot_proper(m, m.registers.cursor) {
+            return SLOT;
+        }
+    }
+    if !buffer_proper(m) {
+        return BUFFER;
+    }
+    if m.registers.epoch == sum(m.control.persisted, 1) {
+        return NONE;
+    }
+    OK
+}

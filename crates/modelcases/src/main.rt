@@ -1,0 +1,175 @@
+// Runs the paper's replay listing and its examples W5 to W12 on the model, and prints the listing's
+// columns; the stored output holds what the paper says.
+mod random;
+
+use libc::STDOUT_FILENO;
+use model::Answer;
+use model::Registers;
+
+const ALL: u32 = 4294967295;
+
+// A script is text, five bytes a step: the listing's letter (t is tally), the address (for n: N),
+// the value (for n: L), the allowance (* is all of it), a space.
+const STEP: usize = 5;
+
+fn number(n: u64) {
+    io::write_all(STDOUT_FILENO, b" ");
+    io::print_decimal(STDOUT_FILENO, n);
+}
+
+// Letter, number, value, stores, s, P, log length, b.
+fn show(letter: u8, a: Answer, board: &[u64]) {
+    let name = [letter];
+    io::write_all(STDOUT_FILENO, &name);
+    number(a.number);
+    number(a.value);
+    number(a.stores);
+    number(a.registers.epoch);
+    if 0 < board.len() {
+        number(board[0] >> 40);
+        number(board[0] & 0xFFFFF);
+    }
+    number(a.registers.buffered);
+    io::write_all(STDOUT_FILENO, b"\n");
+}
+
+// The words that are not zero: place and word, in hexadecimal.
+fn dump(words: &[u64]) {
+    for i in 0..words.len() {
+        show_word(i as u64, words[i]);
+    }
+}
+
+fn show_word(place: u64, word: u64) {
+    if word == 0 {
+        return;
+    }
+    io::write_all(STDOUT_FILENO, b" ");
+    number(place);
+    io::write_all(STDOUT_FILENO, b" ");
+    io::print_hex(STDOUT_FILENO, word, 16);
+    io::write_all(STDOUT_FILENO, b"\n");
+}
+
+// A step of a script.
+pub struct Step {
+    pub letter: u8,
+    pub address: u64,
+    pub value: u64,
+    pub allowance: u32,
+}
+
+fn digit(byte: u8) -> u64 {
+    if byte < b'0' {
+        return 0;
+    }
+    (byte - b'0') as u64
+}
+
+fn allowance_of(byte: u8) -> u32 {
+    if byte == b'*' {
+        return ALL;
+    }
+    (digit(byte) % 256) as u32
+}
+
+// The step that some bytes begin with.
+fn step_of(bytes: &[u8]) -> Step {
+    if bytes.len() < STEP {
+        return Step {
+            letter: b'?',
+            address: 0,
+            value: 0,
+            allowance: 0,
+        };
+    }
+    Step {
+        letter: bytes[0],
+        address: digit(bytes[1]),
+        value: digit(bytes[2]),
+        allowance: allowance_of(bytes[3]),
+    }
+}
+
+fn called(board: &mut [u64], work: &mut [u64], r: Registers, s: Step) -> Answer {
+    let letter = s.letter;
+    match letter {
+        b'n' => model::format(board, s.address, s.value),
+        b'p' => model::power_up(board, work, s.allowance),
+        b'l' => model::load(board, work, r, s.address, s.allowance),
+        b's' => model::store(board, work, r, s.address, s.value, s.allowance),
+        b'e' => model::evict(board, work, r, s.address, s.allowance),
+        b'c' => model::commit(board, work, r, s.allowance),
+        b'a' => model::scan(board, work, r, s.allowance),
+        _ => model::tally(work),
+    }
+}
+
+// One step and its line of output.
+fn stepped(board: &mut [u64], work: &mut [u64], r: Registers, s: Step) -> Registers {
+    let a = called(board, work, r, s);
+    show(s.letter, a, board);
+    a.registers
+}
+
+fn run(board: &mut [u64], work: &mut [u64], script: &[u8]) {
+    let mut r = Registers {
+        epoch: 0,
+        buffered: 0,
+        cursor: 0,
+    };
+    for i in 0..script.len() / STEP {
+        let at = i * STEP;
+        r = stepped(board, work, r, step_of(&script[at..]));
+    }
+}
+
+// A script on a board of 22 words, with 2 slots; then the words that are not zero.
+fn fresh(title: &[u8], script: &[u8]) {
+    let mut board = [0u64; 22];
+    let mut work = [0u64; 68];
+    io::write_all(STDOUT_FILENO, title);
+    run(&mut board, &mut work, script);
+    dump(&board);
+    dump(&work);
+}
+
+// A board of 4 lines and 8 entries whose log has two entries, across the ring's end, for line 0,
+// with the data 4 and 6; and a power-up.
+fn recovered(title: &[u8], persisted: u64, first: u64, second: u64) {
+    let mut board = [0u64; 22];
+    let mut work = [0u64; 68];
+    io::write_all(STDOUT_FILENO, title);
+    board[0] = (persisted << 40) | (7 << 20) | 2;
+    board[1] = (4 << 20) | 8;
+    board[16] = first;
+    board[17] = 4;
+    board[2] = second;
+    board[3] = 6;
+    run(&mut board, &mut work, b"p00* ");
+    dump(&board);
+}
+
+fn main() {
+    fresh(
+        b"replay\n",
+        b"n48* p00* s07* c00* s09* c00* a00* a00* a00* p00* l00* t00* ",
+    );
+    fresh(b"W7\n", b"n48* p00* c00* s05* ");
+    fresh(b"W8 W9\n", b"n48* p00* s05* c00* c00* s06* s07* ");
+    fresh(b"W10\n", b"n48* p00* s37* e304 e300 ");
+    fresh(b"W11\n", b"n48* p00* s37* e303 l30* p00* ");
+    fresh(
+        b"W12\n",
+        b"n48* p00* c000 c000 c000 c000 c000 c000 c000 c000 c000 c000 c000 c000 c000 c000 c000 c000 ",
+    );
+    recovered(b"W6\n", 1, 2, 2);
+    recovered(b"W5 P 0\n", 0, 0x1000003, 0x1000003);
+    recovered(b"W5 P 1\n", 1, 0x1000003, 0x1000003);
+    recovered(b"W5 P 2\n", 2, 0x1000003, 0x1000003);
+    recovered(b"W5 P 3\n", 3, 0x1000003, 0x1000003);
+    recovered(b"entry 1 below entry 0\n", 0, 0x1000003, 0x2);
+    random::list(1, 3000);
+    random::list(2, 3000);
+    random::list(77, 3000);
+}
