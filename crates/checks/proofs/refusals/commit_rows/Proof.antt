@@ -1,0 +1,33 @@
+use Rattle.checks.proofs.Rows.{commit-buffer, commit-epoch}
+use borrow.Author.Needs.{needs}
+use Rattle.checks.proofs.refusals.commit_rows.Statement.{statement}
+use Rattle.checks.proofs.refusals.commit_rows.Tie as tie
+
+check-buffer-requires : tie.Need-check-buffer-requires
+check-buffer-requires c κs = search needs
+
+enum-known-buffer : tie.Need-enum-known-buffer
+enum-known-buffer c = search needs
+
+enum-told : tie.Need-enum-told
+enum-told c = search needs
+
+check-commit-epoch-requires : tie.Need-check-commit-epoch-requires
+check-commit-epoch-requires c κs = search needs
+
+returns : tie.Need-returns
+returns c = search (commit-buffer)
+
+returns-2 : tie.Need-returns-2
+returns-2 c = search (commit-epoch)
+
+pub commit-rows-spec : {M : Type 1} → statement M
+commit-rows-spec =
+    tie.close
+    (tie.spec
+    check-buffer-requires
+    enum-known-buffer
+    enum-told
+    check-commit-epoch-requires
+    returns
+    returns-2)

@@ -1,0 +1,33 @@
+use Rattle.checks.proofs.Rows.{line-outside, line-slot, line-buffer, bounds-slots, bounds-words}
+use borrow.Author.Needs.{needs}
+use Rattle.checks.proofs.refusals.line_rows.Statement.{statement}
+use Rattle.checks.proofs.refusals.line_rows.Tie as tie
+
+returns : tie.Need-returns
+returns c = search (line-outside)
+
+bounds-requires : tie.Need-bounds-requires
+bounds-requires c κs = search needs
+
+is-proper-for-requires : tie.Need-is-proper-for-requires
+is-proper-for-requires c κs = search (bounds-slots, bounds-words)
+
+returns-2 : tie.Need-returns-2
+returns-2 c = search (line-slot)
+
+check-buffer-requires : tie.Need-check-buffer-requires
+check-buffer-requires c κs = search needs
+
+returns-3 : tie.Need-returns-3
+returns-3 c = search (line-buffer)
+
+pub line-rows-spec : {M : Type 1} → statement M
+line-rows-spec =
+    tie.close
+    (tie.spec
+    returns
+    bounds-requires
+    is-proper-for-requires
+    returns-2
+    check-buffer-requires
+    returns-3)

@@ -1,0 +1,30 @@
+use Rattle.checks.proofs.Rows.{room-spared, room-refused, room-found, room-spot}
+use borrow.Author.Needs.{needs}
+use Rattle.checks.proofs.refusals.room_rows.Statement.{statement}
+use Rattle.checks.proofs.refusals.room_rows.Tie as tie
+
+find-requires : tie.Need-find-requires
+find-requires c κs = search needs
+
+is-undo-due-requires : tie.Need-is-undo-due-requires
+is-undo-due-requires c κs = search (room-spot)
+
+returns : tie.Need-returns
+returns c = search (room-spared)
+
+add-if2 : tie.Need-add-if2
+add-if2 c = search needs
+
+add-if2-2 : tie.Need-add-if2-2
+add-if2-2 c = search needs
+
+returns-2 : tie.Need-returns-2
+returns-2 c = search (room-refused)
+
+returns-3 : tie.Need-returns-3
+returns-3 c = search (room-found)
+
+pub room-rows-spec : {M : Type 1} → statement M
+room-rows-spec =
+    tie.close
+    (tie.spec find-requires is-undo-due-requires returns add-if2 add-if2-2 returns-2 returns-3)

@@ -1,0 +1,33 @@
+use Rattle.checks.proofs.Rows.{scan-buffer, scan-waiting}
+use borrow.Author.Needs.{needs}
+use Rattle.checks.proofs.refusals.scan_end_rows.Statement.{statement}
+use Rattle.checks.proofs.refusals.scan_end_rows.Tie as tie
+
+check-buffer-requires : tie.Need-check-buffer-requires
+check-buffer-requires c κs = search needs
+
+enum-known-buffer : tie.Need-enum-known-buffer
+enum-known-buffer c = search needs
+
+enum-told : tie.Need-enum-told
+enum-told c = search needs
+
+check-waiting-requires : tie.Need-check-waiting-requires
+check-waiting-requires c κs = search needs
+
+returns : tie.Need-returns
+returns c = search (scan-buffer)
+
+returns-2 : tie.Need-returns-2
+returns-2 c = search (scan-waiting)
+
+pub scan-end-rows-spec : {M : Type 1} → statement M
+scan-end-rows-spec =
+    tie.close
+    (tie.spec
+    check-buffer-requires
+    enum-known-buffer
+    enum-told
+    check-waiting-requires
+    returns
+    returns-2)

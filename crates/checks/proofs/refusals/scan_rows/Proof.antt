@@ -1,0 +1,33 @@
+use Rattle.checks.proofs.Rows.{scan-cursor, scan-rest}
+use borrow.Author.Needs.{needs}
+use Rattle.checks.proofs.refusals.scan_rows.Statement.{statement}
+use Rattle.checks.proofs.refusals.scan_rows.Tie as tie
+
+check-cursor-requires : tie.Need-check-cursor-requires
+check-cursor-requires c κs = search needs
+
+enum-known-cursor : tie.Need-enum-known-cursor
+enum-known-cursor c = search needs
+
+enum-told : tie.Need-enum-told
+enum-told c = search needs
+
+scan-end-rows-requires : tie.Need-scan-end-rows-requires
+scan-end-rows-requires c κs = search needs
+
+returns : tie.Need-returns
+returns c = search (scan-cursor)
+
+returns-2 : tie.Need-returns-2
+returns-2 c = search (scan-rest)
+
+pub scan-rows-spec : {M : Type 1} → statement M
+scan-rows-spec =
+    tie.close
+    (tie.spec
+    check-cursor-requires
+    enum-known-cursor
+    enum-told
+    scan-end-rows-requires
+    returns
+    returns-2)

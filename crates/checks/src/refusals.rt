@@ -1,0 +1,221 @@
+// The paper's table of refusals: each call's rows, lowest number first.
+ghost use Prim.Native.Nat.{_<_};
+ghost use lib.ListN.{length};
+ghost use mathlib.Core.List.{[], _∷_};
+ghost use mathlib.Core.Path.{_≡_};
+ghost use Rattle.layout.specs.Words.{ControlFits};
+ghost use Rattle.checks.specs.Refusals.{tested, registerRows, bufferRow, lineRows, roomRows, commitRows, epochRows};
+ghost use Rattle.checks.specs.Refusals.{cursorRows, waitingRows, scanRows, memoriesChecked, runningChecked};
+ghost use Rattle.checks.specs.Refusals.{lineChecked, storeChecked, commitChecked, scanChecked};
+ghost use Rattle.checks.specs.Contracts.{RowsReady};
+use crate::Checked;
+use crate::Registers;
+use crate::View;
+use crate::is_good_work;
+use layout::BUFFER_WORDS;
+use layout::LAST_EPOCH;
+use layout::LOG_AT;
+use layout::MOST_AHEAD;
+use status::Status;
+
+// 1 and 2 of the paper's table.
+pub fn check_memories(board: &[u64], work: &[u64]) -> Checked
+    ensures { λ r. ⌜ r ≡ memoriesChecked (now (board .entry)) (now (work .entry)) ⌝ }
+{
+    if board.len() < LOG_AT {
+        return Checked::Refused(Status::Shape);
+    }
+    let view = View::read(board, work);
+    if !view.is_good_shape(board.len()) {
+        return Checked::Refused(Status::Shape);
+    }
+    if !is_good_work(work.len()) {
+        return Checked::Refused(Status::Work);
+    }
+    Checked::Passed(view)
+}
+
+fn check_registers(view: View, registers: Registers) -> Checked
+    requires { ⌜ ControlFits (view .control) ⌝ }
+    ensures { λ r. ⌜ r ≡ tested (registerRows view registers) view ⌝ }
+{
+    if !registers.is_proper(view) {
+        return Checked::Refused(Status::Regs);
+    }
+    Checked::Passed(view)
+}
+
+// 1, 2 and 4.
+fn check_running(board: &[u64], work: &[u64], registers: Registers) -> Checked
+    ensures { λ r. ⌜ r ≡ runningChecked (now (board .entry)) (now (work .entry)) registers ⌝ }
+{
+    let memories = check_memories(board, work);
+    match memories {
+        Checked::Refused(status) => Checked::Refused(status),
+        Checked::Passed(view) => check_registers(view, registers),
+    }
+}
+
+// 7.
+fn check_buffer(view: View, work: &[u64], registers: Registers) -> Checked
+    requires { ⌜ RowsReady (now work) registers view ⌝ }
+    ensures { λ r. ⌜ r ≡ tested (bufferRow view (now (work .entry)) registers ∷ []) view ⌝ }
+{
+    let at = work.len() - BUFFER_WORDS;
+    if !undo::is_buffer_proper(
+        &work[at..],
+        registers.buffered as usize,
+        view.shape.lines,
+        registers.epoch,
+    ) {
+        return Checked::Refused(Status::Buffer);
+    }
+    Checked::Passed(view)
+}
+
+// 5, 6 and 7.
+fn line_rows(view: View, work: &[u64], registers: Registers, address: u64) -> Checked
+    requires { ⌜ RowsReady (now work) registers view ⌝ }
+    ensures { λ r. ⌜ r ≡ tested (lineRows view (now (work .entry)) registers address) view ⌝ }
+{
+    if address >= view.shape.lines {
+        return Checked::Refused(Status::Address);
+    }
+    if !cache::is_proper_for(work, view.bounds(registers), address) {
+        return Checked::Refused(Status::Slot);
+    }
+    check_buffer(view, work, registers)
+}
+
+// The refusals of load and evict.
+pub fn check_line(board: &[u64], work: &[u64], registers: Registers, address: u64) -> Checked
+    ensures { λ r. ⌜ r ≡ lineChecked (now (board .entry)) (now (work .entry)) registers address ⌝ }
+{
+    let running = check_running(board, work, registers);
+    match running {
+        Checked::Refused(status) => Checked::Refused(status),
+        Checked::Passed(view) => line_rows(view, work, registers, address),
+    }
+}
+
+// 8.
+fn room_rows(view: View, work: &[u64], registers: Registers, address: u64) -> Checked
+    requires { ⌜ RowsReady (now work) registers view ⌝ }
+    ensures { λ r. ⌜ r ≡ tested (roomRows view (now (work .entry)) registers address) view ⌝ }
+{
+    let spot = cache::find(work, view.slots, address);
+    if !steps::is_undo_due(work, spot, registers.epoch) {
+        return Checked::Passed(view);
+    }
+    if view.control.length + registers.buffered + 1 > view.shape.entries {
+        return Checked::Refused(Status::Room);
+    }
+    Checked::Passed(view)
+}
+
+// The refusals of store.
+pub fn check_store(board: &[u64], work: &[u64], registers: Registers, address: u64) -> Checked
+    ensures { λ r. ⌜ r ≡ storeChecked (now (board .entry)) (now (work .entry)) registers address ⌝ }
+{
+    let line = check_line(board, work, registers, address);
+    match line {
+        Checked::Refused(status) => Checked::Refused(status),
+        Checked::Passed(view) => room_rows(view, work, registers, address),
+    }
+}
+
+// 7, 9 and 10.
+fn commit_rows(view: View, work: &[u64], registers: Registers) -> Checked
+    requires { ⌜ RowsReady (now work) registers view ⌝ }
+    ensures { λ r. ⌜ r ≡ tested (commitRows view (now (work .entry)) registers) view ⌝ }
+{
+    let buffer = check_buffer(view, work, registers);
+    match buffer {
+        Checked::Refused(status) => Checked::Refused(status),
+        Checked::Passed(_) => check_commit_epoch(view, registers),
+    }
+}
+
+fn check_commit_epoch(view: View, registers: Registers) -> Checked
+    requires { ⌜ view .control .persisted < registers .epoch ⌝ }
+    ensures { λ r. ⌜ r ≡ tested (epochRows view registers) view ⌝ }
+{
+    if registers.epoch - view.control.persisted == MOST_AHEAD {
+        return Checked::Refused(Status::Waiting);
+    }
+    if registers.epoch == LAST_EPOCH {
+        return Checked::Refused(Status::Last);
+    }
+    Checked::Passed(view)
+}
+
+// The refusals of commit.
+pub fn check_commit(board: &[u64], work: &[u64], registers: Registers) -> Checked
+    ensures { λ r. ⌜ r ≡ commitChecked (now (board .entry)) (now (work .entry)) registers ⌝ }
+{
+    let running = check_running(board, work, registers);
+    match running {
+        Checked::Refused(status) => Checked::Refused(status),
+        Checked::Passed(view) => commit_rows(view, work, registers),
+    }
+}
+
+// 6 of scan: the slot at the cursor, while there is one.
+fn check_cursor(view: View, work: &[u64], registers: Registers) -> Checked
+    requires { ⌜ RowsReady (now work) registers view ⌝ }
+    ensures { λ r. ⌜ r ≡ tested (cursorRows view (now (work .entry)) registers) view ⌝ }
+{
+    let k = registers.cursor as usize;
+    if k >= view.slots {
+        return Checked::Passed(view);
+    }
+    if !cache::is_proper_at(work, view.bounds(registers), k) {
+        return Checked::Refused(Status::Slot);
+    }
+    Checked::Passed(view)
+}
+
+fn check_waiting(view: View, registers: Registers) -> Checked
+    requires { ⌜ view .control .persisted < registers .epoch ⌝ }
+    ensures { λ r. ⌜ r ≡ tested (waitingRows view registers) view ⌝ }
+{
+    if registers.epoch == view.control.persisted + 1 {
+        return Checked::Refused(Status::None);
+    }
+    Checked::Passed(view)
+}
+
+// 7 and 11.
+fn scan_end_rows(view: View, work: &[u64], registers: Registers) -> Checked
+    requires { ⌜ RowsReady (now work) registers view ⌝ }
+    ensures { λ r. ⌜ r ≡ tested (bufferRow view (now (work .entry)) registers ∷ waitingRows view registers) view ⌝ }
+{
+    let buffer = check_buffer(view, work, registers);
+    match buffer {
+        Checked::Refused(status) => Checked::Refused(status),
+        Checked::Passed(_) => check_waiting(view, registers),
+    }
+}
+
+// 6, 7 and 11.
+fn scan_rows(view: View, work: &[u64], registers: Registers) -> Checked
+    requires { ⌜ RowsReady (now work) registers view ⌝ }
+    ensures { λ r. ⌜ r ≡ tested (scanRows view (now (work .entry)) registers) view ⌝ }
+{
+    let cursor = check_cursor(view, work, registers);
+    match cursor {
+        Checked::Refused(status) => Checked::Refused(status),
+        Checked::Passed(_) => scan_end_rows(view, work, registers),
+    }
+}
+
+// The refusals of scan.
+pub fn check_scan(board: &[u64], work: &[u64], registers: Registers) -> Checked
+    ensures { λ r. ⌜ r ≡ scanChecked (now (board .entry)) (now (work .entry)) registers ⌝ }
+{
+    let running = check_running(board, work, registers);
+    match running {
+        Checked::Refused(status) => Checked::Refused(status),
+        Checked::Passed(view) => scan_rows(view, work, registers),
+    }
+}

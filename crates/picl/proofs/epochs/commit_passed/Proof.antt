@@ -1,0 +1,19 @@
+use mathlib.Core.Path.{ap, _∙_}
+use Rattle.checks.specs.declared.Registers.{Registers}
+use Rattle.status.specs.declared.Status.the-variants as status
+use Rattle.picl.specs.Answers.{refusal}
+use borrow.Author.Needs.{needs}
+use Rattle.picl.proofs.epochs.commit_passed.Statement.{statement}
+use Rattle.picl.proofs.epochs.commit_passed.Tie as tie
+
+committed-requires : tie.Need-committed-requires
+committed-requires c κs = search needs
+
+refusal-requires : tie.Need-refusal-requires
+refusal-requires c κs = search needs
+
+returns : tie.Need-returns
+returns c = cc (c .refusal .ensures, c .before .committed .ensures)
+
+pub commit-passed-spec : {M : Type 1} → statement M
+commit-passed-spec = tie.close (tie.spec committed-requires refusal-requires returns)

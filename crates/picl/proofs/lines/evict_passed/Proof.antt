@@ -1,0 +1,28 @@
+use Rattle.picl.proofs.Passing.{evict-ready}
+use Rattle.picl.proofs.Calling.{evict-found}
+use borrow.Author.Needs.{needs}
+use Rattle.picl.proofs.lines.evict_passed.Statement.{statement}
+use Rattle.picl.proofs.lines.evict_passed.Tie as tie
+
+find-requires : tie.Need-find-requires
+find-requires c κs = search needs
+
+undo-requires : tie.Need-undo-requires
+undo-requires c κs = search needs
+
+evict-at-requires : tie.Need-evict-at-requires
+evict-at-requires c κs = search (evict-ready)
+
+same-length : tie.Need-same-length
+same-length c = search needs
+
+same-length-2 : tie.Need-same-length-2
+same-length-2 c = search needs
+
+returns : tie.Need-returns
+returns c = search (evict-found)
+
+pub evict-passed-spec : {M : Type 1} → statement M
+evict-passed-spec =
+    tie.close
+    (tie.spec find-requires undo-requires evict-at-requires same-length same-length-2 returns)

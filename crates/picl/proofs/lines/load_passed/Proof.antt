@@ -1,0 +1,28 @@
+use Rattle.picl.proofs.Passing.{fill-ready}
+use Rattle.picl.proofs.Calling.{load-found}
+use borrow.Author.Needs.{needs}
+use Rattle.picl.proofs.lines.load_passed.Statement.{statement}
+use Rattle.picl.proofs.lines.load_passed.Tie as tie
+
+find-requires : tie.Need-find-requires
+find-requires c κs = search needs
+
+undo-requires : tie.Need-undo-requires
+undo-requires c κs = search needs
+
+load-at-requires : tie.Need-load-at-requires
+load-at-requires c κs = search (fill-ready)
+
+same-length : tie.Need-same-length
+same-length c = search needs
+
+same-length-2 : tie.Need-same-length-2
+same-length-2 c = search needs
+
+returns : tie.Need-returns
+returns c = search (load-found)
+
+pub load-passed-spec : {M : Type 1} → statement M
+load-passed-spec =
+    tie.close
+    (tie.spec find-requires undo-requires load-at-requires same-length same-length-2 returns)

@@ -1,0 +1,28 @@
+use Rattle.picl.proofs.Passing.{store-ready}
+use Rattle.picl.proofs.Calling.{store-found}
+use borrow.Author.Needs.{needs}
+use Rattle.picl.proofs.lines.store_passed.Statement.{statement}
+use Rattle.picl.proofs.lines.store_passed.Tie as tie
+
+find-requires : tie.Need-find-requires
+find-requires c κs = search needs
+
+undo-requires : tie.Need-undo-requires
+undo-requires c κs = search needs
+
+store-at-requires : tie.Need-store-at-requires
+store-at-requires c κs = search (store-ready)
+
+same-length : tie.Need-same-length
+same-length c = search needs
+
+same-length-2 : tie.Need-same-length-2
+same-length-2 c = search needs
+
+returns : tie.Need-returns
+returns c = search (store-found)
+
+pub store-passed-spec : {M : Type 1} → statement M
+store-passed-spec =
+    tie.close
+    (tie.spec find-requires undo-requires store-at-requires same-length same-length-2 returns)

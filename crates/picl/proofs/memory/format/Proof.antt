@@ -1,0 +1,45 @@
+use Rattle.picl.proofs.Waking.{format-refused, format-fits, format-within, format-made}
+use borrow.Author.Needs.{needs}
+use Rattle.picl.proofs.memory.format.Statement.{statement}
+use Rattle.picl.proofs.memory.format.Tie as tie
+
+is-good-format-requires : tie.Need-is-good-format-requires
+is-good-format-requires c κs = search needs
+
+reporting-requires : tie.Need-reporting-requires
+reporting-requires c κs = search needs
+
+returns : tie.Need-returns
+returns c = search (format-refused)
+
+clear-requires : tie.Need-clear-requires
+clear-requires c κs = search needs
+
+encode-requires : tie.Need-encode-requires
+encode-requires c κs = search (format-fits)
+
+slice-write-board : tie.Need-slice-write-board
+slice-write-board c = search (format-within)
+
+reporting-requires-2 : tie.Need-reporting-requires-2
+reporting-requires-2 c κs = search needs
+
+same-length : tie.Need-same-length
+same-length c = search needs
+
+returns-2 : tie.Need-returns-2
+returns-2 c = search (format-made)
+
+pub format-spec : {M : Type 1} → statement M
+format-spec =
+    tie.close
+    (tie.spec
+    is-good-format-requires
+    reporting-requires
+    returns
+    clear-requires
+    encode-requires
+    slice-write-board
+    reporting-requires-2
+    same-length
+    returns-2)

@@ -1,0 +1,218 @@
+// Load, store and evict: the calls that name a line.
+ghost use Prim.Native.Nat.{_+_, _*_};
+ghost use Rattle.cache.specs.Contracts.{FillReady, SlotReady, StoreReady};
+ghost use Rattle.status.specs.declared.Status.the-variants as status;
+ghost use Rattle.picl.specs.Answers.{due};
+ghost use Rattle.picl.specs.Calls.{loadAt, storeAt, evictAt, loadOutcome, storeOutcome, evictOutcome};
+ghost use Rattle.picl.specs.Calls.{loadVerdict, storeVerdict, evictVerdict};
+ghost use Rattle.picl.specs.Contracts.{Answers, LinePassed, StorePassed};
+use crate::Answer;
+use crate::finish;
+use crate::refusal;
+use board::Meter;
+use cache::Spot;
+use checks::Checked;
+use checks::Registers;
+use checks::View;
+use undo::Undo;
+
+fn load_at(
+    board: &mut [u64],
+    work: &mut [u64],
+    registers: Registers,
+    undo: Undo,
+    address: u64,
+    spot: Spot,
+    allowance: u32,
+) -> Answer
+    requires { ⌜ FillReady (now board) (now work) undo (spot .slot) address ⌝ }
+    ensures { λ r. ⌜ Answers allowance registers (now (board .entry)) (now (work .entry)) (due (loadAt (now (board .entry)) (now (work .entry)) registers undo address spot)) (now (board .exit)) (now (work .exit)) r ⌝ }
+{
+    let at = 2 * spot.slot + 1;
+    let done = steps::load(board, work, undo, address, spot, Meter::new(allowance));
+    let after = done.undo;
+    let meter = done.meter;
+    let value = work[at];
+    finish(
+        work,
+        meter,
+        allowance,
+        value,
+        registers.buffering(after.buffered),
+    )
+}
+
+fn load_passed(
+    board: &mut [u64],
+    work: &mut [u64],
+    registers: Registers,
+    address: u64,
+    view: View,
+    allowance: u32,
+) -> Answer
+    requires { ⌜ LinePassed (now board) (now work) registers address view ⌝ }
+    ensures { λ r. ⌜ Answers allowance registers (now (board .entry)) (now (work .entry)) (due (loadOutcome (now (board .entry)) (now (work .entry)) registers address view)) (now (board .exit)) (now (work .exit)) r ⌝ }
+{
+    let spot = cache::find(work, view.slots, address);
+    let undo = view.undo(registers);
+    load_at(board, work, registers, undo, address, spot, allowance)
+}
+
+// The data of a line.
+pub fn load(
+    board: &mut [u64],
+    work: &mut [u64],
+    registers: Registers,
+    address: u64,
+    allowance: u32,
+) -> Answer
+    ensures { λ r. ⌜ Answers allowance registers (now (board .entry)) (now (work .entry)) (loadVerdict (now (board .entry)) (now (work .entry)) registers address) (now (board .exit)) (now (work .exit)) r ⌝ }
+{
+    let checked = checks::check_line(board, work, registers, address);
+    match checked {
+        Checked::Refused(status) => refusal(status, 0, registers),
+        Checked::Passed(view) => load_passed(board, work, registers, address, view, allowance),
+    }
+}
+
+fn store_at(
+    board: &mut [u64],
+    work: &mut [u64],
+    registers: Registers,
+    undo: Undo,
+    address: u64,
+    spot: Spot,
+    value: u64,
+    allowance: u32,
+) -> Answer
+    requires { ⌜ StoreReady (now board) (now work) undo address spot (registers .epoch) ⌝ }
+    ensures { λ r. ⌜ Answers allowance registers (now (board .entry)) (now (work .entry)) (due (storeAt (now (board .entry)) (now (work .entry)) registers undo address spot value)) (now (board .exit)) (now (work .exit)) r ⌝ }
+{
+    let done = steps::store(
+        board,
+        work,
+        undo,
+        address,
+        spot,
+        registers.epoch,
+        value,
+        Meter::new(allowance),
+    );
+    let after = done.undo;
+    let meter = done.meter;
+    finish(
+        work,
+        meter,
+        allowance,
+        0,
+        registers.buffering(after.buffered),
+    )
+}
+
+fn store_passed(
+    board: &mut [u64],
+    work: &mut [u64],
+    registers: Registers,
+    address: u64,
+    value: u64,
+    view: View,
+    allowance: u32,
+) -> Answer
+    requires { ⌜ StorePassed (now board) (now work) registers address view ⌝ }
+    ensures { λ r. ⌜ Answers allowance registers (now (board .entry)) (now (work .entry)) (due (storeOutcome (now (board .entry)) (now (work .entry)) registers address value view)) (now (board .exit)) (now (work .exit)) r ⌝ }
+{
+    let spot = cache::find(work, view.slots, address);
+    let undo = view.undo(registers);
+    store_at(
+        board,
+        work,
+        registers,
+        undo,
+        address,
+        spot,
+        value,
+        allowance,
+    )
+}
+
+// A store to a line.
+pub fn store(
+    board: &mut [u64],
+    work: &mut [u64],
+    registers: Registers,
+    address: u64,
+    value: u64,
+    allowance: u32,
+) -> Answer
+    ensures { λ r. ⌜ Answers allowance registers (now (board .entry)) (now (work .entry)) (storeVerdict (now (board .entry)) (now (work .entry)) registers address value) (now (board .exit)) (now (work .exit)) r ⌝ }
+{
+    let checked = checks::check_store(board, work, registers, address);
+    match checked {
+        Checked::Refused(status) => refusal(status, 0, registers),
+        Checked::Passed(view) => store_passed(
+            board,
+            work,
+            registers,
+            address,
+            value,
+            view,
+            allowance,
+        ),
+    }
+}
+
+fn evict_at(
+    board: &mut [u64],
+    work: &mut [u64],
+    registers: Registers,
+    undo: Undo,
+    spot: Spot,
+    allowance: u32,
+) -> Answer
+    requires { ⌜ SlotReady (now board) (now work) undo (spot .slot) ⌝ }
+    ensures { λ r. ⌜ Answers allowance registers (now (board .entry)) (now (work .entry)) (due (evictAt (now (work .entry)) registers undo spot)) (now (board .exit)) (now (work .exit)) r ⌝ }
+{
+    let done = steps::evict(board, work, undo, spot, Meter::new(allowance));
+    let after = done.undo;
+    let meter = done.meter;
+    finish(
+        work,
+        meter,
+        allowance,
+        layout::bit(spot.held),
+        registers.buffering(after.buffered),
+    )
+}
+
+fn evict_passed(
+    board: &mut [u64],
+    work: &mut [u64],
+    registers: Registers,
+    address: u64,
+    view: View,
+    allowance: u32,
+) -> Answer
+    requires { ⌜ LinePassed (now board) (now work) registers address view ⌝ }
+    ensures { λ r. ⌜ Answers allowance registers (now (board .entry)) (now (work .entry)) (due (evictOutcome (now (work .entry)) registers address view)) (now (board .exit)) (now (work .exit)) r ⌝ }
+{
+    let spot = cache::find(work, view.slots, address);
+    let undo = view.undo(registers);
+    evict_at(board, work, registers, undo, spot, allowance)
+}
+
+// A line out of the cache.
+pub fn evict(
+    board: &mut [u64],
+    work: &mut [u64],
+    registers: Registers,
+    address: u64,
+    allowance: u32,
+) -> Answer
+    ensures { λ r. ⌜ Answers allowance registers (now (board .entry)) (now (work .entry)) (evictVerdict (now (board .entry)) (now (work .entry)) registers address) (now (board .exit)) (now (work .exit)) r ⌝ }
+{
+    let checked = checks::check_line(board, work, registers, address);
+    match checked {
+        Checked::Refused(status) => refusal(status, 0, registers),
+        Checked::Passed(view) => evict_passed(board, work, registers, address, view, allowance),
+    }
+}

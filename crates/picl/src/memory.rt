@@ -1,0 +1,96 @@
+// Format and tally: each reads or writes one of the two memories, without registers or an allowance.
+ghost use Prim.Native.Nat.{_+_, _*_, _<_, _≤_};
+ghost use lib.ListN.{length};
+ghost use mathlib.Core.Path.{_≡_};
+ghost use Rattle.checks.specs.Registers.{zero};
+ghost use Rattle.status.specs.declared.Status.the-variants as status;
+ghost use Rattle.picl.specs.Calls.{goodFormat, report as reported, dirtySlots, tallyReport};
+ghost use Rattle.picl.specs.Contracts.{Formats, CountsDirty};
+use crate::Report;
+use layout::BOARD_VERSION;
+use layout::LOG_AT;
+use layout::MOST_ENTRIES;
+use layout::MOST_LINES;
+use layout::SHAPE_AT;
+use layout::Shape;
+use status::Status;
+
+fn is_good_format(words: usize, lines: u64, entries: u64) -> bool
+    ensures { λ r. ⌜ r ≡ goodFormat words lines entries ⌝ }
+{
+    if lines < 1 {
+        return false;
+    }
+    if lines > MOST_LINES {
+        return false;
+    }
+    if entries < 1 {
+        return false;
+    }
+    if entries > MOST_ENTRIES {
+        return false;
+    }
+    words as u64 == LOG_AT as u64 + 2 * entries + lines
+}
+
+fn reporting(status: Status, value: u64) -> Report
+    ensures { λ r. ⌜ r ≡ reported status value ⌝ }
+{
+    Report {
+        status,
+        value,
+        stores: 0,
+    }
+}
+
+// A board of so many lines, all zero, with an empty log. It is not protected against a cut.
+pub fn format(board: &mut [u64], lines: u64, entries: u64) -> Report
+    ensures { λ r. ⌜ Formats (now (board .entry)) lines entries (now (board .exit)) r ⌝ }
+{
+    if !is_good_format(board.len(), lines, entries) {
+        return reporting(Status::Shape, 0);
+    }
+    base::clear(board);
+    let shape = Shape {
+        version: BOARD_VERSION,
+        lines,
+        entries,
+    };
+    board[SHAPE_AT] = shape.encode();
+    reporting(Status::Ok, 0)
+}
+
+fn dirty_at(work: &[u64], k: usize) -> u64
+    requires { ⌜ 2 * k + 2 ≤ length (now work) ⌝ }
+    ensures { λ r. ⌜ CountsDirty (now (work .entry)) k r ⌝ }
+{
+    let slot = cache::slot_at(work, k);
+    if !slot.valid {
+        return 0;
+    }
+    layout::bit(slot.dirty)
+}
+
+fn count_dirty(work: &[u64], slots: usize) -> u64
+    requires { ⌜ 2 * slots ≤ length (now work) ⌝ }
+    ensures { λ r. ⌜ r ≡ dirtySlots (now (work .entry)) slots ⌝ }
+{
+    let mut count: u64 = 0;
+    let mut k: usize = 0;
+    while k < slots {
+        count += dirty_at(work, k);
+        k += 1;
+    }
+    count
+}
+
+// The number of dirty lines that the cache holds.
+pub fn tally(work: &[u64]) -> Report
+    ensures { λ r. ⌜ r ≡ tallyReport (now (work .entry)) ⌝ }
+{
+    if !checks::is_good_work(work.len()) {
+        return reporting(Status::Work, 0);
+    }
+    let slots = checks::slots_of(work.len());
+    reporting(Status::Ok, count_dirty(work, slots))
+}
