@@ -3,7 +3,8 @@
 ghost use Prim.Native.Nat.{_+_, _≤_};
 ghost use lib.ListN.{length};
 ghost use Rattle.replay.specs.Contracts.{benchBoard, benchWork};
-ghost use Rattle.transcript.specs.Room.{longest, Ready, Roomy};
+ghost use Rattle.transcript.specs.Printing.{longest};
+ghost use Rattle.transcript.specs.Session.{Ready, Roomy};
 use libc::STDIN_FILENO;
 use libc::STDOUT_FILENO;
 use replay::BOARD_WORDS;

@@ -1,2 +1,5 @@
-pub mod Room
+pub mod Text
+pub mod Printing
+pub mod Session
 pub mod Laws
+pub mod Examples

@@ -2,8 +2,12 @@
 // empties.
 ghost use Prim.Native.Nat.{_+_, _*_, _≤_, _<_};
 ghost use mathlib.Core.Path.{_≡_};
+ghost use mathlib.Core.List.{[], _∷_};
 ghost use lib.ListN.{length};
-ghost use Rattle.transcript.specs.Room.{longest, Within, Ready, Open, Kept, Emptied};
+ghost use Rattle.transcript.specs.Text.{decimalOf, numbersText, headText, lineText, badText, replyText};
+ghost use Rattle.transcript.specs.Printing.{longest, Prints};
+ghost use Rattle.transcript.specs.Session.{newSession, emptiedSession, closed, ends, lineTurn, feedTurn, finishTurn, Ready, Turns};
+ghost use Rattle.transcript.specs.Session.{reading as readOn};
 use replay::Bench;
 use replay::Line;
 use replay::Reply;
@@ -30,7 +34,7 @@ pub struct Session {
 
 fn put_byte(out: &mut [u8], at: usize, byte: u8) -> usize
     requires { ⌜ at < length (now out) ⌝ }
-    ensures { λ r. ⌜ r ≡ at + 1 ⌝ }
+    ensures { λ r. ⌜ Prints 1 (now (out .entry)) at (byte ∷ []) (now (out .exit)) r ⌝ }
 {
     out[at] = byte;
     at + 1
@@ -39,7 +43,7 @@ fn put_byte(out: &mut [u8], at: usize, byte: u8) -> usize
 // Puts a text into a buffer from a place on, and answers the place behind it.
 pub fn put(out: &mut [u8], at: usize, text: &[u8]) -> usize
     requires { ⌜ at + length (now text) ≤ length (now out) ⌝ }
-    ensures { λ r. ⌜ r ≡ at + length (now (text .entry)) ⌝ }
+    ensures { λ r. ⌜ Prints (length (now (text .entry))) (now (out .entry)) at (now (text .entry)) (now (out .exit)) r ⌝ }
 {
     let mut i = 0;
     while i < text.len() {
@@ -51,7 +55,7 @@ pub fn put(out: &mut [u8], at: usize, text: &[u8]) -> usize
 
 fn put_decimal(out: &mut [u8], at: usize, n: u64) -> usize
     requires { ⌜ at + 20 ≤ length (now out) ⌝ }
-    ensures { λ r. ⌜ Within at 20 r ⌝ }
+    ensures { λ r. ⌜ Prints 20 (now (out .entry)) at (decimalOf n) (now (out .exit)) r ⌝ }
 {
     let mut digits = [0u8; DIGITS];
     let count = io::decimal(n, &mut digits);
@@ -61,7 +65,7 @@ fn put_decimal(out: &mut [u8], at: usize, n: u64) -> usize
 // Each number with a space before it.
 fn put_numbers(out: &mut [u8], at: usize, numbers: &[u64]) -> usize
     requires { ⌜ at + 21 * length (now numbers) ≤ length (now out) ⌝ }
-    ensures { λ r. ⌜ Within at (21 * length (now (numbers .entry))) r ⌝ }
+    ensures { λ r. ⌜ Prints (21 * length (now (numbers .entry))) (now (out .entry)) at (numbersText (now (numbers .entry))) (now (out .exit)) r ⌝ }
 {
     let mut end = at;
     let mut i = 0;
@@ -76,7 +80,7 @@ fn put_numbers(out: &mut [u8], at: usize, numbers: &[u64]) -> usize
 // The letter, a space and the name.
 fn put_head(out: &mut [u8], at: usize, letter: u8, status: Status) -> usize
     requires { ⌜ at + 10 ≤ length (now out) ⌝ }
-    ensures { λ r. ⌜ Within at 10 r ⌝ }
+    ensures { λ r. ⌜ Prints 10 (now (out .entry)) at (headText letter status) (now (out .exit)) r ⌝ }
 {
     let name = status::name_of(status.number());
     let row = name.row;
@@ -88,7 +92,7 @@ fn put_head(out: &mut [u8], at: usize, letter: u8, status: Status) -> usize
 
 fn put_line(out: &mut [u8], at: usize, line: Line) -> usize
     requires { ⌜ at + longest ≤ length (now out) ⌝ }
-    ensures { λ r. ⌜ Within at longest r ⌝ }
+    ensures { λ r. ⌜ Prints longest (now (out .entry)) at (lineText line) (now (out .exit)) r ⌝ }
 {
     let status = line.status;
     let numbers = [
@@ -107,7 +111,7 @@ fn put_line(out: &mut [u8], at: usize, line: Line) -> usize
 // A question mark and the number of the bad line.
 fn put_bad(out: &mut [u8], at: usize, number: u64) -> usize
     requires { ⌜ at + longest ≤ length (now out) ⌝ }
-    ensures { λ r. ⌜ Within at longest r ⌝ }
+    ensures { λ r. ⌜ Prints longest (now (out .entry)) at (badText number) (now (out .exit)) r ⌝ }
 {
     let numbers = [number];
     let mark = put_byte(out, at, b'?');
@@ -117,7 +121,7 @@ fn put_bad(out: &mut [u8], at: usize, number: u64) -> usize
 
 fn put_reply(out: &mut [u8], at: usize, reply: Reply, number: u64) -> usize
     requires { ⌜ at + longest ≤ length (now out) ⌝ }
-    ensures { λ r. ⌜ Within at longest r ⌝ }
+    ensures { λ r. ⌜ Prints longest (now (out .entry)) at (replyText reply number) (now (out .exit)) r ⌝ }
 {
     match reply {
         Reply::Quiet => at,
@@ -127,7 +131,9 @@ fn put_reply(out: &mut [u8], at: usize, reply: Reply, number: u64) -> usize
     }
 }
 
-fn is_end(reply: Reply) -> bool {
+fn is_end(reply: Reply) -> bool
+    ensures { λ r. ⌜ r ≡ ends reply ⌝ }
+{
     match reply {
         Reply::Quiet => false,
         Reply::Said(_) => false,
@@ -139,7 +145,7 @@ fn is_end(reply: Reply) -> bool {
 impl Session {
     // The replay before the first byte of its script.
     pub fn new() -> Session
-        ensures { λ r. ⌜ Open r 0 ⌝ }
+        ensures { λ r. ⌜ r ≡ newSession ⌝ }
     {
         Session {
             bench: Bench::new(),
@@ -153,7 +159,7 @@ impl Session {
 
     // The caller has taken what was printed: the buffer is empty.
     pub fn emptied(self) -> Session
-        ensures { λ r. ⌜ Emptied self r ⌝ }
+        ensures { λ r. ⌜ r ≡ emptiedSession self ⌝ }
     {
         let bench = self.bench;
         let reader = self.reader;
@@ -169,7 +175,7 @@ impl Session {
 
     // One more byte of the line that is being read.
     fn reading(self, byte: u8) -> Session
-        ensures { λ r. ⌜ Kept self r ⌝ }
+        ensures { λ r. ⌜ r ≡ readOn self byte ⌝ }
     {
         let bench = self.bench;
         let reader = self.reader;
@@ -183,8 +189,8 @@ impl Session {
         }
     }
 
-    fn ended(self) -> Session
-        ensures { λ r. ⌜ Kept self r ⌝ }
+    fn closed(self) -> Session
+        ensures { λ r. ⌜ r ≡ closed self ⌝ }
     {
         let bench = self.bench;
         let reader = self.reader;
@@ -202,7 +208,7 @@ impl Session {
 // The line that has been read is performed. No script has 2^64 lines, so its number does not wrap.
 fn end_line(session: Session, board: &mut [u64], work: &mut [u64], out: &mut [u8]) -> Session
     requires { ⌜ Ready session (now board) (now work) (now out) ⌝ }
-    ensures { λ r. ⌜ Open r (session .used + longest) ⌝ }
+    ensures { λ r. ⌜ Turns session (now (out .entry)) (lineTurn session (now (board .entry)) (now (work .entry))) (now (board .exit)) (now (work .exit)) (now (out .exit)) r ⌝ }
 {
     let bench = session.bench;
     let reader = session.reader;
@@ -228,7 +234,7 @@ pub fn feed(
     out: &mut [u8],
 ) -> Session
     requires { ⌜ Ready session (now board) (now work) (now out) ⌝ }
-    ensures { λ r. ⌜ Open r (session .used + longest) ⌝ }
+    ensures { λ r. ⌜ Turns session (now (out .entry)) (feedTurn session byte (now (board .entry)) (now (work .entry))) (now (board .exit)) (now (work .exit)) (now (out .exit)) r ⌝ }
 {
     if session.over {
         return session;
@@ -242,13 +248,13 @@ pub fn feed(
 // The end of the script: a last line with no line feed is a line, if it has a byte.
 pub fn finish(session: Session, board: &mut [u64], work: &mut [u64], out: &mut [u8]) -> Session
     requires { ⌜ Ready session (now board) (now work) (now out) ⌝ }
-    ensures { λ r. ⌜ Open r (session .used + longest) ⌝ }
+    ensures { λ r. ⌜ Turns session (now (out .entry)) (finishTurn session (now (board .entry)) (now (work .entry))) (now (board .exit)) (now (work .exit)) (now (out .exit)) r ⌝ }
 {
     if session.over {
         return session;
     }
     if !session.begun {
-        return session.ended();
+        return session.closed();
     }
-    end_line(session, board, work, out).ended()
+    end_line(session, board, work, out).closed()
 }

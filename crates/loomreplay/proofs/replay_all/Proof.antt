@@ -1,7 +1,7 @@
 use mathlib.Core.Path.{_≡_}
 use lib.ListN.{length}
 use borrow.Author.Needs.{needs}
-use Rattle.transcript.specs.Room.{Ready}
+use Rattle.transcript.specs.Session.{Ready}
 use Rattle.transcript.specs.Laws.{ready-new, ready-used}
 use Rattle.loomreplay.proofs.replay_all.Statement.{statement}
 use Rattle.loomreplay.proofs.replay_all.Tie as tie

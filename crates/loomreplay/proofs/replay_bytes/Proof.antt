@@ -3,7 +3,7 @@ use Prim.Native.Nat.{_≤_, _-_}
 use mathlib.Core.Path.{_≡_}
 use lib.ListN.{length}
 use borrow.Author.Needs.{needs}
-use Rattle.transcript.specs.Room.{Ready}
+use Rattle.transcript.specs.Session.{Ready}
 use Rattle.loomreplay.proofs.replay_bytes.Statement.{statement}
 use Rattle.loomreplay.proofs.replay_bytes.Tie as tie
 

@@ -21,7 +21,7 @@ same-length-3 c = search needs
 
 returns : tie.Need-returns
 returns c =
-    ready-again _ _ _ _ _ _ _ _ (c .before .before .before .before .before .before .before .before .before .before .before .before .before .before .before .pre) (c .before .before .before .before .before .before .before .before .finish .ensures) (omega arith) _ (omega arith) (omega arith) (c .make-room .ensures)
+    ready-again _ _ _ _ _ _ _ _ (c .before .before .before .before .before .before .before .before .before .before .before .before .before .before .before .pre) (c .before .before .before .before .before .before .before .before .finish .ensures .kept) (omega arith) _ (omega arith) (omega arith) (c .make-room .ensures)
 
 pub replay-end-spec : {M : Type 1} → statement M
 replay-end-spec =

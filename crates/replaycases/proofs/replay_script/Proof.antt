@@ -3,7 +3,7 @@ use mathlib.Core.Path.{_≡_}
 use native.Mathlib.Omega.{arith}
 use lib.ListN.{length}
 use borrow.Author.Needs.{needs}
-use Rattle.transcript.specs.Room.{Ready}
+use Rattle.transcript.specs.Session.{Ready}
 use Rattle.transcript.specs.Laws.{ready-new}
 use Rattle.replaycases.proofs.replay_script.Statement.{statement}
 use Rattle.replaycases.proofs.replay_script.Tie as tie

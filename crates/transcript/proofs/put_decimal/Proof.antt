@@ -1,5 +1,5 @@
 use borrow.Author.Needs.{needs}
-use Rattle.transcript.specs.Laws.{decimal-fits, decimal-put}
+use Rattle.transcript.specs.Printing.{decimal-fits, decimal-printed}
 use Rattle.transcript.proofs.put_decimal.Statement.{statement}
 use Rattle.transcript.proofs.put_decimal.Tie as tie
 
@@ -19,7 +19,7 @@ same-length : tie.Need-same-length
 same-length c = search needs
 
 returns : tie.Need-returns
-returns c = search (decimal-put)
+returns c = search (decimal-printed)
 
 pub put-decimal-spec : {M : Type 1} → statement M
 put-decimal-spec =

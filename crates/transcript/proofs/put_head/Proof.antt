@@ -1,6 +1,6 @@
 use native.Mathlib.Omega.{arith}
 use borrow.Author.Needs.{needs}
-use Rattle.transcript.specs.Laws.{name-part, name-taken}
+use Rattle.transcript.specs.Printing.{name-part, name-taken, head-printed}
 use Rattle.transcript.proofs.put_head.Statement.{statement}
 use Rattle.transcript.proofs.put_head.Tie as tie
 
@@ -26,15 +26,16 @@ part-put-end : tie.Need-part-put-end
 part-put-end c = search (name-part)
 
 put-requires : tie.Need-put-requires
-put-requires c κs = omega (arith, name-taken (c .before .before .before .before .before .before .before .before .before .before .before .before .before .before .before .args .status) _ _ (c .before .before .before .before .before .before .before .before .before .before .before .before .before .number .ensures) (c .before .before .before .before .before .before .before .before .before .before .before .before .name-of .ensures))
+put-requires c κs =
+    omega (arith, name-taken (c .before .before .before .before .before .before .before .before .before .before .before .before .before .before .before .args .status) _ _ (c .before .before .before .before .before .before .before .before .before .before .before .before .before .number .ensures) (c .before .before .before .before .before .before .before .before .before .before .before .before .name-of .ensures))
 
 same-length : tie.Need-same-length
 same-length c = search needs
 
 returns : tie.Need-returns
 returns c =
-    let taken = name-taken (c .before .before .before .before .before .before .before .before .before .before .before .before .before .before .before .before .before .before .args .status) _ _ (c .before .before .before .before .before .before .before .before .before .before .before .before .before .before .before .before .number .ensures) (c .before .before .before .before .before .before .before .before .before .before .before .before .before .before .before .name-of .ensures) in
-    record { start = omega (arith, c .before .before .put .ensures); end = omega (arith, taken, c .before .before .put .ensures) }
+    head-printed (c .before .before .before .before .before .before .before .before .before .before .before .before .before .before .before .before .before .before .args .status) _ _ (c .before .before .before .before .before .before .before .before .before .before .before .before .before .before .before .before .number .ensures) (c .before .before .before .before .before .before .before .before .before .before .before .before .before .before .before .name-of .ensures) _ _ _ _ _ _ _ _ _
+    (c .before .before .before .before .before .before .before .before .before .before .before .before .put-byte .ensures) (c .before .before .before .before .before .before .before .before .put-byte2 .ensures) (c .before .before .put .ensures)
 
 pub put-head-spec : {M : Type 1} → statement M
 put-head-spec =

@@ -1,18 +1,21 @@
-use Prim.Native.Nat.{_+_, _*_, _≤_, _-_}
+use Prim.Native.Nat.{_*_, _≤_, _-_}
 use mathlib.Core.Path.{_≡_}
-use lib.ListN.{length}
+use lib.ListN.{length, take}
 use borrow.Author.Needs.{needs}
+use Rattle.transcript.specs.Text.{numbersText}
+use Rattle.transcript.specs.Printing.{Prints, numbers-start, numbers-next, numbers-done}
 use Rattle.transcript.proofs.put_numbers.Statement.{statement}
 use Rattle.transcript.proofs.put_numbers.Tie as tie
 
 abbrev Inv-loop : tie.InvT-loop
-Inv-loop out₀ at numbers end₀ i₀ out end i = (i ≤ length numbers) × (at ≤ end) × (end ≤ at + 21 * i) × (length out ≡ length out₀)
+Inv-loop out₀ at numbers end₀ i₀ out end i =
+    (i ≤ length numbers) × (length out ≡ length out₀) × Prints (21 * i) out₀ at (numbersText (take i numbers)) out end
 
 abbrev μ-loop : tie.MeasureT-loop
 μ-loop out₀ at numbers end₀ i₀ out end i = length numbers - i
 
 loop-holds : tie.Need-loop-holds Inv-loop μ-loop
-loop-holds c = search needs
+loop-holds c = search (needs, numbers-start)
 
 put-byte-requires : tie.Need-put-byte-requires Inv-loop μ-loop
 put-byte-requires c κs = search needs
@@ -33,13 +36,13 @@ loop-less : tie.Need-loop-less Inv-loop μ-loop
 loop-less c = search needs
 
 loop-again : tie.Need-loop-again Inv-loop μ-loop
-loop-again c = search needs
+loop-again c = search (needs, numbers-next)
 
 same-length : tie.Need-same-length Inv-loop μ-loop
 same-length c = search needs
 
 returns : tie.Need-returns Inv-loop μ-loop
-returns c = search needs
+returns c = search (numbers-done)
 
 pub put-numbers-spec : {M : Type 1} → statement M
 put-numbers-spec =

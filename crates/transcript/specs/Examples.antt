@@ -1,0 +1,31 @@
+-- Texts that the definitions give: numbers at the bounds, and two lines of the paper's worked replay.
+use mathlib.Core.Path.{_≡_, refl}
+use Rattle.base.specs.Walk.{firstFrom}
+use Rattle.status.specs.Names.{bytes}
+use Rattle.status.specs.declared.Status.the-variants as status
+use Rattle.replay.specs.declared.Line.{Line}
+use Rattle.replay.specs.declared.Reply.the-variants.{Bad}
+use Rattle.transcript.specs.Text.{placesOf, decimalOf, numbersText, nameText, lineText, badText, replyText}
+
+pub smallest : decimalOf 0 ≡ bytes "0"
+unfolding decimalOf placesOf firstFrom
+smallest = refl
+
+pub two-digits : decimalOf 10 ≡ bytes "10"
+unfolding decimalOf placesOf firstFrom
+two-digits = refl
+
+pub largest : decimalOf 18446744073709551615 ≡ bytes "18446744073709551615"
+unfolding decimalOf placesOf firstFrom
+largest = refl
+
+abbrev persisting : Line
+persisting = record { letter = 97; status = status.Ok; value = 1; stores = 6; epoch = 3; persisted = 1; length = 1; buffered = 0 }
+
+pub persisting-line : lineText persisting ≡ bytes "a ok 1 6 3 1 1 0\n"
+unfolding lineText nameText numbersText decimalOf placesOf firstFrom
+persisting-line = refl
+
+pub bad-line : replyText Bad 12 ≡ bytes "? 12\n"
+unfolding replyText badText numbersText decimalOf placesOf firstFrom
+bad-line = refl
