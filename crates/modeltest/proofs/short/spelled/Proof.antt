@@ -1,0 +1,50 @@
+-- `modeltest::short::spelled` is safe and ends. The loop needs no invariant. The measure is the turns left. Assumes nothing.
+use borrow.Author.Needs.{needs}
+use Prim.Native.Nat.{_-_}
+use Rattle.modeltest.proofs.short.spelled.Statement.{statement}
+use Rattle.modeltest.proofs.short.spelled.Tie as tie
+
+abbrev Inv-loop : tie.InvT-loop
+Inv-loop number next₀ digits₀ i₀ next digits i = Unit {0}
+
+abbrev μ-loop : tie.MeasureT-loop
+μ-loop number next₀ digits₀ i₀ next digits i = 5 - i
+
+loop-holds : tie.Need-loop-holds Inv-loop μ-loop
+loop-holds c = search needs
+
+sum-requires : tie.Need-sum-requires Inv-loop μ-loop
+sum-requires c κs = search needs
+
+letter-requires : tie.Need-letter-requires Inv-loop μ-loop
+letter-requires c κs = search needs
+
+watched-requires : tie.Need-watched-requires Inv-loop μ-loop
+watched-requires c κs = search needs
+
+add-i : tie.Need-add-i Inv-loop μ-loop
+add-i c = search needs
+
+loop-less : tie.Need-loop-less Inv-loop μ-loop
+loop-less c = search needs
+
+loop-again : tie.Need-loop-again Inv-loop μ-loop
+loop-again c = search needs
+
+returns : tie.Need-returns Inv-loop μ-loop
+returns c = search needs
+
+pub spelled-spec : {M : Type 1} → statement M
+spelled-spec =
+    tie.close
+    (tie.spec
+    Inv-loop
+    μ-loop
+    loop-holds
+    sum-requires
+    letter-requires
+    watched-requires
+    add-i
+    loop-less
+    loop-again
+    returns)

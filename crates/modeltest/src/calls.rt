@@ -1,0 +1,248 @@
+// One call, on the library and on the model, from the same two memories and registers.
+use checks::Registers;
+ghost use Prim.Native.Nat.{_<_, _≤_};
+
+// The model takes boards of up to 300 words. The work memory has room for S = 257, which is refused.
+pub const BOARD_ROOM: usize = 300;
+
+pub const WORK_ROOM: usize = 580;
+
+pub const ALL: u32 = 4294967295;
+
+pub enum Kind {
+    Format,
+    PowerUp,
+    Load,
+    Store,
+    Evict,
+    Commit,
+    Scan,
+    Tally,
+}
+
+// A call and its arguments. Format has N as its address and L as its value.
+pub struct Call {
+    pub kind: Kind,
+    pub address: u64,
+    pub value: u64,
+    pub allowance: u32,
+}
+
+// What a call is lent: the first words of two arrays; and the registers that it is given.
+pub struct State {
+    pub board: [u64; BOARD_ROOM],
+    pub work: [u64; WORK_ROOM],
+    pub board_words: usize,
+    pub work_words: usize,
+    pub registers: Registers,
+}
+
+// What a call answers. Format and tally return no registers: theirs are those given.
+pub struct Outcome {
+    pub number: u64,
+    pub value: u64,
+    pub stores: u64,
+    pub registers: Registers,
+}
+
+// The whole effect of a call, with the words past the lent ones.
+pub struct Reply {
+    pub board: [u64; BOARD_ROOM],
+    pub work: [u64; WORK_ROOM],
+    pub outcome: Outcome,
+}
+
+pub fn sum(a: u64, b: u64) -> u64 {
+    std::num::wrapping_add_u64(a, b)
+}
+
+pub fn at_most(count: usize, room: usize) -> usize
+    ensures { λ r. ⌜ r ≤ room ⌝ }
+{
+    if count < room { count } else { room }
+}
+
+// An index into an array of `room` words: `at` itself, where that is one.
+pub fn index(at: u64, room: usize) -> usize
+    requires { ⌜ 0 < room ⌝ }
+    ensures { λ r. ⌜ r < room ⌝ }
+{
+    let wanted = at as usize;
+    if wanted < room { wanted } else { 0 }
+}
+
+pub fn no_registers() -> Registers {
+    Registers {
+        epoch: 0,
+        buffered: 0,
+        cursor: 0,
+    }
+}
+
+pub fn blank(board_words: usize, work_words: usize) -> State {
+    State {
+        board: [0; BOARD_ROOM],
+        work: [0; WORK_ROOM],
+        board_words,
+        work_words,
+        registers: no_registers(),
+    }
+}
+
+pub fn plain(kind: Kind) -> Call {
+    Call {
+        kind,
+        address: 0,
+        value: 0,
+        allowance: ALL,
+    }
+}
+
+pub fn to_line(kind: Kind, address: u64, value: u64) -> Call {
+    Call {
+        kind,
+        address,
+        value,
+        allowance: ALL,
+    }
+}
+
+pub fn allowed(c: Call, allowance: u64) -> Call {
+    let kind = c.kind;
+    Call {
+        kind,
+        address: c.address,
+        value: c.value,
+        allowance: (allowance % 65536) as u32,
+    }
+}
+
+fn of_answer(a: picl::Answer) -> Outcome {
+    let status = a.status;
+    let registers = a.registers;
+    Outcome {
+        number: status.number(),
+        value: a.value,
+        stores: a.stores as u64,
+        registers,
+    }
+}
+
+fn of_report(a: picl::Report, registers: Registers) -> Outcome {
+    let status = a.status;
+    Outcome {
+        number: status.number(),
+        value: a.value,
+        stores: a.stores as u64,
+        registers,
+    }
+}
+
+fn library_call(board: &mut [u64], work: &mut [u64], r: Registers, c: Call) -> Outcome {
+    let kind = c.kind;
+    match kind {
+        Kind::Format => of_report(picl::format(board, c.address, c.value), r),
+        Kind::PowerUp => of_answer(picl::power_up(board, work, c.allowance)),
+        Kind::Load => of_answer(picl::load(board, work, r, c.address, c.allowance)),
+        Kind::Store => of_answer(picl::store(board, work, r, c.address, c.value, c.allowance)),
+        Kind::Evict => of_answer(picl::evict(board, work, r, c.address, c.allowance)),
+        Kind::Commit => of_answer(picl::commit(board, work, r, c.allowance)),
+        Kind::Scan => of_answer(picl::scan(board, work, r, c.allowance)),
+        Kind::Tally => of_report(picl::tally(work), r),
+    }
+}
+
+fn of_model(a: model::Answer) -> Outcome {
+    Outcome {
+        number: a.number,
+        value: a.value,
+        stores: a.stores,
+        registers: Registers {
+            epoch: a.registers.epoch,
+            buffered: a.registers.buffered,
+            cursor: a.registers.cursor,
+        },
+    }
+}
+
+fn of_model_report(a: model::Answer, registers: Registers) -> Outcome {
+    Outcome {
+        number: a.number,
+        value: a.value,
+        stores: a.stores,
+        registers,
+    }
+}
+
+fn model_registers(r: Registers) -> model::Registers {
+    model::Registers {
+        epoch: r.epoch,
+        buffered: r.buffered,
+        cursor: r.cursor,
+    }
+}
+
+fn model_call(board: &mut [u64], work: &mut [u64], r: Registers, c: Call) -> Outcome {
+    let m = model_registers(r);
+    let kind = c.kind;
+    match kind {
+        Kind::Format => of_model_report(model::format(board, c.address, c.value), r),
+        Kind::PowerUp => of_model(model::power_up(board, work, c.allowance)),
+        Kind::Load => of_model(model::load(board, work, m, c.address, c.allowance)),
+        Kind::Store => of_model(model::store(board, work, m, c.address, c.value, c.allowance)),
+        Kind::Evict => of_model(model::evict(board, work, m, c.address, c.allowance)),
+        Kind::Commit => of_model(model::commit(board, work, m, c.allowance)),
+        Kind::Scan => of_model(model::scan(board, work, m, c.allowance)),
+        Kind::Tally => of_model_report(model::tally(work), r),
+    }
+}
+
+fn library_part(
+    board: &mut [u64],
+    work: &mut [u64],
+    board_words: usize,
+    work_words: usize,
+    r: Registers,
+    c: Call,
+) -> Outcome {
+    let n = at_most(board_words, board.len());
+    let k = at_most(work_words, work.len());
+    library_call(&mut board[0..n], &mut work[0..k], r, c)
+}
+
+fn model_part(
+    board: &mut [u64],
+    work: &mut [u64],
+    board_words: usize,
+    work_words: usize,
+    r: Registers,
+    c: Call,
+) -> Outcome {
+    let n = at_most(board_words, board.len());
+    let k = at_most(work_words, work.len());
+    model_call(&mut board[0..n], &mut work[0..k], r, c)
+}
+
+pub fn library_reply(s: State, c: Call) -> Reply {
+    let mut board = s.board;
+    let mut work = s.work;
+    let r = s.registers;
+    let outcome = library_part(&mut board, &mut work, s.board_words, s.work_words, r, c);
+    Reply {
+        board,
+        work,
+        outcome,
+    }
+}
+
+pub fn model_reply(s: State, c: Call) -> Reply {
+    let mut board = s.board;
+    let mut work = s.work;
+    let r = s.registers;
+    let outcome = model_part(&mut board, &mut work, s.board_words, s.work_words, r, c);
+    Reply {
+        board,
+        work,
+        outcome,
+    }
+}

@@ -1,0 +1,275 @@
+// A call made on both sides, and what differs.
+use crate::calls::*;
+use crate::print;
+
+// Of how many differences of a group each is printed; all are counted.
+const SHOWN: u64 = 3;
+
+pub enum Part {
+    Nothing,
+    Number,
+    Value,
+    Stores,
+    Epoch,
+    Buffered,
+    Cursor,
+    Board,
+    Work,
+    Persisted,
+    Line,
+}
+
+// The first word that differs: what the library has, and what the model or the reference machine
+// has.
+pub struct Difference {
+    pub part: Part,
+    pub place: u64,
+    pub found: u64,
+    pub wanted: u64,
+}
+
+// What a group has seen.
+pub struct Score {
+    pub group: u64,
+    pub calls: u64,
+    pub differences: u64,
+    // How often each number was answered.
+    pub numbers: [u64; 16],
+    // The most stores of one call, power-up left out.
+    pub most_stores: u64,
+    // How many scans persisted an epoch.
+    pub persisted: u64,
+    // How many accepted calls left a log that goes on past the ring's end.
+    pub wrapped: u64,
+}
+
+pub struct Step {
+    pub state: State,
+    pub outcome: Outcome,
+    pub score: Score,
+}
+
+pub fn new_score(group: u64) -> Score {
+    Score {
+        group,
+        calls: 0,
+        differences: 0,
+        numbers: [0; 16],
+        most_stores: 0,
+        persisted: 0,
+        wrapped: 0,
+    }
+}
+
+pub fn differing(part: Part, place: u64, found: u64, wanted: u64) -> Difference {
+    Difference {
+        part,
+        place,
+        found,
+        wanted,
+    }
+}
+
+pub fn no_difference() -> Difference {
+    differing(Part::Nothing, 0, 0, 0)
+}
+
+pub fn is_same(d: Difference) -> bool {
+    let part = d.part;
+    match part {
+        Part::Nothing => true,
+        _ => false,
+    }
+}
+
+fn first_different(x: &[u64], y: &[u64]) -> usize {
+    for i in 0..x.len() {
+        if i >= y.len() {
+            return i;
+        }
+        if x[i] != y[i] {
+            return i;
+        }
+    }
+    x.len()
+}
+
+pub fn between_words(part: Part, x: &[u64], y: &[u64]) -> Difference {
+    let at = first_different(x, y);
+    if at >= x.len() {
+        return no_difference();
+    }
+    if at >= y.len() {
+        return no_difference();
+    }
+    differing(part, at as u64, x[at], y[at])
+}
+
+fn between_registers(x: Outcome, y: Outcome) -> Difference {
+    if x.registers.epoch != y.registers.epoch {
+        return differing(Part::Epoch, 0, x.registers.epoch, y.registers.epoch);
+    }
+    if x.registers.buffered != y.registers.buffered {
+        return differing(
+            Part::Buffered,
+            0,
+            x.registers.buffered,
+            y.registers.buffered,
+        );
+    }
+    if x.registers.cursor != y.registers.cursor {
+        return differing(Part::Cursor, 0, x.registers.cursor, y.registers.cursor);
+    }
+    no_difference()
+}
+
+fn between_outcomes(x: Outcome, y: Outcome) -> Difference {
+    if x.number != y.number {
+        return differing(Part::Number, 0, x.number, y.number);
+    }
+    if x.value != y.value {
+        return differing(Part::Value, 0, x.value, y.value);
+    }
+    if x.stores != y.stores {
+        return differing(Part::Stores, 0, x.stores, y.stores);
+    }
+    between_registers(x, y)
+}
+
+fn between_boards(x: Reply, y: Reply) -> Difference {
+    let a = x.board;
+    let b = y.board;
+    between_words(Part::Board, &a, &b)
+}
+
+fn between_works(x: Reply, y: Reply) -> Difference {
+    let a = x.work;
+    let b = y.work;
+    between_words(Part::Work, &a, &b)
+}
+
+fn between_replies(x: Reply, y: Reply) -> Difference {
+    let found = x.outcome;
+    let wanted = y.outcome;
+    let first = between_outcomes(found, wanted);
+    if !is_same(first) {
+        return first;
+    }
+    let second = between_boards(x, y);
+    if !is_same(second) {
+        return second;
+    }
+    between_works(x, y)
+}
+
+// The score with a difference more, where there is one.
+pub fn noted(score: Score, s: State, c: Call, d: Difference) -> Score {
+    if is_same(d) {
+        return score;
+    }
+    if score.differences < SHOWN {
+        print::difference_line(score.group, score.calls, s, c, d);
+    }
+    let mut next = score;
+    next.differences = sum(score.differences, 1);
+    next
+}
+
+// Whether a board's log goes on past the ring's end: start + length > L.
+fn is_wrapped(control: u64, shape: u64) -> bool {
+    let start = (control >> 20) & 0xFFFFF;
+    sum(start, control & 0xFFFFF) > shape & 0xFFFFF
+}
+
+fn with_wrapped(score: Score, s: State, number: u64) -> Score {
+    if number != 0 {
+        return score;
+    }
+    if !is_wrapped(s.board[0], s.board[1]) {
+        return score;
+    }
+    let mut next = score;
+    next.wrapped = sum(score.wrapped, 1);
+    next
+}
+
+pub fn is_power_up(c: Call) -> bool {
+    let kind = c.kind;
+    match kind {
+        Kind::PowerUp => true,
+        _ => false,
+    }
+}
+
+fn with_stores(score: Score, c: Call, stores: u64) -> Score {
+    if is_power_up(c) {
+        return score;
+    }
+    if stores <= score.most_stores {
+        return score;
+    }
+    let mut next = score;
+    next.most_stores = stores;
+    next
+}
+
+fn is_scan(c: Call) -> bool {
+    let kind = c.kind;
+    match kind {
+        Kind::Scan => true,
+        _ => false,
+    }
+}
+
+// A scan's value is the epoch that it persisted, or 0.
+fn with_persisted(score: Score, c: Call, value: u64) -> Score {
+    if !is_scan(c) {
+        return score;
+    }
+    if value == 0 {
+        return score;
+    }
+    let mut next = score;
+    next.persisted = sum(score.persisted, 1);
+    next
+}
+
+fn counted(score: Score, number: u64) -> Score {
+    let at = index(number, 16);
+    let seen = score.numbers[at];
+    let mut next = score;
+    next.numbers[at] = sum(seen, 1);
+    next.calls = sum(score.calls, 1);
+    next
+}
+
+fn after(s: State, reply: Reply) -> State {
+    let board = reply.board;
+    let work = reply.work;
+    let registers = reply.outcome.registers;
+    State {
+        board,
+        work,
+        board_words: s.board_words,
+        work_words: s.work_words,
+        registers,
+    }
+}
+
+// One call, made on both sides and compared. It goes on from the library's state, so that one
+// difference does not show again in each later call.
+pub fn compared(s: State, c: Call, score: Score) -> Step {
+    let found = library_reply(s, c);
+    let wanted = model_reply(s, c);
+    let outcome = found.outcome;
+    let state = after(s, found);
+    let judged = noted(score, s, c, between_replies(found, wanted));
+    let with_number = counted(judged, outcome.number);
+    let with_most = with_stores(with_number, c, outcome.stores);
+    let with_epoch = with_persisted(with_most, c, outcome.value);
+    Step {
+        state,
+        outcome,
+        score: with_wrapped(with_epoch, state, outcome.number),
+    }
+}

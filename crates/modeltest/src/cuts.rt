@@ -1,0 +1,114 @@
+// Calls at every allowance, from 0 to what is due, each followed by a power-up.
+use crate::calls::*;
+use crate::compare::Score;
+use crate::history::*;
+use crate::plans;
+use crate::random::advanced;
+
+fn cut_at(h: History, c: Call, allowance: u64, score: Score) -> Score {
+    let mut start = h;
+    start.score = score;
+    let cut = watched(start, allowed(c, allowance));
+    let woken = watched(cut, plain(Kind::PowerUp));
+    woken.score
+}
+
+// A call made whole, then from the same state with each allowance that is at most what is due.
+fn cuts_of(h: History, c: Call, score: Score) -> Score {
+    let mut start = h;
+    start.score = score;
+    let whole = watched(start, c);
+    let due = whole.outcome.stores;
+    let mut next = whole.score;
+    for allowance in 0..sum(due, 1) {
+        next = cut_at(h, c, allowance, next);
+    }
+    next
+}
+
+// The next call of a pseudo-random list: at every allowance, and then as it is.
+fn turn(h: History, plan: Plan, word: u64) -> History {
+    let c = next_call(h, plan, word);
+    let mut start = before_call(h, plan, word, c);
+    let old = start.score;
+    let score = cuts_of(start, c, old);
+    start.score = score;
+    watched(start, c)
+}
+
+fn turns(h: History, plan: Plan, count: u64) -> History {
+    let mut next = h;
+    let mut word = plan.seed;
+    for i in 0..count {
+        word = advanced(word);
+        next = turn(next, plan, word);
+    }
+    next
+}
+
+pub fn list(plan: Plan, score: Score) -> Score {
+    let end = turns(opened(plan, score), plan, plan.turns);
+    end.score
+}
+
+const SLOTS: u64 = 40;
+
+const SWEEP: u64 = 164;
+
+// The calls of one sweep over 40 slots: a store to each line, a commit, a second store to each, a
+// commit, and the scans that persist both epochs.
+fn sweep_call(n: u64) -> Call {
+    let at = n % SWEEP;
+    if at >= 2 * SLOTS + 2 {
+        return plain(Kind::Scan);
+    }
+    if at % (SLOTS + 1) == SLOTS {
+        return plain(Kind::Commit);
+    }
+    to_line(Kind::Store, at % (SLOTS + 1), sum(n, 1000))
+}
+
+// A line that shares its slot with one a little ahead of the sweep: with 31 entries buffered and
+// none of them for the line in that slot, a store to it owes 66 board stores.
+fn rival(n: u64) -> u64 {
+    SLOTS + (n % SWEEP % (SLOTS + 1) + 5) % SLOTS
+}
+
+fn sweep_choice(n: u64, choice: u64) -> Call {
+    let line = n % SWEEP % (SLOTS + 1) % SLOTS;
+    match choice {
+        0 => to_line(Kind::Store, rival(n), n),
+        1 => to_line(Kind::Load, rival(n), 0),
+        2 => to_line(Kind::Evict, line, 0),
+        3 => plain(Kind::Scan),
+        4 => plain(Kind::Commit),
+        5 => plain(Kind::PowerUp),
+        _ => to_line(Kind::Store, line, n),
+    }
+}
+
+fn sweep_choices(h: History, n: u64) -> Score {
+    let mut score = h.score;
+    for choice in 0..7 {
+        score = cuts_of(h, sweep_choice(n, choice), score);
+    }
+    score
+}
+
+// One call of the sweep, before which, at every other state, each kind of call is made at every allowance.
+fn swept(h: History, n: u64) -> History {
+    let mut next = h;
+    if n % 2 == 0 {
+        let score = sweep_choices(h, n);
+        next.score = score;
+    }
+    watched(next, sweep_call(n))
+}
+
+pub fn sweeps(score: Score) -> Score {
+    let mut next = opened(plans::sweep(), score);
+    for n in 0..3 * SWEEP {
+        next = swept(next, n);
+    }
+    next.score
+}

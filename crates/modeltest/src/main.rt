@@ -1,0 +1,81 @@
+// Compares the library with the second, separately written model: the same calls on both, and after
+// each the number, the value, the stores, the registers and every word of both memories. Lists that
+// begin with format and power-up are held to the reference machine too. One line is printed for each
+// group of calls, and the stored output has 0 differences in each.
+mod calls;
+mod compare;
+mod cuts;
+mod damage;
+mod history;
+mod noise;
+mod plans;
+mod print;
+mod random;
+mod short;
+
+use compare::Score;
+use compare::new_score;
+use print::group_line;
+
+fn histories(score: Score) -> Score {
+    let mut next = score;
+    for n in 0..7 {
+        next = history::list(plans::small(n, 1001 + n), next);
+        next = history::list(plans::small(n, 2001 + n), next);
+    }
+    next
+}
+
+fn last_epochs(score: Score) -> Score {
+    let mut next = score;
+    for n in 0..24 {
+        next = history::list(plans::last(16777214 - n, 4001 + n), next);
+    }
+    next
+}
+
+fn full_rings(score: Score) -> Score {
+    let mut next = score;
+    for n in 0..3 {
+        next = history::list(plans::full(n, 5001 + n), next);
+    }
+    next
+}
+
+fn cut_lists(score: Score) -> Score {
+    let mut next = score;
+    for n in 0..4 {
+        next = cuts::list(plans::cut(n, 6001 + n), next);
+    }
+    next
+}
+
+fn three_fields(score: Score) -> Score {
+    damage::fields(3, damage::fields(2, damage::fields(0, score)))
+}
+
+fn lists() {
+    group_line(short::lists(new_score(2)));
+    group_line(histories(new_score(3)));
+    group_line(history::list(plans::waiting(3001), new_score(4)));
+    group_line(last_epochs(new_score(5)));
+    group_line(full_rings(new_score(6)));
+    group_line(history::list(plans::many(7001), new_score(7)));
+    group_line(cut_lists(new_score(8)));
+    group_line(cuts::sweeps(new_score(9)));
+}
+
+fn damaged() {
+    group_line(damage::bits(1, new_score(10)));
+    group_line(three_fields(new_score(11)));
+    group_line(damage::registers(1, new_score(12)));
+    group_line(noise::words(10000, 8001, new_score(13)));
+    group_line(noise::fields(20000, 9001, new_score(14)));
+}
+
+fn main() {
+    group_line(damage::formats(new_score(0)));
+    group_line(damage::lengths(new_score(1)));
+    lists();
+    damaged();
+}

@@ -1,0 +1,255 @@
+// Calls on random memories of 5 lines, 8 log entries and 3 slots: random words, and random fields
+// that are in range but that no list of calls need lead to; then a few bits are flipped.
+use crate::calls::*;
+use crate::compare::*;
+use crate::damage::flipped;
+use crate::plans;
+use crate::random;
+use crate::random::advanced;
+use crate::random::below;
+use crate::random::filled;
+use crate::random::scrambled;
+use checks::Registers;
+
+const LINES: u64 = 5;
+
+const ENTRIES: u64 = 8;
+
+const SLOTS: u64 = 3;
+
+const BOARD_WORDS: usize = 23;
+
+const WORK_WORDS: usize = 70;
+
+const SHAPE: u64 = 0x500008;
+
+const EPOCH_MASK: u64 = 0xFFFFFF;
+
+// Epochs near 0 and near the last.
+fn random_persisted(word: u64) -> u64 {
+    if word % 4 == 0 {
+        return sum(0xFFFFEE, below(word, 17));
+    }
+    below(word, 20)
+}
+
+fn random_board(seed: u64) -> [u64; BOARD_ROOM] {
+    let mut board = [0; BOARD_ROOM];
+    let mut word = seed;
+    for i in 0..BOARD_ROOM {
+        word = scrambled(word);
+        board[i] = word;
+    }
+    board
+}
+
+fn random_words(seed: u64) -> State {
+    let none = [0; WORK_ROOM];
+    State {
+        board: random_board(seed),
+        work: filled(none, advanced(seed)),
+        board_words: BOARD_WORDS,
+        work_words: WORK_WORDS,
+        registers: no_registers(),
+    }
+}
+
+// What the words of a random state are made for.
+struct Frame {
+    persisted: u64,
+    start: u64,
+    length: u64,
+    epoch: u64,
+    buffered: u64,
+    cursor: u64,
+}
+
+fn random_cursor(word: u64, behind: u64) -> u64 {
+    if behind == 0 {
+        return 0;
+    }
+    below(word, SLOTS + 1)
+}
+
+fn random_frame(word: u64) -> Frame {
+    let second = scrambled(word);
+    let persisted = random_persisted(word);
+    let behind = below(second, 16);
+    let length = below(second >> 10, ENTRIES + 1);
+    Frame {
+        persisted,
+        start: below(second >> 20, ENTRIES),
+        length,
+        epoch: sum(sum(persisted, behind), 1),
+        buffered: below(second >> 30, ENTRIES + 1 - length % (ENTRIES + 1)),
+        cursor: random_cursor(second >> 36, behind),
+    }
+}
+
+// An epoch below one that is not 0, often not far below.
+fn earlier(word: u64, epoch: u64) -> u64 {
+    if word % 2 == 0 {
+        return below(word, epoch);
+    }
+    let back = below(word, 4);
+    if back < epoch { epoch - 1 - back } else { 0 }
+}
+
+fn entry(word: u64, till: u64) -> u64 {
+    let from = earlier(word, till);
+    (below(word >> 8, LINES) << 48) | ((from & EPOCH_MASK) << 24) | (till & EPOCH_MASK)
+}
+
+// ValidTill rises by 0, 1 or 2 from an entry to the next.
+fn with_log(board: [u64; BOARD_ROOM], f: Frame) -> [u64; BOARD_ROOM] {
+    let mut next = board;
+    let mut till = sum(f.persisted, 1);
+    for i in 0..ENTRIES {
+        let at = index(2 + 2 * ((f.start % ENTRIES + i) % ENTRIES), BOARD_ROOM);
+        till = sum(till, below(next[at] >> 3, 3));
+        next[at] = entry(next[at], till);
+    }
+    next
+}
+
+fn slot_tag(word: u64, f: Frame) -> u64 {
+    let behind = std::num::wrapping_sub_u64(f.epoch, f.persisted);
+    sum(sum(f.persisted, 1), below(word, behind))
+}
+
+// A line of slot k: k or, where there is such a line, k + 3.
+fn slot_line(word: u64, k: u64) -> u64 {
+    let far = sum(k, SLOTS);
+    if word % 2 == 0 {
+        return k;
+    }
+    if far < LINES { far } else { k }
+}
+
+// An empty, a clean or a dirty slot k.
+fn slot(word: u64, k: u64, f: Frame) -> u64 {
+    let valid = (1 << 63) | (slot_line(word >> 40, k) << 46);
+    let state = word % 4;
+    match state {
+        0 => 0,
+        1 => valid,
+        _ => valid | (1 << 62) | ((slot_tag(word, f) & EPOCH_MASK) << 22),
+    }
+}
+
+fn with_slots(work: [u64; WORK_ROOM], f: Frame) -> [u64; WORK_ROOM] {
+    let mut next = work;
+    for k in 0..SLOTS {
+        let at = index(2 * k, WORK_ROOM);
+        next[at] = slot(next[at], k, f);
+    }
+    next
+}
+
+fn with_buffer(work: [u64; WORK_ROOM], f: Frame) -> [u64; WORK_ROOM] {
+    let mut next = work;
+    for i in 0..32 {
+        let at = index(2 * SLOTS + 2 * i, WORK_ROOM);
+        let till = sum(earlier(next[at] >> 5, f.epoch), 1);
+        next[at] = entry(next[at], till);
+    }
+    next
+}
+
+fn control(f: Frame) -> u64 {
+    (f.persisted << 40) | (f.start << 20) | f.length
+}
+
+// A state whose words are all in range, if its epochs fit 24 bits.
+fn random_fields(seed: u64) -> State {
+    let f = random_frame(seed);
+    let words = random_words(seed);
+    let old_board = words.board;
+    let old_work = words.work;
+    let mut board = with_log(old_board, f);
+    board[0] = control(f);
+    board[1] = SHAPE;
+    State {
+        board,
+        work: with_buffer(with_slots(old_work, f), f),
+        board_words: BOARD_WORDS,
+        work_words: WORK_WORDS,
+        registers: Registers {
+            epoch: f.epoch,
+            buffered: f.buffered,
+            cursor: f.cursor,
+        },
+    }
+}
+
+// Some random words with a shape word that fits and with registers and a control word that may.
+fn framed_words(seed: u64) -> State {
+    let f = random_frame(seed);
+    let mut state = random_words(seed);
+    if seed % 16 != 0 {
+        state.board[1] = SHAPE;
+    }
+    if seed % 4 != 0 {
+        state.board[0] = control(f);
+    }
+    state.registers.epoch = f.epoch;
+    state.registers.buffered = f.buffered;
+    state.registers.cursor = f.cursor;
+    state
+}
+
+// Of the two memories' 93 words, a bit of one flipped.
+fn flipped_once(s: State, word: u64) -> State {
+    flipped(s, below(word, 93), below(word >> 20, 64))
+}
+
+// None, one or two bits flipped.
+fn flipped_some(s: State, word: u64) -> State {
+    let count = word % 4;
+    match count {
+        0 => flipped_once(flipped_once(s, word), scrambled(word)),
+        1 => flipped_once(s, word),
+        _ => s,
+    }
+}
+
+fn turn(s: State, word: u64, score: Score) -> Step {
+    let mix = plans::often_cut();
+    compared(s, random::call(word, mix, LINES, s.registers.epoch), score)
+}
+
+const CHAIN: u64 = 4;
+
+// Four calls from a state.
+fn chain(s: State, seed: u64, score: Score) -> Score {
+    let mut state = s;
+    let mut next = score;
+    let mut word = seed;
+    for i in 0..CHAIN {
+        word = advanced(word);
+        let done = turn(state, word, next);
+        state = done.state;
+        next = done.score;
+    }
+    next
+}
+
+pub fn fields(count: u64, seed: u64, score: Score) -> Score {
+    let mut next = score;
+    let mut word = seed;
+    for i in 0..count {
+        word = advanced(word);
+        next = chain(flipped_some(random_fields(word), word >> 7), word, next);
+    }
+    next
+}
+
+pub fn words(count: u64, seed: u64, score: Score) -> Score {
+    let mut next = score;
+    let mut word = seed;
+    for i in 0..count {
+        word = advanced(word);
+        next = chain(framed_words(word), word, next);
+    }
+    next
+}

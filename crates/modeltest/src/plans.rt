@@ -1,0 +1,159 @@
+// The boards of the lists: N, L, S, another S; the kinds of calls; their number and seed.
+use crate::history::Plan;
+use crate::random::Mix;
+
+// Every kind of call.
+fn even() -> Mix {
+    Mix {
+        stores: 20,
+        loads: 7,
+        evicts: 6,
+        commits: 8,
+        scans: 18,
+        power_ups: 3,
+        cut_every: 12,
+    }
+}
+
+// Rare scans, power-ups and cuts: epochs wait, and the buffer and the log fill.
+fn busy() -> Mix {
+    Mix {
+        stores: 44,
+        loads: 2,
+        evicts: 1,
+        commits: 7,
+        scans: 8,
+        power_ups: 0,
+        cut_every: 200,
+    }
+}
+
+// Many commits: epochs wait.
+fn committing() -> Mix {
+    Mix {
+        stores: 18,
+        loads: 2,
+        evicts: 2,
+        commits: 26,
+        scans: 14,
+        power_ups: 1,
+        cut_every: 60,
+    }
+}
+
+// Mostly scans, so that epochs are persisted with many slots too.
+fn scanning() -> Mix {
+    Mix {
+        stores: 14,
+        loads: 3,
+        evicts: 1,
+        commits: 2,
+        scans: 43,
+        power_ups: 0,
+        cut_every: 500,
+    }
+}
+
+// Single calls on random memories, one in three with a small allowance.
+pub fn often_cut() -> Mix {
+    Mix {
+        stores: 20,
+        loads: 10,
+        evicts: 10,
+        commits: 6,
+        scans: 12,
+        power_ups: 5,
+        cut_every: 3,
+    }
+}
+
+fn plan(lines: u64, entries: u64, slots: u64, other_slots: u64, mix: Mix, turns: u64) -> Plan {
+    Plan {
+        lines,
+        entries,
+        slots,
+        other_slots,
+        persisted: 0,
+        mix,
+        turns,
+        seed: 88172645463325252,
+    }
+}
+
+fn seeded(p: Plan, seed: u64) -> Plan {
+    let mut next = p;
+    next.seed = seed;
+    next
+}
+
+pub fn tiny() -> Plan {
+    plan(2, 3, 1, 1, even(), 0)
+}
+
+pub fn sweep() -> Plan {
+    plan(80, 100, 40, 40, even(), 0)
+}
+
+// The lists of "histories".
+pub fn small(n: u64, seed: u64) -> Plan {
+    match n {
+        0 => seeded(plan(5, 8, 3, 2, even(), 6000), seed),
+        1 => seeded(plan(4, 8, 2, 7, even(), 6000), seed),
+        2 => seeded(plan(1, 1, 1, 2, even(), 3000), seed),
+        3 => seeded(plan(7, 3, 4, 1, even(), 4000), seed),
+        4 => seeded(plan(3, 40, 5, 3, even(), 4000), seed),
+        5 => seeded(plan(30, 100, 16, 40, even(), 4000), seed),
+        _ => seeded(plan(8, 145, 1, 9, even(), 4000), seed),
+    }
+}
+
+pub fn waiting(seed: u64) -> Plan {
+    seeded(plan(4, 60, 2, 1, committing(), 8000), seed)
+}
+
+pub fn last(persisted: u64, seed: u64) -> Plan {
+    let mut next = seeded(plan(4, 20, 2, 1, committing(), 400), seed);
+    next.persisted = persisted;
+    next
+}
+
+pub fn full(n: u64, seed: u64) -> Plan {
+    match n {
+        0 => seeded(plan(6, 5, 3, 3, busy(), 6000), seed),
+        1 => seeded(plan(8, 33, 8, 8, busy(), 6000), seed),
+        _ => seeded(plan(8, 70, 8, 8, busy(), 6000), seed),
+    }
+}
+
+// 256 slots, the most that a work memory can have.
+pub fn many(seed: u64) -> Plan {
+    seeded(plan(60, 110, 256, 255, scanning(), 6000), seed)
+}
+
+// Lists whose calls are each made at every allowance.
+pub fn cut(n: u64, seed: u64) -> Plan {
+    match n {
+        0 => seeded(plan(5, 8, 3, 2, even(), 1500), seed),
+        1 => seeded(plan(6, 5, 3, 3, busy(), 1500), seed),
+        2 => seeded(plan(8, 40, 8, 3, even(), 1500), seed),
+        _ => seeded(plan(8, 70, 8, 5, busy(), 1000), seed),
+    }
+}
+
+fn ending(seed: u64, turns: u64, persisted: u64) -> Plan {
+    let mut next = seeded(plan(5, 8, 3, 3, busy(), turns), seed);
+    next.persisted = persisted;
+    next
+}
+
+// Lists that end in a state to be damaged: a log that wraps, two buffered entries and the cursor at
+// slot 1; an empty slot and room in the log; a log that wraps, at the last epoch; the cursor past
+// the slots and a clean slot.
+pub fn sound(n: u64) -> Plan {
+    match n {
+        0 => ending(36, 60, 0),
+        1 => ending(27, 40, 0),
+        2 => ending(49, 40, 16777210),
+        _ => ending(54, 60, 0),
+    }
+}

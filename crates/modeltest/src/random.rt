@@ -1,0 +1,110 @@
+// Pseudo-random calls. Every list has a fixed seed, so each run makes the same calls.
+use crate::calls::*;
+
+// A step of Marsaglia's xorshift generator: from a word that is not 0 to the next.
+pub fn scrambled(x: u64) -> u64 {
+    let a = x ^ (x << 13);
+    let b = a ^ (a >> 7);
+    b ^ (b << 17)
+}
+
+// Three steps: a call takes up to three words.
+pub fn advanced(x: u64) -> u64 {
+    scrambled(scrambled(scrambled(x)))
+}
+
+// A number below a bound, from a random word.
+pub fn below(word: u64, bound: u64) -> u64 {
+    if bound == 0 {
+        return 0;
+    }
+    (word >> 16) % bound
+}
+
+// How many of 64 calls are of each kind; the rest are tallies. One call in `cut_every` gets a small
+// allowance.
+pub struct Mix {
+    pub stores: u64,
+    pub loads: u64,
+    pub evicts: u64,
+    pub commits: u64,
+    pub scans: u64,
+    pub power_ups: u64,
+    pub cut_every: u64,
+}
+
+fn quiet_kind(mix: Mix, n: u64) -> Kind {
+    let commits = mix.commits;
+    let scans = sum(commits, mix.scans);
+    if n < commits {
+        return Kind::Commit;
+    }
+    if n < scans {
+        return Kind::Scan;
+    }
+    if n < sum(scans, mix.power_ups) {
+        return Kind::PowerUp;
+    }
+    Kind::Tally
+}
+
+fn kind_of(mix: Mix, n: u64) -> Kind {
+    let loads = sum(mix.stores, mix.loads);
+    let evicts = sum(loads, mix.evicts);
+    if n < mix.stores {
+        return Kind::Store;
+    }
+    if n < loads {
+        return Kind::Load;
+    }
+    if n < evicts {
+        return Kind::Evict;
+    }
+    quiet_kind(mix, std::num::wrapping_sub_u64(n, evicts))
+}
+
+// Registers that are zero are refused until a power-up, so that is then the likeliest call.
+fn likely_kind(mix: Mix, word: u64, epoch: u64) -> Kind {
+    if epoch == 0 {
+        if word % 4 != 0 {
+            return Kind::PowerUp;
+        }
+    }
+    kind_of(mix, below(word, 64))
+}
+
+fn small_allowance(word: u64) -> u32 {
+    if word % 2 == 0 {
+        return (word / 2 % 4) as u32;
+    }
+    (word / 2 % 80) as u32
+}
+
+fn allowance(word: u64, cut_every: u64) -> u32 {
+    if below(word, cut_every) != 0 {
+        return ALL;
+    }
+    small_allowance(word >> 40)
+}
+
+// A call on a board of so many lines; one address in lines + 1 is out of range.
+pub fn call(word: u64, mix: Mix, lines: u64, epoch: u64) -> Call {
+    let second = scrambled(word);
+    let third = scrambled(second);
+    Call {
+        kind: likely_kind(mix, word, epoch),
+        address: below(second, sum(lines, 1)),
+        value: third,
+        allowance: allowance(third, mix.cut_every),
+    }
+}
+
+pub fn filled(words: [u64; WORK_ROOM], seed: u64) -> [u64; WORK_ROOM] {
+    let mut next = words;
+    let mut word = seed;
+    for i in 0..WORK_ROOM {
+        word = scrambled(word);
+        next[i] = word;
+    }
+    next
+}
