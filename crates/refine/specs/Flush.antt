@@ -1,9 +1,8 @@
 -- A flush keeps the invariant, at every cut.
-use Prim.Native.Nat.{ℕ, zero, suc, _+_, _≤_}
-use mathlib.Core.Path.{_≡_, refl, sym, ap, subst, _∙_}
+use Prim.Native.Nat.{ℕ, _+_, _≤_}
+use mathlib.Core.Path.{refl, sym, subst}
 use mathlib.Core.Bool.{Bool, true, false}
-use mathlib.Core.List.{List, [], _∷_, _++_}
-use native.Mathlib.Numerals.{add-one}
+use mathlib.Core.List.{List}
 use native.Mathlib.Omega.{arith}
 use Rattle.layout.specs.Limits.{mostAhead}
 use Rattle.layout.specs.Memory.{bufferIn}
@@ -12,30 +11,16 @@ use Rattle.undo.specs.declared.Undo.{Undo}
 use Rattle.undo.specs.Log as undo
 use Rattle.cache.specs.declared.Bounds.{Bounds}
 use Rattle.cache.specs.Effects.{Effect, nothing, flushing, flushingIf}
-use Rattle.history.specs.Machine.{Entry, Volatile, Reference, flushed}
+use Rattle.history.specs.Machine.{Volatile, Reference, flushed}
 use Rattle.history.specs.Invariant.{Live}
 use Rattle.history.specs.Keeps.{flush-safe, flush-live}
 use Rattle.durable.specs.View as durable
 use Rattle.durable.specs.Flush.{flush-cut, flush-reads}
-use Rattle.durable.specs.Listed.{listed, listed-append}
-use Rattle.volatile.specs.Buffer as volatile
-use Rattle.volatile.specs.Buffer.{bufferOf}
 use Rattle.volatile.specs.Slotted.{with-slotted}
 use Rattle.volatile.specs.Swept.{swept-with}
 use Rattle.volatile.specs.View.{volatileOf, flushed-words, view-flushed}
 use Rattle.refine.specs.State.{Off, Ok}
 use Rattle.refine.specs.Along.{Along, along-none}
-
--- the buffer, as the board's words and as the work memory's read it
-pub buffer-same : (buffer : List ℕ) (n : ℕ) → bufferOf buffer n ≡ durable.bufferOf buffer n
-unfolding bufferOf listed volatile.bufferedAt durable.bufferedAt
-buffer-same buffer zero = refl
-buffer-same buffer (suc n) =
-    let e : n + 0 ≡ n = omega arith in
-    ap (λ (xs : List Entry). xs ++ (durable.bufferedAt buffer n ∷ [])) (buffer-same buffer n)
-    ∙ ap (λ (k : ℕ). durable.bufferOf buffer n ++ (durable.bufferedAt buffer k ∷ [])) (sym e)
-    ∙ sym (listed-append (durable.bufferedAt buffer) n 1)
-    ∙ rw add-one
 
 -- What an effect keeps: every cut of its stores leaves a board that recovers, and all of them a controller at work.
 pub record Keeps (L : ℕ) (b : Bounds) (c : ℕ) (board : List ℕ) (g : Reference) (e : Effect) (c′ : ℕ) (g′ : Reference) : Type 0 where
@@ -71,7 +56,7 @@ module _ {L : ℕ} {b : Bounds} {c : ℕ} {board work : List ℕ} {u : Undo} {g 
         after =
             record {
               durable = flushed (o .durable) w;
-              reads = flush-reads u (o .reads) (o .ring) held (bufferIn work) w (buffer-same (bufferIn work) (u .buffered));
+              reads = flush-reads u (o .reads) (o .ring) held (bufferIn work) w refl;
               ring = o .ring;
               slotted = with-slotted (o .slotted) buffer words;
               persisted = o .persisted;

@@ -19,7 +19,9 @@ use Rattle.history.specs.Invariant.{Safe, Live}
 use Rattle.history.specs.Keeps.{write-out-safe, write-out-live}
 use Rattle.durable.specs.View.{Reads}
 use Rattle.durable.specs.Seen.{line-reads}
-use Rattle.volatile.specs.Buffer.{bufferOf, none-silent}
+use Rattle.durable.specs.Listed.{listed}
+use Rattle.durable.specs.View.{bufferOf}
+use Rattle.volatile.specs.Buffer.{none-silent}
 use Rattle.volatile.specs.Cache.{cache-dirty}
 use Rattle.volatile.specs.Proper.{AtHome}
 use Rattle.volatile.specs.Slotted.{Slotted, with-slot, with-value}
@@ -69,7 +71,7 @@ module _ {b : Bounds} {work : List ℕ} (slotted : Slotted b work) (u : Undo) (k
 -- a write-out flushes first where a buffered entry has the address: so no buffered entry is left that tells the line
 pub flush-silent : (u : Undo) (work : List ℕ) (a e : ℕ) (t : Bool) → t ≡ buffers (bufferIn work) (u .buffered) a
     → Silent (bufferOf (bufferIn (flushingIf t u work .work)) (flushingIf t u work .undo .buffered)) e a
-unfolding flushingIf bufferOf recall undo.flushed
+unfolding flushingIf listed recall undo.flushed
 flush-silent u work a e true h = λ d. refl
 flush-silent u work a e false h = none-silent (bufferIn work) (u .buffered) a (sym h) e
 

@@ -1,6 +1,6 @@
 -- The undo buffer as a list of entries, and the tests of it that calls make.
 use Prim.Native.Nat.{ℕ, zero, suc, _+_, _*_, _<_, _≤_}
-use mathlib.Core.Path.{_≡_, refl, _∙_}
+use mathlib.Core.Path.{_≡_, refl, sym, ap, _∙_}
 use mathlib.Core.Logic.{_≢_}
 use mathlib.Core.Bool.{Bool, true, false, cond}
 use mathlib.Core.List.{List, [], _∷_, _++_}
@@ -19,44 +19,37 @@ use Rattle.layout.specs.Words.{encodeEntry, EntryFits}
 use Rattle.undo.specs.declared.Undo.{Undo}
 use Rattle.undo.specs.Entries.{properBuffered}
 use Rattle.undo.specs.Log.{bufferedIn, bufferedProper, bufferProper, elsewhere, buffers, pushed, flushedBuffer}
-use Rattle.history.specs.Every.{Every, every-append, every-map}
+use Rattle.history.specs.Every.{Every, every-map}
 use Rattle.history.specs.Invariant.{ProperEntry}
 use Rattle.history.specs.Machine.{Entry, Silent}
 use Rattle.history.specs.Recall.{here-or-there, silent-away}
+use Rattle.durable.specs.Listed.{listed, listed-same, listed-append, every-listed}
+use Rattle.durable.specs.View.{entryWith, bufferedAt, bufferOf}
 use Rattle.volatile.specs.Every.{every-split}
 use Rattle.volatile.specs.Walk.{all-first}
 
--- an entry's first word and its data
-abbrev pub withOld : layout.Entry → (old : ℕ) → Entry
-withOld e old = record { address = e .address; from = e .from; till = e .till; old = old }
-
-unfoldable pub bufferedAt : List ℕ → ℕ → Entry
-bufferedAt buffer i = withOld (bufferedIn buffer i) (getD buffer (2 * i + 1) 0)
-
--- the first n entries, oldest first
-unfoldable pub bufferOf : List ℕ → ℕ → List Entry
-bufferOf buffer zero = []
-bufferOf buffer (suc n) = bufferOf buffer n ++ (bufferedAt buffer n ∷ [])
-
 pub buffer-none : (buffer : List ℕ) → bufferOf buffer 0 ≡ []
-unfolding bufferOf
+unfolding listed
 buffer-none buffer = refl
+
+-- one entry more
+buffer-next : (buffer : List ℕ) (n : ℕ) → bufferOf buffer (suc n) ≡ bufferOf buffer n ++ (bufferedAt buffer n ∷ [])
+unfolding listed
+buffer-next buffer n =
+    let e : n + 0 ≡ n = omega arith in
+    ap (bufferOf buffer) (sym (add-one n)) ∙ listed-append (bufferedAt buffer) n 1
+    ∙ ap (λ (k : ℕ). bufferOf buffer n ++ (bufferedAt buffer k ∷ [])) e
 
 -- ---- a claim about every entry
 
 module _ (Q : Entry → Type 0) (buffer : List ℕ) where
   pub every-buffered : (n : ℕ) → ((i : ℕ) → i < n → Q (bufferedAt buffer i)) → Every Q (bufferOf buffer n)
-  unfolding bufferOf
-  every-buffered zero h = tt
-  every-buffered (suc n) h =
-      every-append Q (bufferOf buffer n) (bufferedAt buffer n ∷ [])
-      (every-buffered n (λ i below. h i (omega arith))) (h n (omega arith), tt)
+  every-buffered n h = every-listed Q (bufferedAt buffer) 0 n (λ k least below. h k (omega arith))
 
   pub buffered-every : (n : ℕ) → Every Q (bufferOf buffer n) → (i : ℕ) → i < n → Q (bufferedAt buffer i)
-  unfolding bufferOf
   buffered-every zero h = λ i below. absurd (omega arith)
   buffered-every (suc n) h =
-      let parts = every-split Q (bufferOf buffer n) (bufferedAt buffer n ∷ []) h in
+      let parts = every-split Q (bufferOf buffer n) (bufferedAt buffer n ∷ []) (rw (buffer-next buffer n) at h) in
       here-or-there n (λ i. i < suc n → Q (bufferedAt buffer i))
       (λ _. parts .1 .0)
       (λ i away below. buffered-every n (parts .0) i (omega arith))
@@ -77,10 +70,10 @@ flushed-length u buffer = go (eqb (u .buffered) 0)
 -- only the words of the first n entries count
 buffer-same : (buffer buffer′ : List ℕ) (n : ℕ) → ((i : ℕ) → i < 2 * n → getD buffer′ i 0 ≡ getD buffer i 0)
     → bufferOf buffer′ n ≡ bufferOf buffer n
-unfolding bufferOf bufferedAt bufferedIn
-buffer-same buffer buffer′ zero same = refl
-buffer-same buffer buffer′ (suc n) same =
-    rw (buffer-same buffer buffer′ n (λ i below. same i (omega arith)), same (2 * n) (omega arith), same (2 * n + 1) (omega arith))
+unfolding bufferedAt bufferedIn
+buffer-same buffer buffer′ n same =
+    listed-same (bufferedAt buffer′) (bufferedAt buffer) 0 n (λ k least below.
+    rw (same (2 * k) (omega arith), same (2 * k + 1) (omega arith)))
 
 -- ---- "An entry goes to the buffer's end"
 
@@ -96,7 +89,7 @@ module _ (buffer : List ℕ) (n : ℕ) (e : layout.Entry) (old : ℕ) where
       ∙ getD-set-other buffer (2 * n) i (encodeEntry e) 0 (omega arith)
 
   module _ (place : n < bufferPlaces) (words : length buffer ≡ bufferWords) (fits : EntryFits e) where
-    pushed-last : bufferedAt (pushed buffer n e old) n ≡ withOld e old
+    pushed-last : bufferedAt (pushed buffer n e old) n ≡ entryWith e old
     unfolding bufferedAt bufferedIn pushed
     pushed-last =
         let kept = getD-set-other (set buffer (2 * n) (encodeEntry e)) (2 * n + 1) (2 * n) old 0 (omega arith) in
@@ -104,9 +97,9 @@ module _ (buffer : List ℕ) (n : ℕ) (e : layout.Entry) (old : ℕ) where
         let value = getD-set-same (set buffer (2 * n) (encodeEntry e)) (2 * n + 1) old 0 (simp length-set (omega arith)) in
         rw (kept, word, decode-encode-entry e fits, value)
 
-    pub pushed-buffer : bufferOf (pushed buffer n e old) (n + 1) ≡ bufferOf buffer n ++ (withOld e old ∷ [])
-    unfolding bufferOf
-    pushed-buffer = rw (add-one, buffer-same buffer (pushed buffer n e old) n pushed-before, pushed-last)
+    pub pushed-buffer : bufferOf (pushed buffer n e old) (n + 1) ≡ bufferOf buffer n ++ (entryWith e old ∷ [])
+    pushed-buffer =
+        rw (add-one, buffer-next (pushed buffer n e old) n, buffer-same buffer (pushed buffer n e old) n pushed-before, pushed-last)
 
 -- ---- "if any buffered entry has its address"
 

@@ -22,7 +22,9 @@ use Rattle.volatile.specs.Parts.{with-buffer}
 use Rattle.volatile.specs.Cache.{cacheOf}
 use Rattle.volatile.specs.Slotted.{Slotted, zeroWork, zero-cache, slot-home, with-slot, with-holds, with-cache, with-slotted}
 use Rattle.volatile.specs.Stores.{Stored, LineStored, dirtied-held}
-use Rattle.volatile.specs.Buffer.{withOld, bufferOf, buffer-length, flushed-length, pushed-length, pushed-buffer}
+use Rattle.durable.specs.Listed.{listed}
+use Rattle.durable.specs.View.{entryWith, bufferOf}
+use Rattle.volatile.specs.Buffer.{buffer-length, flushed-length, pushed-length, pushed-buffer}
 
 abbrev pub volatileOf : List ℕ → (slots epoch count : ℕ) → Volatile
 volatileOf work slots epoch count = record { running = epoch; buffer = bufferOf (bufferIn work) count; cache = cacheOf work slots }
@@ -42,7 +44,7 @@ undoFields s address from = record { address = address; from = from; till = s }
 -- ---- power-up and commit
 
 pub view-awake : (d : Durable) (slots : ℕ) → 1 ≤ slots → volatileOf (zeroWork slots) slots (d .persisted + 1) 0 ≡ awake d
-unfolding bufferOf
+unfolding listed
 view-awake d slots some = λ i. record { running = add-one (d .persisted) i; buffer = []; cache = zero-cache slots some i }
 
 pub view-commit : (work : List ℕ) (slots epoch count : ℕ)
@@ -78,7 +80,7 @@ module _ {b : Bounds} {work : List ℕ} (slotted : Slotted b work) where
     pub view-flushed : (epoch count : ℕ)
         → volatileOf (withBuffer work (flushedBuffer u (bufferIn work))) (b .slots) epoch 0
         ≡ unbuffered (volatileOf work (b .slots) epoch count)
-    unfolding bufferOf
+    unfolding listed
     view-flushed epoch count = view-with (flushedBuffer u (bufferIn work)) flushed-words epoch count 0
 
     -- "An entry goes to the buffer's end"
@@ -104,7 +106,7 @@ module _ {b : Bounds} {work : List ℕ} (slotted : Slotted b work) where
       pub view-logged : u .buffered < bufferPlaces → EntryFits e → (epoch : ℕ)
           → volatileOf (logged u work e old) (b .slots) epoch (u .buffered + 1)
           ≡ withEntries (volatileOf work (b .slots) epoch (u .buffered))
-          (bufferOf (bufferIn work) (u .buffered) ++ (withOld e old ∷ []))
+          (bufferOf (bufferIn work) (u .buffered) ++ (entryWith e old ∷ []))
       unfolding logged
       view-logged place fits epoch =
           view-with longer longer-words epoch (u .buffered) (u .buffered + 1)
