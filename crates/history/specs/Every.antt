@@ -16,6 +16,10 @@ module _ {A : Type 0} (Q : A → Type 0) where
   every-append [] ys h k = k
   every-append (x ∷ xs) ys h k = (h .0, every-append xs ys (h .1) k)
 
+  pub every-split : (xs ys : List A) → Every Q (xs ++ ys) → Every Q xs × Every Q ys
+  every-split [] ys h = (tt, h)
+  every-split (x ∷ xs) ys h = let rest = every-split xs ys (h .1) in ((h .0, rest .0), rest .1)
+
   pub every-take : (n : ℕ) (xs : List A) → Every Q xs → Every Q (take n xs)
   every-take zero xs h = tt
   every-take (suc n) [] h = tt

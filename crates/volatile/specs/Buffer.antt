@@ -19,13 +19,12 @@ use Rattle.layout.specs.Words.{encodeEntry, EntryFits}
 use Rattle.undo.specs.declared.Undo.{Undo}
 use Rattle.undo.specs.Entries.{properBuffered}
 use Rattle.undo.specs.Log.{bufferedIn, bufferedProper, bufferProper, elsewhere, buffers, pushed, flushedBuffer}
-use Rattle.history.specs.Every.{Every, every-map}
+use Rattle.history.specs.Every.{Every, every-split, every-map}
 use Rattle.history.specs.Invariant.{ProperEntry}
 use Rattle.history.specs.Machine.{Entry, Silent}
 use Rattle.history.specs.Recall.{here-or-there, silent-away}
 use Rattle.durable.specs.Listed.{listed, listed-same, listed-append, every-listed}
 use Rattle.durable.specs.View.{entryWith, bufferedAt, bufferOf}
-use Rattle.volatile.specs.Every.{every-split}
 use Rattle.volatile.specs.Walk.{all-first}
 
 pub buffer-none : (buffer : List ℕ) → bufferOf buffer 0 ≡ []
