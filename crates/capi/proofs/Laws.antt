@@ -1,0 +1,83 @@
+-- One law for each way out of a call: an array too short, and the library's answer brought to its places.
+use Prim.Native.Nat.{ℕ, _<_, _≤_}
+use native.Mathlib.Omega.{arith}
+use mathlib.Core.Path.{_≡_, refl, sym, ap, _∙_}
+use mathlib.Core.Bool.{Bool, true, false, cond, not}
+use mathlib.Core.List.{List}
+use borrow.Author.Tests.{leb-true, not-true, not-false}
+use lib.Dec.{leb}
+use lib.ListN.{length, set, length-set}
+use Rattle.base.specs.Tests.{and-left, and-right}
+use Rattle.checks.specs.declared.Registers.{Registers}
+use Rattle.status.specs.Numbers.{numberOf}
+use Rattle.picl.specs.declared.Answer.{Answer}
+use Rattle.picl.specs.declared.Report.{Report}
+use Rattle.picl.specs.Answers.{Verdict, answerOf, boardAfter, workAfter}
+use Rattle.picl.specs.Calls.{loadVerdict, storeVerdict, evictVerdict, commitVerdict, scanVerdict}
+use Rattle.picl.specs.Calls.{formatReport, formatAfter, tallyReport}
+use Rattle.picl.specs.Contracts.{Answers, Formats}
+use Rattle.capi.specs.Places.{epochAt, bufferedAt, registerWords, answerWords, hasAnswer, hasPlaces, readRegisters}
+use Rattle.capi.specs.Contracts.{Gives, Reports}
+use Rattle.capi.specs.Crossing.{tooShort, back, crossing, loadCrossing, storeCrossing, evictCrossing, commitCrossing, scanCrossing}
+use Rattle.capi.specs.Crossing.{reported, reporting, formatCrossing, tallyCrossing}
+
+pub buffered-within : (registers : List ℕ) (epoch : ℕ) → registerWords ≤ length registers → bufferedAt < length (set registers epochAt epoch)
+buffered-within registers epoch h = rw (length-set registers epochAt epoch) (omega arith)
+
+module _ (registers answer : List ℕ) where
+  pub registers-lent : hasPlaces registers answer ≡ true → registerWords ≤ length registers
+  unfolding hasPlaces hasAnswer
+  registers-lent e = leb-true registerWords (length registers) (and-left (leb registerWords (length registers)) (hasAnswer answer) e)
+
+  pub answer-lent : hasPlaces registers answer ≡ true → answerWords ≤ length answer
+  unfolding hasPlaces hasAnswer
+  answer-lent e = leb-true answerWords (length answer) (and-right (leb registerWords (length registers)) (hasAnswer answer) e)
+
+  -- the same after the test that the calls make
+  pub places-lent : (t : Bool) → t ≡ hasPlaces registers answer → not t ≡ false → hasPlaces registers answer ≡ true
+  places-lent t is e = sym is ∙ not-false t e
+
+  pub registers-tested : (t : Bool) → t ≡ hasPlaces registers answer → not t ≡ false → registerWords ≤ length registers
+  registers-tested t is e = registers-lent (places-lent t is e)
+
+pub answer-only : (answer : List ℕ) → hasAnswer answer ≡ true → answerWords ≤ length answer
+unfolding hasAnswer
+answer-only answer e = leb-true answerWords (length answer) e
+
+pub answer-tested : (answer : List ℕ) (t : Bool) → t ≡ hasAnswer answer → not t ≡ false → hasAnswer answer ≡ true
+answer-tested answer t is e = sym is ∙ not-false t e
+
+module _ (allowance : ℕ) (given : Registers) (v : Verdict) (board work registers answer : List ℕ) (t : Bool) (is : t ≡ hasPlaces registers answer) where
+  pub crossing-short : not t ≡ true → back tooShort board work registers answer ≡ crossing allowance given v board work registers answer
+  unfolding crossing
+  crossing-short e = let p = sym is ∙ not-true t e in rw p
+
+  pub crossing-made : (board′ work′ registers′ answer′ : List ℕ) (a : Answer) (number : ℕ) → not t ≡ false
+      → Answers allowance given board work v board′ work′ a → Gives registers answer a registers′ answer′ number
+      → back number board′ work′ registers′ answer′ ≡ crossing allowance given v board work registers answer
+  unfolding crossing
+  crossing-made board′ work′ registers′ answer′ a number e x g =
+      let p = sym is ∙ not-false t e in
+      rw (p, g .number-is, g .registers-left, g .answer-left, x .answer, x .board-left, x .work-left)
+
+module _ (r : Report) (memory memory′ answer : List ℕ) (t : Bool) (is : t ≡ hasAnswer answer) where
+  pub reporting-short : not t ≡ true → reported tooShort memory answer ≡ reporting r memory memory′ answer
+  unfolding reporting
+  reporting-short e = let p = sym is ∙ not-true t e in rw p
+
+  reporting-made : (given : Report) (left answer′ : List ℕ) (number : ℕ) → not t ≡ false → given ≡ r → left ≡ memory′
+      → Reports answer given answer′ number → reported number left answer′ ≡ reporting r memory memory′ answer
+  unfolding reporting
+  reporting-made given left answer′ number e same kept g =
+      let p = sym is ∙ not-false t e in rw (p, g .number-is, g .answer-left, same, kept)
+
+module _ (answer answer′ : List ℕ) (t : Bool) (is : t ≡ hasAnswer answer) (lent : not t ≡ false) (given : Report) (number : ℕ)
+    (gave : Reports answer given answer′ number) where
+  pub format-made : (board board′ : List ℕ) (lines entries : ℕ) → Formats board lines entries board′ given
+      → reported number board′ answer′ ≡ formatCrossing board answer lines entries
+  format-made board board′ lines entries x =
+      reporting-made (formatReport board lines entries) board (formatAfter board lines entries) answer t is given board′ answer′ number lent
+      (x .report) (x .board-left) gave
+
+  pub tally-made : (work : List ℕ) → given ≡ tallyReport work → reported number work answer′ ≡ tallyCrossing work answer
+  tally-made work x = reporting-made (tallyReport work) work work answer t is given work answer′ number lent x refl gave

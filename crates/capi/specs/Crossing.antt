@@ -1,0 +1,81 @@
+-- What C sees of each call: the number that the function returns, and every lent array afterwards. The call itself is the
+-- library's own definition; only the places of registers and answer are added here, and what is said where these are missing.
+use Prim.Native.Nat.{ℕ}
+use mathlib.Core.Bool.{cond}
+use mathlib.Core.List.{List}
+use Rattle.status.specs.Numbers.{numberOf}
+use Rattle.checks.specs.declared.Registers.{Registers}
+use Rattle.checks.specs.Registers.{zero}
+use Rattle.picl.specs.declared.Report.{Report}
+use Rattle.picl.specs.Answers.{Verdict, answerOf, boardAfter, workAfter}
+use Rattle.picl.specs.Calls.{loadVerdict, storeVerdict, evictVerdict, commitVerdict, scanVerdict, powerUpVerdict}
+use Rattle.picl.specs.Calls.{formatReport, formatAfter, tallyReport}
+use Rattle.capi.specs.Places.{hasAnswer, hasPlaces, readRegisters, writeRegisters, writeAnswer}
+
+-- the number of a call whose registers or answer have too few words, far from the paper's
+abbrev pub tooShort : ℕ
+tooShort = 255
+
+-- how a call with registers comes back to C
+pub record Crossing : Type 0 where
+  pub number : ℕ
+  pub board : List ℕ
+  pub work : List ℕ
+  pub registers : List ℕ
+  pub answer : List ℕ
+
+abbrev pub back : (number : ℕ) → (board work registers answer : List ℕ) → Crossing
+back number board work registers answer =
+    record { number = number; board = board; work = work; registers = registers; answer = answer }
+
+-- what the library makes of the call; with an array too short, nothing is touched
+unfoldable pub crossing : (allowance : ℕ) → (given : Registers) → Verdict → (board work registers answer : List ℕ) → Crossing
+crossing allowance given v board work registers answer =
+    let a = answerOf allowance given v in
+    cond (hasPlaces registers answer)
+    (back (numberOf (a .status)) (boardAfter allowance board v) (workAfter allowance work v) (writeRegisters registers (a .registers))
+    (writeAnswer answer (a .value) (a .stores)))
+    (back tooShort board work registers answer)
+
+module _ (allowance : ℕ) (board work registers answer : List ℕ) where
+  abbrev pub loadCrossing : (address : ℕ) → Crossing
+  loadCrossing address =
+      let r = readRegisters registers in crossing allowance r (loadVerdict board work r address) board work registers answer
+
+  abbrev pub storeCrossing : (address value : ℕ) → Crossing
+  storeCrossing address value =
+      let r = readRegisters registers in crossing allowance r (storeVerdict board work r address value) board work registers answer
+
+  abbrev pub evictCrossing : (address : ℕ) → Crossing
+  evictCrossing address =
+      let r = readRegisters registers in crossing allowance r (evictVerdict board work r address) board work registers answer
+
+  abbrev pub commitCrossing : Crossing
+  commitCrossing = let r = readRegisters registers in crossing allowance r (commitVerdict board work r) board work registers answer
+
+  abbrev pub scanCrossing : Crossing
+  scanCrossing = let r = readRegisters registers in crossing allowance r (scanVerdict board work r) board work registers answer
+
+  -- "Power-up takes none and returns them"; a refused one returns "all zero"
+  abbrev pub powerUpCrossing : Crossing
+  powerUpCrossing = crossing allowance zero (powerUpVerdict board work) board work registers answer
+
+-- "format and tally do neither" take nor return registers: the one memory that the call is lent, and the answer
+pub record Reported : Type 0 where
+  pub number : ℕ
+  pub memory : List ℕ
+  pub answer : List ℕ
+
+abbrev pub reported : (number : ℕ) → (memory answer : List ℕ) → Reported
+reported number memory answer = record { number = number; memory = memory; answer = answer }
+
+unfoldable pub reporting : Report → (memory memory′ answer : List ℕ) → Reported
+reporting r memory memory′ answer =
+    cond (hasAnswer answer) (reported (numberOf (r .status)) memory′ (writeAnswer answer (r .value) (r .stores))) (reported tooShort memory answer)
+
+abbrev pub formatCrossing : (board answer : List ℕ) → (lines entries : ℕ) → Reported
+formatCrossing board answer lines entries =
+    reporting (formatReport board lines entries) board (formatAfter board lines entries) answer
+
+abbrev pub tallyCrossing : (work answer : List ℕ) → Reported
+tallyCrossing work answer = reporting (tallyReport work) work work answer

@@ -1,0 +1,45 @@
+-- The small arrays of words in which registers and answer cross to C, as include/picl.h documents them. An array may be longer than
+-- it must be: the words behind are not touched.
+use Prim.Native.Nat.{ℕ}
+use mathlib.Core.Bool.{Bool, _&&_}
+use mathlib.Core.List.{List}
+use lib.Dec.{leb}
+use lib.ListN.{length, getD, set}
+use Rattle.checks.specs.declared.Registers.{Registers}
+
+abbrev pub epochAt : ℕ
+epochAt = 0
+
+abbrev pub bufferedAt : ℕ
+bufferedAt = 1
+
+abbrev pub cursorAt : ℕ
+cursorAt = 2
+
+abbrev pub registerWords : ℕ
+registerWords = 3
+
+abbrev pub valueAt : ℕ
+valueAt = 0
+
+abbrev pub storesAt : ℕ
+storesAt = 1
+
+abbrev pub answerWords : ℕ
+answerWords = 2
+
+unfoldable pub hasAnswer : (answer : List ℕ) → Bool
+hasAnswer answer = leb answerWords (length answer)
+
+unfoldable pub hasPlaces : (registers answer : List ℕ) → Bool
+hasPlaces registers answer = leb registerWords (length registers) && hasAnswer answer
+
+unfoldable pub readRegisters : List ℕ → Registers
+readRegisters words =
+    record { epoch = getD words epochAt 0; buffered = getD words bufferedAt 0; cursor = getD words cursorAt 0 }
+
+abbrev pub writeRegisters : List ℕ → Registers → List ℕ
+writeRegisters words r = set (set (set words epochAt (r .epoch)) bufferedAt (r .buffered)) cursorAt (r .cursor)
+
+abbrev pub writeAnswer : List ℕ → (value stores : ℕ) → List ℕ
+writeAnswer words value stores = set (set words valueAt value) storesAt stores

@@ -1,0 +1,146 @@
+// The eight calls for C, as include/picl.h declares them: memories as pointer and length, registers and answer in small lent
+// arrays of words, the paper's number as result.
+mod places;
+mod reading;
+
+ghost use mathlib.Core.Path.{_≡_};
+ghost use Rattle.capi.specs.Crossing.{back, loadCrossing, storeCrossing, evictCrossing, commitCrossing, scanCrossing};
+ghost use Rattle.capi.specs.Crossing.{powerUpCrossing, reported, formatCrossing, tallyCrossing};
+use places::TOO_SHORT;
+use places::give;
+use places::has_answer;
+use places::has_places;
+use places::report;
+
+#[no_mangle]
+pub extern "C" fn picl_format(
+    board: &mut [u64],
+    lines: u64,
+    entries: u64,
+    answer: &mut [u64],
+) -> u64
+    ensures { λ r. ⌜ reported r (now (board .exit)) (now (answer .exit)) ≡ formatCrossing (now (board .entry)) (now (answer .entry)) lines entries ⌝ }
+{
+    if !has_answer(answer) {
+        return TOO_SHORT;
+    }
+    let made = picl::format(board, lines, entries);
+    report(answer, made)
+}
+
+#[no_mangle]
+pub extern "C" fn picl_power_up(
+    board: &mut [u64],
+    work: &mut [u64],
+    registers: &mut [u64],
+    allowance: u32,
+    answer: &mut [u64],
+) -> u64
+    ensures { λ r. ⌜ back r (now (board .exit)) (now (work .exit)) (now (registers .exit)) (now (answer .exit)) ≡ powerUpCrossing allowance (now (board .entry)) (now (work .entry)) (now (registers .entry)) (now (answer .entry)) ⌝ }
+{
+    if !has_places(registers, answer) {
+        return TOO_SHORT;
+    }
+    let given = picl::power_up(board, work, allowance);
+    give(registers, answer, given)
+}
+
+#[no_mangle]
+pub extern "C" fn picl_load(
+    board: &mut [u64],
+    work: &mut [u64],
+    registers: &mut [u64],
+    address: u64,
+    allowance: u32,
+    answer: &mut [u64],
+) -> u64
+    ensures { λ r. ⌜ back r (now (board .exit)) (now (work .exit)) (now (registers .exit)) (now (answer .exit)) ≡ loadCrossing allowance (now (board .entry)) (now (work .entry)) (now (registers .entry)) (now (answer .entry)) address ⌝ }
+{
+    if !has_places(registers, answer) {
+        return TOO_SHORT;
+    }
+    let given = reading::load(board, work, registers, address, allowance);
+    give(registers, answer, given)
+}
+
+#[no_mangle]
+pub extern "C" fn picl_store(
+    board: &mut [u64],
+    work: &mut [u64],
+    registers: &mut [u64],
+    address: u64,
+    value: u64,
+    allowance: u32,
+    answer: &mut [u64],
+) -> u64
+    ensures { λ r. ⌜ back r (now (board .exit)) (now (work .exit)) (now (registers .exit)) (now (answer .exit)) ≡ storeCrossing allowance (now (board .entry)) (now (work .entry)) (now (registers .entry)) (now (answer .entry)) address value ⌝ }
+{
+    if !has_places(registers, answer) {
+        return TOO_SHORT;
+    }
+    let given = reading::store(board, work, registers, address, value, allowance);
+    give(registers, answer, given)
+}
+
+#[no_mangle]
+pub extern "C" fn picl_evict(
+    board: &mut [u64],
+    work: &mut [u64],
+    registers: &mut [u64],
+    address: u64,
+    allowance: u32,
+    answer: &mut [u64],
+) -> u64
+    ensures { λ r. ⌜ back r (now (board .exit)) (now (work .exit)) (now (registers .exit)) (now (answer .exit)) ≡ evictCrossing allowance (now (board .entry)) (now (work .entry)) (now (registers .entry)) (now (answer .entry)) address ⌝ }
+{
+    if !has_places(registers, answer) {
+        return TOO_SHORT;
+    }
+    let given = reading::evict(board, work, registers, address, allowance);
+    give(registers, answer, given)
+}
+
+#[no_mangle]
+pub extern "C" fn picl_commit(
+    board: &[u64],
+    work: &[u64],
+    registers: &mut [u64],
+    allowance: u32,
+    answer: &mut [u64],
+) -> u64
+    ensures { λ r. ⌜ back r (now (board .entry)) (now (work .entry)) (now (registers .exit)) (now (answer .exit)) ≡ commitCrossing allowance (now (board .entry)) (now (work .entry)) (now (registers .entry)) (now (answer .entry)) ⌝ }
+{
+    if !has_places(registers, answer) {
+        return TOO_SHORT;
+    }
+    let given = reading::commit(board, work, registers, allowance);
+    give(registers, answer, given)
+}
+
+#[no_mangle]
+pub extern "C" fn picl_scan(
+    board: &mut [u64],
+    work: &mut [u64],
+    registers: &mut [u64],
+    allowance: u32,
+    answer: &mut [u64],
+) -> u64
+    ensures { λ r. ⌜ back r (now (board .exit)) (now (work .exit)) (now (registers .exit)) (now (answer .exit)) ≡ scanCrossing allowance (now (board .entry)) (now (work .entry)) (now (registers .entry)) (now (answer .entry)) ⌝ }
+{
+    if !has_places(registers, answer) {
+        return TOO_SHORT;
+    }
+    let given = reading::scan(board, work, registers, allowance);
+    give(registers, answer, given)
+}
+
+#[no_mangle]
+pub extern "C" fn picl_tally(work: &[u64], answer: &mut [u64]) -> u64
+    ensures { λ r. ⌜ reported r (now (work .entry)) (now (answer .exit)) ≡ tallyCrossing (now (work .entry)) (now (answer .entry)) ⌝ }
+{
+    if !has_answer(answer) {
+        return TOO_SHORT;
+    }
+    let counted = picl::tally(work);
+    report(answer, counted)
+}

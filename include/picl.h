@@ -1,0 +1,164 @@
+/*
+ * The PiCL cache log for loom controllers, for firmware in C.
+ *
+ * The library stands between the controller's one task and the board's nonvolatile memory. It keeps a write-back cache
+ * whose lines carry epoch tags, an undo buffer and an undo log on the board, persists one epoch at a time, and after a cut
+ * of the mains brings every line back as of ONE epoch, the persisted one.
+ *
+ * It has no state of its own and allocates nothing: the caller lends it all memory, for the time of a call. Every
+ * function answers every input: whatever words the memories hold, whatever the registers and arguments are, the answer
+ * and all lent memory afterwards are fixed by what went in, and proved to be what the definitions in
+ * crates/picl/specs/Calls.antt and crates/capi/specs/Crossing.antt give. A refusal leaves all memory as it was.
+ *
+ *
+ * THE BOARD MEMORY outlives the current. PICL_BOARD_WORDS(N, L) words of 64 bits, fields most significant bit first:
+ *
+ *     word 0                control   persisted epoch P 24 bits, log start 20, log length 20
+ *     word 1                shape     zero 24, N 20, L 20
+ *     word 2 to 1 + 2L      log       L entries of two words: address 16, ValidFrom 24, ValidTill 24; then the old data
+ *     word 2 + 2L on        lines     N lines of one word
+ *
+ * N is the number of lines and L the number of log entries, each from 1 to 65,536. The log is a ring: entry i, 0 the
+ * oldest, stands at place (start + i) mod L.
+ *
+ * THE WORK MEMORY is lost with the current. PICL_WORK_WORDS(S) words; S, from 1 to 256, is read from its length:
+ *
+ *     word 0 to 2S - 1      slots     S slots of two words: valid 1, dirty 1, address 16, tag 24, zero 22; then the data
+ *     word 2S on            buffer    32 undo entries of two words, packed as in the log
+ *
+ * Line a belongs in slot a mod S.
+ *
+ * THE REGISTERS are PICL_REGISTER_WORDS words, lost with the current too. Power-up fills them. Each later call reads them,
+ * and leaves the new ones in their place:
+ *
+ *     word 0                s         the running epoch
+ *     word 1                b         how many undo entries are buffered, 0 to 31
+ *     word 2                c         the scan's cursor, 0 to S
+ *
+ * THE ANSWER is PICL_ANSWER_WORDS words that each call fills, and the number that it returns:
+ *
+ *     word 0                value     what the call gives back, 0 where its description names nothing
+ *     word 1                stores    how many board stores the call has made
+ *
+ * Each array may be longer than it must be; the words behind are not touched.
+ *
+ *
+ * THE CALLER'S DUTIES. C cannot test these, so the library cannot either:
+ *
+ *  - Each pointer is aligned for 64 bits, is not null, and has as many words behind it as the length that follows it says.
+ *    The arrays of one call do not overlap.
+ *  - One task makes all calls, one after the other; nothing else writes the board memory, the work memory or the registers.
+ *  - Each call gets board, work memory and registers as the call before returned and left them. Only power-up may be
+ *    given any work memory and any registers.
+ *  - The hardware makes 64-bit stores to the board in the order in which the program makes them, each wholly or not at
+ *    all. Where a cache or a write buffer of the processor stands before the board's memory, map it write-through and in
+ *    order (uncached, or as device memory).
+ *  - A board is formatted once, when it is new. A cut in mid-format leaves a board that has to be formatted again.
+ *  - After a cut: power up, and go on with the registers that it answers. The lines are those of epoch P; what was
+ *    stored later is gone, and so are all of work memory and the registers. A cut in mid-power-up does no harm: power up again.
+ *  - After PICL_ROOM (8): nothing was stored. Call picl_scan until it answers a value other than 0 (S + 1 calls at most),
+ *    which drops what the log no longer needs, and store again. If it answers PICL_NONE (11), only the running epoch is
+ *    in the log: commit first, then scan.
+ *  - After PICL_WAITING (9): nothing was committed, 15 epochs wait. Call picl_scan until it answers a value other than 0,
+ *    and commit again.
+ */
+#ifndef PICL_H
+#define PICL_H
+
+#include <stddef.h>
+#include <stdint.h>
+
+#ifdef __cplusplus
+extern "C" {
+#endif
+
+/* Limits. */
+#define PICL_MOST_LINES 65536
+#define PICL_MOST_ENTRIES 65536
+#define PICL_MOST_SLOTS 256
+#define PICL_BUFFER_ENTRIES 32
+#define PICL_MOST_WAITING 15
+#define PICL_LAST_EPOCH 0xFFFFFF
+
+/* The words of each lent memory. */
+#define PICL_BOARD_WORDS(lines, entries) (2 + 2 * (size_t)(entries) + (size_t)(lines))
+#define PICL_WORK_WORDS(slots) (2 * (size_t)(slots) + 2 * PICL_BUFFER_ENTRIES)
+#define PICL_REGISTER_WORDS 3
+#define PICL_ANSWER_WORDS 2
+
+/* Places in the registers and in the answer. */
+#define PICL_EPOCH 0
+#define PICL_BUFFERED 1
+#define PICL_CURSOR 2
+#define PICL_VALUE 0
+#define PICL_STORES 1
+
+/* The allowance of a call that the current is not to leave. */
+#define PICL_NO_CUT UINT32_MAX
+
+/* The numbers that a call returns. The lowest that applies is returned. */
+enum {
+    PICL_OK = 0,
+    PICL_SHAPE = 1,      /* the board's first two words or its length are not those of a board */
+    PICL_WORK = 2,       /* the work memory's length is not PICL_WORK_WORDS(S), S from 1 to 256 */
+    PICL_ENTRY = 3,      /* power-up: a log entry is not proper; value says which, the oldest counted 0 */
+    PICL_REGS = 4,       /* the registers are not proper for this board and work memory */
+    PICL_ADDRESS = 5,    /* there is no such line */
+    PICL_SLOT = 6,       /* the slot that the call visits is not proper */
+    PICL_BUFFER = 7,     /* a buffered undo entry is not proper */
+    PICL_ROOM = 8,       /* store: the log has no place for the undo entry that is due */
+    PICL_WAITING = 9,    /* commit: 15 epochs wait to be persisted */
+    PICL_LAST = 10,      /* commit: the running epoch is the last that there is */
+    PICL_NONE = 11,      /* scan: no epoch waits to be persisted */
+    PICL_CUT = 12,       /* more stores were due than the allowance: the first of them are on the board */
+    PICL_TOO_SHORT = 255 /* the registers or the answer have too few words; no memory was touched */
+};
+
+/*
+ * All but format and tally take an allowance: the number of board stores that the call may make. It stands in for the
+ * mains switch on a test bench; a controller passes PICL_NO_CUT. At a cut the first stores, as many as allowed, are on the
+ * board, and the work memory and the registers are zero.
+ *
+ * No call but format and power-up makes more than 66 board stores; power-up makes at most one more than the log has entries.
+ */
+
+/* A board of N lines, all zero, with an empty log of L entries. It is not protected against a cut. */
+uint64_t picl_format(uint64_t *board, size_t board_words, uint64_t lines, uint64_t entries, uint64_t *answer,
+                     size_t answer_words);
+
+/* The board as of its persisted epoch P, an empty cache, and registers with running epoch P + 1. A refusal leaves the
+ * registers zero. */
+uint64_t picl_power_up(uint64_t *board, size_t board_words, uint64_t *work, size_t work_words, uint64_t *registers,
+                       size_t register_words, uint32_t allowance, uint64_t *answer, size_t answer_words);
+
+/* The data of the line at an address, as value. */
+uint64_t picl_load(uint64_t *board, size_t board_words, uint64_t *work, size_t work_words, uint64_t *registers,
+                   size_t register_words, uint64_t address, uint32_t allowance, uint64_t *answer, size_t answer_words);
+
+/* A store to the line at an address. */
+uint64_t picl_store(uint64_t *board, size_t board_words, uint64_t *work, size_t work_words, uint64_t *registers,
+                    size_t register_words, uint64_t address, uint64_t value, uint32_t allowance, uint64_t *answer,
+                    size_t answer_words);
+
+/* The line at an address out of the cache. Value 1 if it was held there, 0 if not. */
+uint64_t picl_evict(uint64_t *board, size_t board_words, uint64_t *work, size_t work_words, uint64_t *registers,
+                    size_t register_words, uint64_t address, uint32_t allowance, uint64_t *answer, size_t answer_words);
+
+/* The end of the running epoch, which from now on waits to be persisted. It makes no board store. */
+uint64_t picl_commit(const uint64_t *board, size_t board_words, const uint64_t *work, size_t work_words,
+                     uint64_t *registers, size_t register_words, uint32_t allowance, uint64_t *answer,
+                     size_t answer_words);
+
+/* One step of persisting the oldest epoch that waits: S + 1 accepted calls persist it. Value is the epoch that this call
+ * has persisted, or 0. */
+uint64_t picl_scan(uint64_t *board, size_t board_words, uint64_t *work, size_t work_words, uint64_t *registers,
+                   size_t register_words, uint32_t allowance, uint64_t *answer, size_t answer_words);
+
+/* The number of dirty lines that the cache holds, as value. */
+uint64_t picl_tally(const uint64_t *work, size_t work_words, uint64_t *answer, size_t answer_words);
+
+#ifdef __cplusplus
+}
+#endif
+
+#endif
