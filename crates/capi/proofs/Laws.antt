@@ -1,24 +1,22 @@
 -- One law for each way out of a call: an array too short, and the library's answer brought to its places.
 use Prim.Native.Nat.{ℕ, _<_, _≤_}
 use native.Mathlib.Omega.{arith}
-use mathlib.Core.Path.{_≡_, refl, sym, ap, _∙_}
-use mathlib.Core.Bool.{Bool, true, false, cond, not}
+use mathlib.Core.Path.{_≡_, refl, sym, _∙_}
+use mathlib.Core.Bool.{Bool, true, false, not}
 use mathlib.Core.List.{List}
 use borrow.Author.Tests.{leb-true, not-true, not-false}
 use lib.Dec.{leb}
 use lib.ListN.{length, set, length-set}
 use Rattle.base.specs.Tests.{and-left, and-right}
 use Rattle.checks.specs.declared.Registers.{Registers}
-use Rattle.status.specs.Numbers.{numberOf}
 use Rattle.picl.specs.declared.Answer.{Answer}
 use Rattle.picl.specs.declared.Report.{Report}
-use Rattle.picl.specs.Answers.{Verdict, answerOf, boardAfter, workAfter}
-use Rattle.picl.specs.Calls.{loadVerdict, storeVerdict, evictVerdict, commitVerdict, scanVerdict}
+use Rattle.picl.specs.Answers.{Verdict}
 use Rattle.picl.specs.Calls.{formatReport, formatAfter, tallyReport}
 use Rattle.picl.specs.Contracts.{Answers, Formats}
-use Rattle.capi.specs.Places.{epochAt, bufferedAt, registerWords, answerWords, hasAnswer, hasPlaces, readRegisters}
+use Rattle.capi.specs.Places.{epochAt, bufferedAt, registerWords, answerWords, hasAnswer, hasPlaces}
 use Rattle.capi.specs.Contracts.{Gives, Reports}
-use Rattle.capi.specs.Crossing.{tooShort, back, crossing, loadCrossing, storeCrossing, evictCrossing, commitCrossing, scanCrossing}
+use Rattle.capi.specs.Crossing.{tooShort, back, crossing}
 use Rattle.capi.specs.Crossing.{reported, reporting, formatCrossing, tallyCrossing}
 
 pub buffered-within : (registers : List ℕ) (epoch : ℕ) → registerWords ≤ length registers → bufferedAt < length (set registers epochAt epoch)

@@ -1,0 +1,278 @@
+/*
+ * A loom controller's loop over the PiCL cache log, with a mains switch that a weaver turns off every now and then.
+ *
+ * The loom weaves picks. After pick n its lines hold what only n decides: the pick count, the card's position, the beam's
+ * tension, and for each card the last pick that it was used for. An epoch is PICKS_AN_EPOCH picks long and ends with a
+ * commit, so at the end of epoch e the pick count is e * PICKS_AN_EPOCH, and every other line follows from it. That is how the
+ * controller sees, whenever it wakes, that ALL lines came back as of ONE epoch.
+ *
+ *     controller SCRIPT TRANSCRIPT
+ *
+ * also writes the calls that it made, in the language of the bench program `loomreplay`, and what they answered, as that
+ * prints it.
+ */
+#include <stdio.h>
+#include <stdlib.h>
+
+#include "picl.h"
+#include "recorder.h"
+
+/* The figures that decide whether the log fills up, whether epochs have to wait, and how often the mains goes. */
+#ifndef LOG_ENTRIES
+#define LOG_ENTRIES 96
+#endif
+#ifndef SCANS_A_PICK
+#define SCANS_A_PICK 2
+#endif
+#ifndef MOST_STORES_BETWEEN_CUTS
+#define MOST_STORES_BETWEEN_CUTS 300
+#endif
+
+enum {
+    LINES = 64,
+    SLOTS = 16,
+
+    /* The loom's lines. */
+    PICK_COUNT = 0,
+    CARD_POSITION = 1,
+    BEAM_TENSION = 2,
+    FIRST_CARD = 8,
+    CARDS = 48,
+
+    PICKS_AN_EPOCH = 20,
+    EPOCHS = 40,
+    MOST_CUTS = 1000 /* with fewer stores between two cuts than an epoch takes, the loom never gets on */
+};
+
+/* The board outlives the current. */
+static uint64_t board[PICL_BOARD_WORDS(LINES, LOG_ENTRIES)];
+
+/* All else does not. */
+static uint64_t work[PICL_WORK_WORDS(SLOTS)];
+static uint64_t registers[PICL_REGISTER_WORDS];
+static uint64_t answer[PICL_ANSWER_WORDS];
+
+#define LENT_BOARD board, sizeof board / sizeof *board
+#define LENT_WORK work, sizeof work / sizeof *work
+#define LENT_REGISTERS registers, PICL_REGISTER_WORDS
+#define LENT_ANSWER answer, PICL_ANSWER_WORDS
+
+/* The simulated mains switch: so many board stores still reach the board. */
+static uint32_t stores_left;
+static unsigned cuts;
+
+static void fail(const char *what, uint64_t number)
+{
+    fprintf(stderr, "controller: %s: %llu\n", what, (unsigned long long)number);
+    exit(1);
+}
+
+/* A weaver's hand: when the mains is on again, after how many board stores it goes off. */
+static void turn_on(void)
+{
+    static uint64_t hand = 1;
+    hand = hand * 6364136223846793005u + 1442695040888963407u;
+    stores_left = (uint32_t)(hand >> 33) % MOST_STORES_BETWEEN_CUTS;
+}
+
+/* What every call comes back to. A cut loses work memory and registers, and the loop starts again from the board. */
+static uint64_t answered(const char *call, uint64_t number)
+{
+    record_answer(number, answer, registers, board);
+    stores_left -= (uint32_t)answer[PICL_STORES];
+    if (number == PICL_CUT) {
+        cuts++;
+        printf("mains off in %s after %llu of its stores\n", call, (unsigned long long)answer[PICL_STORES]);
+    }
+    return number;
+}
+
+static uint64_t power_up(void)
+{
+    turn_on();
+    record_call(stores_left, "p");
+    return answered("power-up", picl_power_up(LENT_BOARD, LENT_WORK, LENT_REGISTERS, stores_left, LENT_ANSWER));
+}
+
+static uint64_t load(uint64_t address, uint64_t *value)
+{
+    record_call(stores_left, "l %u", (unsigned)address);
+    uint64_t number = answered("load", picl_load(LENT_BOARD, LENT_WORK, LENT_REGISTERS, address, stores_left, LENT_ANSWER));
+    *value = answer[PICL_VALUE];
+    return number;
+}
+
+static uint64_t scan(void)
+{
+    record_call(stores_left, "a");
+    return answered("scan", picl_scan(LENT_BOARD, LENT_WORK, LENT_REGISTERS, stores_left, LENT_ANSWER));
+}
+
+static uint64_t commit_once(void)
+{
+    record_call(stores_left, "c");
+    return answered("commit", picl_commit(LENT_BOARD, LENT_WORK, LENT_REGISTERS, stores_left, LENT_ANSWER));
+}
+
+/* Scan calls until one of them has persisted an epoch, or none waits. */
+static uint64_t persist(void)
+{
+    uint64_t number;
+    do {
+        number = scan();
+    } while (number == PICL_OK && answer[PICL_VALUE] == 0);
+    return number;
+}
+
+/* The end of an epoch. Where 15 epochs wait, one has to be persisted first. */
+static uint64_t commit(void)
+{
+    uint64_t number = commit_once();
+    while (number == PICL_WAITING) {
+        number = persist();
+        if (number == PICL_OK)
+            number = commit_once();
+    }
+    return number;
+}
+
+static uint64_t store_once(uint64_t address, uint64_t value)
+{
+    record_call(stores_left, "s %u %llu", (unsigned)address, (unsigned long long)value);
+    return answered("store",
+                    picl_store(LENT_BOARD, LENT_WORK, LENT_REGISTERS, address, value, stores_left, LENT_ANSWER));
+}
+
+/* Where the log is full, an epoch has to be persisted first, whose entries then go. If none waits, the running epoch alone
+ * fills the log: the board was made with too small a log, and no call can help. */
+static uint64_t store(uint64_t address, uint64_t value)
+{
+    uint64_t number = store_once(address, value);
+    while (number == PICL_ROOM) {
+        number = persist();
+        if (number == PICL_NONE)
+            return PICL_ROOM;
+        if (number == PICL_OK)
+            number = store_once(address, value);
+    }
+    return number;
+}
+
+static uint64_t tension_at(uint64_t pick)
+{
+    return 1000 + pick * 7 % 50;
+}
+
+static uint64_t card_at(uint64_t pick)
+{
+    return pick % CARDS;
+}
+
+/* Weaves one pick: what it stores depends on its number alone. */
+static uint64_t weave(void)
+{
+    uint64_t pick, number = load(PICK_COUNT, &pick);
+    pick++;
+    if (number == PICL_OK)
+        number = store(PICK_COUNT, pick);
+    if (number == PICL_OK)
+        number = store(FIRST_CARD + card_at(pick), pick);
+    if (number == PICL_OK)
+        number = store(CARD_POSITION, card_at(pick));
+    if (number == PICL_OK)
+        number = store(BEAM_TENSION, tension_at(pick));
+    for (int i = 0; number == PICL_OK && i < SCANS_A_PICK; i++)
+        number = scan();
+    return number == PICL_NONE ? PICL_OK : number; /* that no epoch waits is no fault */
+}
+
+static uint64_t weave_epoch(void)
+{
+    uint64_t number = PICL_OK;
+    for (int i = 0; number == PICL_OK && i < PICKS_AN_EPOCH; i++)
+        number = weave();
+    return number == PICL_OK ? commit() : number;
+}
+
+/* What a line holds after so many picks. */
+static uint64_t line_after(uint64_t picks, uint64_t address)
+{
+    if (address == PICK_COUNT)
+        return picks;
+    if (address == CARD_POSITION)
+        return card_at(picks);
+    if (address == BEAM_TENSION)
+        return picks == 0 ? 0 : tension_at(picks);
+    if (address < FIRST_CARD || address >= FIRST_CARD + CARDS)
+        return 0;
+    uint64_t since = (picks + CARDS - (address - FIRST_CARD)) % CARDS;
+    return since < picks ? picks - since : 0;
+}
+
+/* Every line against what the persisted epoch's pick count says of it. */
+static uint64_t check_lines(uint64_t persisted)
+{
+    uint64_t number = PICL_OK;
+    for (uint64_t address = 0; number == PICL_OK && address < LINES; address++) {
+        uint64_t value;
+        number = load(address, &value);
+        if (number == PICL_OK && value != line_after(persisted * PICKS_AN_EPOCH, address))
+            fail("a line is not of the persisted epoch", address);
+    }
+    return number;
+}
+
+static void format_new_board(void)
+{
+    uint64_t number = picl_format(LENT_BOARD, LINES, LOG_ENTRIES, LENT_ANSWER);
+    if (number != PICL_OK)
+        fail("format", number);
+    printf("new board: formatted\n");
+    record_format(LINES, LOG_ENTRIES, SLOTS);
+}
+
+/* The way from mains on to the first pick. The first power-up of a new board belongs to the bench's `n`, without a cut. */
+static uint64_t start(void)
+{
+    uint64_t number;
+    if (board[1] == 0) {
+        format_new_board();
+        stores_left = PICL_NO_CUT;
+        number = answered("power-up", picl_power_up(LENT_BOARD, LENT_WORK, LENT_REGISTERS, PICL_NO_CUT, LENT_ANSWER));
+        turn_on();
+    } else {
+        number = power_up();
+    }
+    if (number != PICL_OK)
+        return number;
+    uint64_t persisted = registers[PICL_EPOCH] - 1;
+    number = check_lines(persisted);
+    if (number == PICL_OK)
+        printf("awake: every line is of epoch %llu, pick %llu\n", (unsigned long long)persisted,
+               (unsigned long long)line_after(persisted * PICKS_AN_EPOCH, PICK_COUNT));
+    return number;
+}
+
+/* From mains on to mains off, or to the last epoch. */
+static uint64_t run(void)
+{
+    uint64_t number = start();
+    while (number == PICL_OK && registers[PICL_EPOCH] <= EPOCHS)
+        number = weave_epoch();
+    return number;
+}
+
+int main(int count, char **words)
+{
+    if (count == 3)
+        open_records(words[1], words[2]);
+    uint64_t number;
+    do {
+        number = run();
+    } while (number == PICL_CUT && cuts < MOST_CUTS);
+    if (number != PICL_OK)
+        fail("the last call answered", number);
+    close_records();
+    printf("wove %d epochs through %u cuts\n", EPOCHS, cuts);
+    return 0;
+}

@@ -1,0 +1,84 @@
+#include <stdarg.h>
+#include <stdio.h>
+#include <stdlib.h>
+
+#include "picl.h"
+#include "recorder.h"
+
+static FILE *script;
+static FILE *transcript;
+static char letter;
+
+static const char *const names[] = {"ok",   "shape",  "work", "entry",   "regs", "address", "slot",
+                                    "buffer", "room", "waiting", "last", "none",    "cut"};
+
+static FILE *opened(const char *name)
+{
+    FILE *file = fopen(name, "w");
+    if (file == NULL) {
+        perror(name);
+        exit(1);
+    }
+    return file;
+}
+
+void open_records(const char *script_name, const char *transcript_name)
+{
+    script = opened(script_name);
+    transcript = opened(transcript_name);
+}
+
+static void closed(FILE *file)
+{
+    if (file != NULL && fclose(file) != 0) {
+        perror("records");
+        exit(1);
+    }
+}
+
+void close_records(void)
+{
+    closed(script);
+    closed(transcript);
+}
+
+void record_format(unsigned lines, unsigned entries, unsigned slots)
+{
+    letter = 'n';
+    if (script != NULL)
+        fprintf(script, "n %u %u %u\n", lines, entries, slots);
+}
+
+void record_call(uint32_t allowance, const char *line, ...)
+{
+    va_list numbers;
+    letter = line[0];
+    if (script == NULL)
+        return;
+    fprintf(script, "k %lu\n", (unsigned long)allowance);
+    va_start(numbers, line);
+    vfprintf(script, line, numbers);
+    va_end(numbers);
+    fputc('\n', script);
+}
+
+/* The control word of a board: persisted epoch 24 bits, log start 20, log length 20. */
+static unsigned long persisted_in(uint64_t control)
+{
+    return (unsigned long)(control >> 40);
+}
+
+static unsigned long length_in(uint64_t control)
+{
+    return (unsigned long)(control & 0xFFFFF);
+}
+
+void record_answer(uint64_t number, const uint64_t *answer, const uint64_t *registers, const uint64_t *board)
+{
+    if (transcript == NULL)
+        return;
+    fprintf(transcript, "%c %s %llu %llu %llu %lu %lu %llu\n", letter,
+            number < sizeof names / sizeof *names ? names[number] : "?", (unsigned long long)answer[PICL_VALUE],
+            (unsigned long long)answer[PICL_STORES], (unsigned long long)registers[PICL_EPOCH], persisted_in(board[0]),
+            length_in(board[0]), (unsigned long long)registers[PICL_BUFFERED]);
+}
