@@ -1,0 +1,22 @@
+//! Links the static library that `rt staticlib capi` writes.
+
+use std::path::Path;
+
+const LIBRARY_FOLDER: &str = "../target/staticlib";
+const LIBRARY_FILE: &str = "libcapi.a";
+
+fn main() {
+    let folder = Path::new(env!("CARGO_MANIFEST_DIR")).join(LIBRARY_FOLDER);
+    let file = folder.join(LIBRARY_FILE);
+    println!("cargo::rerun-if-changed={}", file.display());
+    if !file.is_file() {
+        println!(
+            "cargo::error={} is not there. `rt staticlib capi` in the repository's root folder writes it; \
+             bench/run does that first.",
+            file.display()
+        );
+        return;
+    }
+    println!("cargo::rustc-link-search=native={}", folder.display());
+    println!("cargo::rustc-link-lib=static=capi");
+}

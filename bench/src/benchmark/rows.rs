@@ -1,0 +1,122 @@
+//! The rows of the benchmark.
+
+use super::region::Start;
+use super::traces;
+use crate::call::{Call, Kind};
+
+pub struct Row {
+    pub name: &'static str,
+    pub about: &'static str,
+    /// The one kind of call that is measured, where not all of the trace are.
+    pub only: Option<Kind>,
+    build: fn() -> (Start, Vec<Call>),
+}
+
+/// A row with its memories and trace.
+pub struct Prepared {
+    pub start: Start,
+    pub trace: Vec<Call>,
+    pub only: Option<Kind>,
+}
+
+impl Row {
+    pub fn prepare(&self) -> Prepared {
+        let (start, trace) = (self.build)();
+        Prepared {
+            start,
+            trace,
+            only: self.only,
+        }
+    }
+
+    pub fn find(name: &str) -> Result<&'static Row, String> {
+        ROWS.iter().find(|row| row.name == name).ok_or_else(|| {
+            let names: Vec<&str> = ROWS.iter().map(|row| row.name).collect();
+            format!("There is no row {name}. The rows: {}", names.join(", "))
+        })
+    }
+}
+
+impl Prepared {
+    fn is_measured(&self, call: &Call) -> bool {
+        self.only.is_none_or(|kind| kind == call.kind())
+    }
+
+    /// How many calls are measured.
+    pub fn calls(&self) -> usize {
+        self.trace.iter().filter(|call| self.is_measured(call)).count()
+    }
+
+    /// Gives the trace in order, whole or, where one kind of call is measured, call by call; and whether each piece is
+    /// measured.
+    pub fn for_each_piece(&self, mut play: impl FnMut(&[Call], bool)) {
+        if self.only.is_none() {
+            return play(&self.trace, true);
+        }
+        for call in &self.trace {
+            play(std::slice::from_ref(call), self.is_measured(call));
+        }
+    }
+}
+
+const fn row(name: &'static str, about: &'static str, only: Option<Kind>, build: fn() -> (Start, Vec<Call>)) -> Row {
+    Row {
+        name,
+        about,
+        only,
+        build,
+    }
+}
+
+pub static ROWS: [Row; 15] = [
+    row(
+        "loom-64",
+        "a loom's epoch, S = 64: 2,600 stores, 2,600 loads, 65 scans, 1 commit",
+        None,
+        || traces::loom(64),
+    ),
+    row("loom-64-load", "the loads of it", Some(Kind::Load), || traces::loom(64)),
+    row("loom-64-store", "the stores of it", Some(Kind::Store), || {
+        traces::loom(64)
+    }),
+    row("loom-64-scan", "the scans of it", Some(Kind::Scan), || traces::loom(64)),
+    row(
+        "loom-256",
+        "a loom's epoch, S = 256: 2,600 stores, 2,600 loads, 257 scans, 1 commit",
+        None,
+        || traces::loom(256),
+    ),
+    row("loom-256-load", "the loads of it", Some(Kind::Load), || {
+        traces::loom(256)
+    }),
+    row("loom-256-store", "the stores of it", Some(Kind::Store), || {
+        traces::loom(256)
+    }),
+    row("loom-256-scan", "the scans of it", Some(Kind::Scan), || {
+        traces::loom(256)
+    }),
+    row(
+        "conflict",
+        "stores to 16 lines of one slot: each empties a dirty slot and flushes",
+        None,
+        || traces::conflict(64),
+    ),
+    row(
+        "evict",
+        "evictions in the place of loads in a loom's epoch, S = 256",
+        Some(Kind::Evict),
+        || traces::loom_with_evictions(256),
+    ),
+    row("commit", "15 commits in a row, 16 entries buffered", None, || {
+        traces::commits(256)
+    }),
+    row("tally-64", "S = 64", None, || traces::tallies(64)),
+    row("tally-256", "S = 256", None, || traces::tallies(256)),
+    row(
+        "power-up",
+        "a full log of 65,536 entries, three in four cover P",
+        None,
+        traces::power_up,
+    ),
+    row("format", "65,536 lines, 65,536 entries", None, traces::format),
+];

@@ -1,0 +1,168 @@
+//! The states and traces that the rows measure.
+
+use super::region::{Memories, Start};
+use crate::call::{Call, NO_CUT};
+use crate::handwritten::layout::{Control, Range, Shape, BUFFER_WORDS, MOST_AHEAD, MOST_ENTRIES, MOST_LINES};
+use crate::handwritten::HandWritten;
+use crate::random::Random;
+
+/// What the customer counted on his looms, in an epoch of one second.
+const STORES_PER_EPOCH: usize = 2_600;
+const LINES_OF_A_LOOM: usize = 400;
+const SEED: u64 = 2_600_400;
+
+const SCAN: Call = Call::Scan { allowance: NO_CUT };
+const COMMIT: Call = Call::Commit { allowance: NO_CUT };
+
+fn store(address: u64, data: u64) -> Call {
+    Call::Store {
+        address,
+        data,
+        allowance: NO_CUT,
+    }
+}
+
+fn load(address: u64) -> Call {
+    Call::Load {
+        address,
+        allowance: NO_CUT,
+    }
+}
+
+fn evict(address: u64) -> Call {
+    Call::Evict {
+        address,
+        allowance: NO_CUT,
+    }
+}
+
+/// A board of the largest size and a cache, formatted and powered up.
+fn fresh_board(slots: usize) -> Start {
+    let (lines, entries) = (MOST_LINES, MOST_ENTRIES);
+    let shape = Shape { lines, entries };
+    let start = Start {
+        board: vec![0; shape.board_words()],
+        work: vec![0; 2 * slots + BUFFER_WORDS],
+        registers: [0; 3],
+    };
+    let power_up = Call::PowerUp { allowance: NO_CUT };
+    after(start, &[Call::Format { lines, entries }, power_up])
+}
+
+/// The state after calls that all have to be accepted.
+fn after(start: Start, calls: &[Call]) -> Start {
+    let mut memories = Memories::<HandWritten>::new(&start);
+    for &call in calls {
+        let answer = memories.make(call);
+        assert_eq!(answer.number, 0, "{call}");
+    }
+    memories.into_start()
+}
+
+fn lines_of_a_loom(random: &mut Random) -> Vec<u64> {
+    let mut lines = Vec::new();
+    while lines.len() < LINES_OF_A_LOOM {
+        let address = random.below(MOST_LINES);
+        if !lines.contains(&address) {
+            lines.push(address);
+        }
+    }
+    lines
+}
+
+/// One epoch: a store and another access by turns, each to a line drawn evenly, `scans` scan calls spread evenly, a
+/// commit.
+fn epoch(random: &mut Random, lines: &[u64], access: fn(u64) -> Call, scans: usize) -> Vec<Call> {
+    let mut calls = Vec::new();
+    let mut scans_made = 0;
+    for turn in 1..=STORES_PER_EPOCH {
+        calls.push(store(random.pick(lines), random.word()));
+        calls.push(access(random.pick(lines)));
+        while scans_made * STORES_PER_EPOCH < turn * scans {
+            calls.push(SCAN);
+            scans_made += 1;
+        }
+    }
+    calls.push(COMMIT);
+    calls
+}
+
+/// An epoch in the midst of work: one epoch waits before it, which its scan calls persist.
+fn epoch_in_midst(slots: usize, access: fn(u64) -> Call) -> (Start, Vec<Call>) {
+    let random = &mut Random::new(SEED);
+    let lines = lines_of_a_loom(random);
+    let mut calls = epoch(random, &lines, load, 0);
+    for _ in 0..2 {
+        calls.extend(epoch(random, &lines, load, slots + 1));
+    }
+    let start = after(fresh_board(slots), &calls);
+    (start, epoch(random, &lines, access, slots + 1))
+}
+
+pub fn loom(slots: usize) -> (Start, Vec<Call>) {
+    epoch_in_midst(slots, load)
+}
+
+pub fn loom_with_evictions(slots: usize) -> (Start, Vec<Call>) {
+    epoch_in_midst(slots, evict)
+}
+
+/// Stores by turns to lines of one slot: each one empties it of a line whose undo entry is buffered.
+pub fn conflict(slots: usize) -> (Start, Vec<Call>) {
+    const LINES_IN_THE_SLOT: usize = 16;
+    let random = &mut Random::new(SEED);
+    let addresses = (0..LINES_IN_THE_SLOT).map(|turn| (5 + turn * slots) as u64);
+    let stores: Vec<Call> = addresses
+        .cycle()
+        .take(STORES_PER_EPOCH)
+        .map(|address| store(address, random.word()))
+        .collect();
+    (after(fresh_board(slots), &stores), stores)
+}
+
+/// As many commits as may wait, with a half full buffer.
+pub fn commits(slots: usize) -> (Start, Vec<Call>) {
+    let stores: Vec<Call> = (0..16).map(|address| store(address, address)).collect();
+    let start = after(fresh_board(slots), &stores);
+    (start, vec![COMMIT; MOST_AHEAD as usize - 1])
+}
+
+pub fn tallies(slots: usize) -> (Start, Vec<Call>) {
+    (loom(slots).0, vec![Call::Tally; 1_000])
+}
+
+pub fn format() -> (Start, Vec<Call>) {
+    let mut start = fresh_board(256);
+    start.board = Random::new(SEED).words(start.board.len());
+    let format = Call::Format {
+        lines: MOST_LINES,
+        entries: MOST_ENTRIES,
+    };
+    (start, vec![format])
+}
+
+/// A power-up with a full log that starts in the middle of the ring; three entries in four cover the persisted epoch.
+pub fn power_up() -> (Start, Vec<Call>) {
+    const PERSISTED: u64 = 1_000;
+    const RING_START: u64 = 12_345;
+    let random = &mut Random::new(SEED);
+    let mut start = fresh_board(256);
+    let control = Control {
+        persisted: PERSISTED,
+        start: RING_START as usize,
+        length: MOST_ENTRIES as usize,
+    };
+    start.board[0] = control.pack();
+    for age in 0..MOST_ENTRIES {
+        let place = 2 + 2 * ((RING_START + age) % MOST_ENTRIES) as usize;
+        let covers = !random.one_in(4);
+        let range = Range {
+            address: random.below(MOST_LINES),
+            valid_from: PERSISTED + 1 - u64::from(covers),
+            valid_till: PERSISTED + 2 + age * (MOST_AHEAD - 2) / MOST_ENTRIES,
+        };
+        start.board[place] = range.pack();
+        start.board[place + 1] = random.word();
+    }
+    (start, vec![Call::PowerUp { allowance: NO_CUT }])
+}

@@ -1,0 +1,111 @@
+//! A call with its arguments, made on either side.
+
+use crate::interface::{Answer, CacheLog};
+use std::fmt;
+
+/// The allowance of a call that is not to be cut.
+pub const NO_CUT: u32 = u32::MAX;
+
+#[derive(Clone, Copy, Debug, PartialEq, Eq)]
+pub enum Call {
+    Format { lines: u64, entries: u64 },
+    PowerUp { allowance: u32 },
+    Load { address: u64, allowance: u32 },
+    Store { address: u64, data: u64, allowance: u32 },
+    Evict { address: u64, allowance: u32 },
+    Commit { allowance: u32 },
+    Scan { allowance: u32 },
+    Tally,
+}
+
+#[derive(Clone, Copy, Debug, PartialEq, Eq)]
+pub enum Kind {
+    Format,
+    PowerUp,
+    Load,
+    Store,
+    Evict,
+    Commit,
+    Scan,
+    Tally,
+}
+
+impl Kind {
+    pub const ALL: [Kind; 8] = [
+        Kind::Format,
+        Kind::PowerUp,
+        Kind::Load,
+        Kind::Store,
+        Kind::Evict,
+        Kind::Commit,
+        Kind::Scan,
+        Kind::Tally,
+    ];
+
+    pub fn name(self) -> &'static str {
+        match self {
+            Kind::Format => "format",
+            Kind::PowerUp => "power-up",
+            Kind::Load => "load",
+            Kind::Store => "store",
+            Kind::Evict => "evict",
+            Kind::Commit => "commit",
+            Kind::Scan => "scan",
+            Kind::Tally => "tally",
+        }
+    }
+}
+
+impl Call {
+    pub fn kind(self) -> Kind {
+        match self {
+            Call::Format { .. } => Kind::Format,
+            Call::PowerUp { .. } => Kind::PowerUp,
+            Call::Load { .. } => Kind::Load,
+            Call::Store { .. } => Kind::Store,
+            Call::Evict { .. } => Kind::Evict,
+            Call::Commit { .. } => Kind::Commit,
+            Call::Scan { .. } => Kind::Scan,
+            Call::Tally => Kind::Tally,
+        }
+    }
+
+    #[inline(always)]
+    pub fn make<C: CacheLog>(self, board: &mut [u64], work: &mut [u64], registers: &mut C::Registers) -> Answer {
+        match self {
+            Call::Format { lines, entries } => C::format(board, lines, entries),
+            Call::PowerUp { allowance } => C::power_up(board, work, registers, allowance),
+            Call::Load { address, allowance } => C::load(board, work, registers, address, allowance),
+            Call::Store {
+                address,
+                data,
+                allowance,
+            } => C::store(board, work, registers, address, data, allowance),
+            Call::Evict { address, allowance } => C::evict(board, work, registers, address, allowance),
+            Call::Commit { allowance } => C::commit(board, work, registers, allowance),
+            Call::Scan { allowance } => C::scan(board, work, registers, allowance),
+            Call::Tally => C::tally(work),
+        }
+    }
+}
+
+impl fmt::Display for Call {
+    fn fmt(&self, out: &mut fmt::Formatter) -> fmt::Result {
+        write!(out, "{}", self.kind().name())?;
+        match *self {
+            Call::Format { lines, entries } => write!(out, ", N {lines}, L {entries}"),
+            Call::PowerUp { allowance } | Call::Commit { allowance } | Call::Scan { allowance } => {
+                write!(out, ", allowance {allowance}")
+            }
+            Call::Load { address, allowance } | Call::Evict { address, allowance } => {
+                write!(out, ", address {address}, allowance {allowance}")
+            }
+            Call::Store {
+                address,
+                data,
+                allowance,
+            } => write!(out, ", address {address}, data {data:#018x}, allowance {allowance}"),
+            Call::Tally => Ok(()),
+        }
+    }
+}

@@ -1,0 +1,120 @@
+//! A call on which the two sides differ, told in full.
+
+use super::occurrences::number_name;
+use super::sides::Lent;
+use crate::call::Call;
+use crate::handwritten::layout::{Shape, BUFFER_WORDS};
+use std::fmt;
+
+/// How many differing words of one memory are listed.
+const LISTED_WORDS: usize = 8;
+
+pub struct Difference {
+    pub call: Call,
+    /// The call's place in its history, the first counted 0.
+    pub place: u64,
+    pub before: Lent,
+    pub library_number: u64,
+    pub library: Lent,
+    pub handwritten_number: u64,
+    pub handwritten: Lent,
+}
+
+impl fmt::Display for Difference {
+    fn fmt(&self, out: &mut fmt::Formatter) -> fmt::Result {
+        writeln!(out, "  call         {}", self.call)?;
+        self.write_sizes(out)?;
+        writeln!(out, "  registers    before {}", register_text(&self.before.registers))?;
+        self.write_number(out)?;
+        self.write_answer(out, "value", 0)?;
+        self.write_answer(out, "stores", 1)?;
+        self.write_words(out, "registers", |lent| &lent.registers)?;
+        self.write_words(out, "board", |lent| &lent.board)?;
+        self.write_words(out, "work", |lent| &lent.work)?;
+        self.write_words(out, "answer behind", |lent| lent.answer.get(2..).unwrap_or(&[]))
+    }
+}
+
+impl Difference {
+    fn write_sizes(&self, out: &mut fmt::Formatter) -> fmt::Result {
+        let Lent {
+            board,
+            work,
+            registers,
+            answer,
+        } = &self.before;
+        write!(out, "  sizes        board {} words", board.len())?;
+        if let Some(&word) = board.get(1) {
+            let shape = Shape::unpack(word);
+            write!(out, " (its shape word says N {}, L {})", shape.lines, shape.entries)?;
+        }
+        write!(out, ", work {} words", work.len())?;
+        if let Some(slot_words) = work.len().checked_sub(BUFFER_WORDS) {
+            write!(out, " (S {})", slot_words as f64 / 2.0)?;
+        }
+        writeln!(
+            out,
+            ", registers {} words, answer {} words",
+            registers.len(),
+            answer.len()
+        )
+    }
+
+    fn write_number(&self, out: &mut fmt::Formatter) -> fmt::Result {
+        writeln!(
+            out,
+            "{} number       library {} {}, hand-written {} {}",
+            mark(self.library_number != self.handwritten_number),
+            self.library_number,
+            number_name(self.library_number),
+            self.handwritten_number,
+            number_name(self.handwritten_number)
+        )
+    }
+
+    fn write_answer(&self, out: &mut fmt::Formatter, name: &str, place: usize) -> fmt::Result {
+        let (library, handwritten) = (self.library.answer.get(place), self.handwritten.answer.get(place));
+        if let (Some(library), Some(handwritten)) = (library, handwritten) {
+            let mark = mark(library != handwritten);
+            writeln!(out, "{mark} {name:<12} library {library}, hand-written {handwritten}")?;
+        }
+        Ok(())
+    }
+
+    fn write_words(&self, out: &mut fmt::Formatter, name: &str, part: fn(&Lent) -> &[u64]) -> fmt::Result {
+        let (before, library, handwritten) = (part(&self.before), part(&self.library), part(&self.handwritten));
+        let differing: Vec<usize> = (0..before.len())
+            .filter(|&place| library[place] != handwritten[place])
+            .collect();
+        for &place in differing.iter().take(LISTED_WORDS) {
+            writeln!(
+                out,
+                "* {:<12} before {:#018x}, library {:#018x}, hand-written {:#018x}",
+                format!("{name}[{place}]"),
+                before[place],
+                library[place],
+                handwritten[place]
+            )?;
+        }
+        if differing.len() > LISTED_WORDS {
+            let more = differing.len() - LISTED_WORDS;
+            writeln!(out, "* {name:<12} and {more} more words differ")?;
+        }
+        Ok(())
+    }
+}
+
+fn mark(differs: bool) -> char {
+    if differs {
+        '*'
+    } else {
+        ' '
+    }
+}
+
+fn register_text(words: &[u64]) -> String {
+    match *words {
+        [epoch, buffered, cursor, ..] => format!("s {epoch}, b {buffered}, c {cursor}"),
+        _ => format!("{words:?}"),
+    }
+}

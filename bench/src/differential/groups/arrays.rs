@@ -1,0 +1,36 @@
+//! Arrays for registers and answer that are too short, or longer than they must be.
+
+use crate::differential::habit::{begin, next_call, Habit, Sizes};
+use crate::differential::player::{Outcome, Player};
+use crate::random::Random;
+
+const MOST_WORDS: usize = 6;
+
+pub fn history(player: &mut Player) -> Outcome {
+    let sizes = Sizes::draw_small(&mut player.random);
+    begin(player, sizes)?;
+    let habit = Habit::draw(&mut player.random, sizes);
+    for _ in 0..200 {
+        let call = next_call(player, &habit);
+        let registers = player.state.registers.clone();
+        resize_at_random(&mut player.random, &mut player.state.registers);
+        resize_at_random(&mut player.random, &mut player.state.answer);
+        player.make(call)?;
+        // Too short an array loses registers that the history goes on with.
+        if player.state.registers.len() < registers.len() {
+            player.state.registers = registers;
+        }
+        player.state.registers.truncate(3);
+        player.state.answer = vec![0; 2];
+    }
+    Ok(())
+}
+
+fn resize_at_random(random: &mut Random, array: &mut Vec<u64>) {
+    let words = random.below(MOST_WORDS as u64 + 1) as usize;
+    let kept = array.len().min(words);
+    array.resize(words, 0);
+    for word in &mut array[kept..] {
+        *word = random.word();
+    }
+}

@@ -1,0 +1,52 @@
+//! Boards and caches at the upper limits.
+
+use crate::call::{Call, NO_CUT};
+use crate::differential::habit::{begin, go_on, Habit, Sizes};
+use crate::differential::player::{Outcome, Player};
+use crate::handwritten::layout::{Control, Range, MOST_ENTRIES, MOST_LINES, MOST_SLOTS};
+
+pub fn history(player: &mut Player) -> Outcome {
+    let (lines, entries) = player.random.pick(&[
+        (MOST_LINES, MOST_ENTRIES),
+        (MOST_LINES, 1),
+        (MOST_LINES, 40),
+        (1, MOST_ENTRIES),
+        (MOST_LINES - 1, MOST_ENTRIES - 1),
+    ]);
+    let slots = player.random.pick(&[1, 255, MOST_SLOTS as u64]);
+    let sizes = Sizes { lines, entries, slots };
+    begin(player, sizes)?;
+    let habit = Habit::draw(&mut player.random, sizes);
+    go_on(player, &habit, 100)?;
+    fill_log(player, sizes);
+    let some_restored = player.random.below(entries) as u32;
+    let allowance = player.random.pick(&[NO_CUT, some_restored]);
+    player.make(Call::PowerUp { allowance })?;
+    let habit = Habit::draw(&mut player.random, sizes);
+    go_on(player, &habit, 100)
+}
+
+/// A full log that starts anywhere in the ring; three entries in four cover the persisted epoch.
+fn fill_log(player: &mut Player, sizes: Sizes) {
+    let random = &mut player.random;
+    let persisted = random.between(10, 1000);
+    let start = random.below(sizes.entries);
+    let control = Control {
+        persisted,
+        start: start as usize,
+        length: sizes.entries as usize,
+    };
+    player.state.board[0] = control.pack();
+    for age in 0..sizes.entries {
+        let place = 2 + 2 * ((start + age) % sizes.entries) as usize;
+        let valid_till = persisted + 2 + age * 10 / sizes.entries;
+        let valid_from = persisted + 1 - random.below(4).min(1 + random.below(2));
+        let range = Range {
+            address: random.below(sizes.lines),
+            valid_from,
+            valid_till,
+        };
+        player.state.board[place] = range.pack();
+        player.state.board[place + 1] = random.word();
+    }
+}

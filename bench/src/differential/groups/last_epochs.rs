@@ -1,0 +1,23 @@
+//! Histories whose epochs come to their end.
+
+use crate::call::{Call, NO_CUT};
+use crate::differential::habit::{begin, go_on, Habit, Sizes};
+use crate::differential::player::{Outcome, Player};
+use crate::handwritten::layout::{Control, LAST_EPOCH};
+
+pub fn history(player: &mut Player) -> Outcome {
+    let sizes = Sizes::draw_small(&mut player.random);
+    begin(player, sizes)?;
+    let control = Control {
+        persisted: LAST_EPOCH - player.random.below(22),
+        start: player.random.below(sizes.entries) as usize,
+        length: 0,
+    };
+    player.state.board[0] = control.pack();
+    player.make(Call::PowerUp { allowance: NO_CUT })?;
+    for _ in 0..3 {
+        let habit = Habit::draw_for_epochs(&mut player.random, sizes);
+        go_on(player, &habit, 60)?;
+    }
+    Ok(())
+}

@@ -1,0 +1,109 @@
+//! Logs whose entries stand at the edges: of being proper, of covering the persisted epoch, of being dropped.
+
+use crate::call::{Call, NO_CUT};
+use crate::differential::habit::{go_on, Habit, Sizes};
+use crate::differential::player::{Outcome, Player};
+use crate::handwritten::layout::{Control, Range, Shape, LAST_EPOCH, MOST_AHEAD};
+use crate::random::Random;
+
+pub fn history(player: &mut Player) -> Outcome {
+    let sizes = Sizes::draw_small(&mut player.random);
+    for _ in 0..8 {
+        let control = lend_log(player, sizes);
+        if player.random.one_in(3) {
+            scan_at_the_end(player, sizes, control)?;
+        }
+        power_up(player, control)?;
+    }
+    let habit = Habit::draw(&mut player.random, sizes);
+    go_on(player, &habit, 8)
+}
+
+/// Lends a board with a proper log, but for one entry at most, and any work memory.
+fn lend_log(player: &mut Player, sizes: Sizes) -> Control {
+    let random = &mut player.random;
+    let most_persisted = random.pick(&[0, 1, 50, LAST_EPOCH - 2]);
+    let control = Control {
+        persisted: random.near(most_persisted, 1),
+        start: random.below(sizes.entries) as usize,
+        length: random.between(0, sizes.entries) as usize,
+    };
+    let mut log = proper_log(random, sizes, control);
+    if !log.is_empty() && !random.one_in(3) {
+        put_at_an_edge(random, sizes, control, &mut log);
+    }
+    let board = &mut player.state.board;
+    *board = random.words(sizes.board_words());
+    board[0] = control.pack();
+    board[1] = Shape {
+        lines: sizes.lines,
+        entries: sizes.entries,
+    }
+    .pack();
+    for (place, range) in log.iter().enumerate() {
+        let ring_place = (control.start + place) % sizes.entries as usize;
+        board[2 + 2 * ring_place] = range.pack();
+    }
+    player.state.work = random.words(sizes.work_words());
+    control
+}
+
+fn proper_log(random: &mut Random, sizes: Sizes, control: Control) -> Vec<Range> {
+    let mut valid_till = control.persisted + 1;
+    (0..control.length)
+        .map(|_| {
+            if random.one_in(4) {
+                valid_till = (valid_till + random.below(3)).min(LAST_EPOCH);
+            }
+            let newest_from = valid_till - 1;
+            let oldest_from = control.persisted.saturating_sub(2).min(newest_from);
+            Range {
+                address: random.below(sizes.lines),
+                valid_from: random.between(oldest_from, newest_from),
+                valid_till,
+            }
+        })
+        .collect()
+}
+
+fn put_at_an_edge(random: &mut Random, sizes: Sizes, control: Control, log: &mut [Range]) {
+    let place = random.below(log.len() as u64) as usize;
+    let older_till = match place {
+        0 => control.persisted,
+        _ => log[place - 1].valid_till,
+    };
+    let range = &mut log[place];
+    match random.below(6) {
+        0 => range.address = sizes.lines,
+        1 => range.valid_from = range.valid_till,
+        2 => range.valid_till = control.persisted,
+        3 => range.valid_till = older_till.saturating_sub(1),
+        4 => range.valid_till = older_till,
+        _ => {
+            range.valid_from = control.persisted;
+            range.valid_till = control.persisted + 1;
+        }
+    }
+}
+
+fn power_up(player: &mut Player, control: Control) -> Outcome {
+    let allowance = if player.random.one_in(3) {
+        player.random.below(control.length as u64 + 3) as u32
+    } else {
+        NO_CUT
+    };
+    player.make(Call::PowerUp { allowance })
+}
+
+/// A scan with its cursor at the end, on an empty cache and buffer: it drops the oldest run. Then the board before it
+/// again.
+fn scan_at_the_end(player: &mut Player, sizes: Sizes, control: Control) -> Outcome {
+    let board = player.state.board.clone();
+    let epoch = (control.persisted + player.random.between(2, MOST_AHEAD)).min(LAST_EPOCH);
+    player.state.work.fill(0);
+    player.state.registers = vec![epoch, 0, sizes.slots];
+    let allowance = player.random.pick(&[NO_CUT, NO_CUT, 1, 0]);
+    player.make(Call::Scan { allowance })?;
+    player.state.board = board;
+    Ok(())
+}

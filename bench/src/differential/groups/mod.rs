@@ -1,0 +1,56 @@
+//! The groups of inputs. Each is a function that plays one history.
+
+mod arrays;
+mod damaged;
+mod histories;
+mod large;
+mod last_epochs;
+mod log_edges;
+mod random_words;
+
+use super::player::{Outcome, Player};
+
+pub struct Group {
+    pub name: &'static str,
+    /// The group's part of all calls, in thousandths.
+    pub share: u64,
+    pub history: fn(&mut Player) -> Outcome,
+}
+
+pub const GROUPS: [Group; 7] = [
+    Group {
+        name: "histories",
+        share: 450,
+        history: histories::history,
+    },
+    Group {
+        name: "damaged",
+        share: 209,
+        history: damaged::history,
+    },
+    Group {
+        name: "random-words",
+        share: 120,
+        history: random_words::history,
+    },
+    Group {
+        name: "log-edges",
+        share: 100,
+        history: log_edges::history,
+    },
+    Group {
+        name: "last-epochs",
+        share: 60,
+        history: last_epochs::history,
+    },
+    Group {
+        name: "arrays",
+        share: 60,
+        history: arrays::history,
+    },
+    Group {
+        name: "large",
+        share: 1,
+        history: large::history,
+    },
+];

@@ -1,0 +1,247 @@
+//! How a history chooses its sizes and its calls.
+
+use super::player::{Outcome, Player};
+use crate::call::{Call, NO_CUT};
+use crate::handwritten::layout::BUFFER_WORDS;
+use crate::random::Random;
+
+/// No call but power-up makes more stores; allowances are drawn up to a few more.
+const MOST_STORES: u64 = 66;
+
+#[derive(Clone, Copy, Debug)]
+pub struct Sizes {
+    pub lines: u64,
+    pub entries: u64,
+    pub slots: u64,
+}
+
+impl Sizes {
+    /// Mostly few lines, slots and entries, so that they meet; sometimes so many that a buffer fills up.
+    pub fn draw(random: &mut Random) -> Self {
+        if random.one_in(4) {
+            return Sizes::draw_roomy(random);
+        }
+        Sizes {
+            lines: match random.below(3) {
+                0 => random.between(1, 4),
+                1 => random.between(1, 40),
+                _ => random.between(40, 300),
+            },
+            entries: match random.below(6) {
+                0 => random.between(1, 8),
+                1 => random.between(1, 40),
+                2 => random.between(33, 120),
+                _ => random.between(100, 400),
+            },
+            slots: match random.below(3) {
+                0 => random.between(1, 3),
+                1 => random.between(1, 16),
+                _ => random.between(16, 70),
+            },
+        }
+    }
+
+    fn draw_roomy(random: &mut Random) -> Self {
+        Sizes {
+            lines: random.between(200, 1000),
+            entries: random.between(100, 600),
+            slots: random.between(100, 256),
+        }
+    }
+
+    /// Sizes with which a power-up or an edge can be tried many times.
+    pub fn draw_small(random: &mut Random) -> Self {
+        Sizes {
+            lines: random.between(1, 20),
+            entries: random.between(1, 40),
+            slots: random.between(1, 8),
+        }
+    }
+
+    pub fn board_words(self) -> usize {
+        (2 + 2 * self.entries + self.lines) as usize
+    }
+
+    pub fn work_words(self) -> usize {
+        2 * self.slots as usize + BUFFER_WORDS
+    }
+
+    pub fn format(self) -> Call {
+        Call::Format {
+            lines: self.lines,
+            entries: self.entries,
+        }
+    }
+}
+
+/// How often each call is made, in parts of their sum: load, store, evict, commit, scan, tally, power-up, format.
+type Weights = [u64; 8];
+
+const BALANCED: Weights = [200, 400, 50, 30, 300, 10, 9, 1];
+const STORES: Weights = [60, 800, 10, 12, 100, 5, 3, 0];
+const EPOCHS: Weights = [50, 300, 40, 250, 350, 5, 5, 0];
+const SCANS: Weights = [100, 250, 30, 60, 550, 5, 5, 0];
+const COMMITS: Weights = [50, 500, 30, 300, 100, 5, 15, 0];
+const READS: Weights = [700, 200, 50, 10, 30, 10, 0, 0];
+
+pub struct Habit {
+    sizes: Sizes,
+    weights: Weights,
+    /// Addresses that are drawn most times.
+    hot: Vec<u64>,
+    /// One address in so many is drawn from all lines, where there are hot ones.
+    other_one_in: u64,
+    /// One call in so many has a small allowance.
+    cut_one_in: u64,
+}
+
+impl Habit {
+    pub fn draw(random: &mut Random, sizes: Sizes) -> Self {
+        Habit {
+            sizes,
+            weights: random.pick(&[BALANCED, STORES, EPOCHS, SCANS, COMMITS, READS]),
+            hot: hot_addresses(random, sizes),
+            other_one_in: random.pick(&[4, 16, 200]),
+            cut_one_in: random.pick(&[3, 10, 40, 200]),
+        }
+    }
+
+    /// Many commits and scans.
+    pub fn draw_for_epochs(random: &mut Random, sizes: Sizes) -> Self {
+        Habit {
+            weights: random.pick(&[EPOCHS, SCANS, COMMITS]),
+            ..Habit::draw(random, sizes)
+        }
+    }
+
+    pub fn call(&self, random: &mut Random) -> Call {
+        let allowance = self.allowance(random);
+        let address = self.address(random);
+        match self.draw_kind(random) {
+            0 => Call::Load { address, allowance },
+            1 => Call::Store {
+                address,
+                data: random.any_width(),
+                allowance,
+            },
+            2 => Call::Evict { address, allowance },
+            3 => Call::Commit { allowance },
+            4 => Call::Scan { allowance },
+            5 => Call::Tally,
+            6 => Call::PowerUp { allowance },
+            _ => self.draw_format(random),
+        }
+    }
+
+    fn draw_kind(&self, random: &mut Random) -> usize {
+        let mut left = random.below(self.weights.iter().sum());
+        self.weights
+            .iter()
+            .position(|&weight| {
+                let found = left < weight;
+                left = left.wrapping_sub(weight);
+                found
+            })
+            .unwrap_or(0)
+    }
+
+    pub fn allowance(&self, random: &mut Random) -> u32 {
+        if !random.one_in(self.cut_one_in) {
+            return NO_CUT;
+        }
+        let most = random.pick(&[1, 5, MOST_STORES + 4]);
+        random.below(most) as u32
+    }
+
+    fn address(&self, random: &mut Random) -> u64 {
+        if random.one_in(300) {
+            return random.pick(&[self.sizes.lines, self.sizes.lines + 1, 1 << 16, u64::MAX]);
+        }
+        if self.hot.is_empty() || random.one_in(self.other_one_in) {
+            return random.below(self.sizes.lines);
+        }
+        random.pick(&self.hot)
+    }
+
+    fn draw_format(&self, random: &mut Random) -> Call {
+        let Sizes { lines, entries, .. } = self.sizes;
+        match random.below(4) {
+            0 => self.sizes.format(),
+            1 => Call::Format {
+                lines: lines + 2,
+                entries: entries - 1,
+            },
+            _ => Call::Format {
+                lines: random.near(lines, 2),
+                entries: random.near(entries, 2),
+            },
+        }
+    }
+}
+
+/// None, some anywhere, some that meet in one or two slots, or a row of which no two meet.
+fn hot_addresses(random: &mut Random, sizes: Sizes) -> Vec<u64> {
+    let count = random.between(1, 24);
+    match random.below(4) {
+        0 => Vec::new(),
+        1 => (0..count).map(|_| random.below(sizes.lines)).collect(),
+        2 => {
+            let slot = random.below(sizes.slots);
+            (0..count)
+                .map(|turn| slot + turn % 2 + sizes.slots * random.below(6))
+                .map(|address| address % sizes.lines)
+                .collect()
+        }
+        _ => (0..sizes.slots.min(sizes.lines)).collect(),
+    }
+}
+
+/// Lends a board and a work memory of any words, formats the board and powers up.
+pub fn begin(player: &mut Player, sizes: Sizes) -> Outcome {
+    player.state.board = player.random.words(sizes.board_words());
+    player.state.work = player.random.words(sizes.work_words());
+    player.make(sizes.format())?;
+    player.make(Call::PowerUp { allowance: NO_CUT })
+}
+
+/// Makes `calls` calls.
+pub fn go_on(player: &mut Player, habit: &Habit, calls: u64) -> Outcome {
+    for _ in 0..calls {
+        let call = next_call(player, habit);
+        player.make(call)?;
+    }
+    Ok(())
+}
+
+/// The next call of a history. A power-up is lent any work memory and any registers.
+pub fn next_call(player: &mut Player, habit: &Habit) -> Call {
+    let call = match call_for(player, habit) {
+        Some(call) => call,
+        None => habit.call(&mut player.random),
+    };
+    if matches!(call, Call::PowerUp { .. }) && player.random.one_in(2) {
+        player.state.work = player.random.words(player.state.work.len());
+        player.state.registers = player.random.words(player.state.registers.len());
+    }
+    call
+}
+
+/// What helps after the last answer, most times: power-up after a cut, scans for room or for an epoch that waits, a
+/// commit where there is nothing to scan for.
+fn call_for(player: &mut Player, habit: &Habit) -> Option<Call> {
+    const ROOM: u64 = 8;
+    const WAITING: u64 = 9;
+    const NONE: u64 = 11;
+    let random = &mut player.random;
+    if random.one_in(4) {
+        return None;
+    }
+    let allowance = habit.allowance(random);
+    let is_cut = player.state.registers.first() == Some(&0);
+    match player.last_number {
+        _ if is_cut => Some(Call::PowerUp { allowance }),
+        ROOM | WAITING => Some(Call::Scan { allowance }),
+        NONE => Some(Call::Commit { allowance }),
+        _ => None,
+    }
+}

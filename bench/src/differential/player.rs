@@ -1,0 +1,74 @@
+//! Makes each call of a history on both sides and compares what they leave.
+
+use super::difference::Difference;
+use super::occurrences::Occurrences;
+use super::sides::{on_handwritten, on_library, Lent};
+use crate::call::Call;
+use crate::random::Random;
+
+/// What a history ends with: nothing, or the first difference.
+pub type Outcome = Result<(), Box<Difference>>;
+
+pub struct Player {
+    pub random: Random,
+    /// What the next call is lent. A history may change it as it likes.
+    pub state: Lent,
+    /// What the last call of the history answered.
+    pub last_number: u64,
+    pub occurrences: Occurrences,
+    calls_in_history: u64,
+    library: Lent,
+    handwritten: Lent,
+}
+
+impl Player {
+    pub fn new() -> Self {
+        Player {
+            random: Random::new(0),
+            state: Lent::default(),
+            last_number: 0,
+            occurrences: Occurrences::default(),
+            calls_in_history: 0,
+            library: Lent::default(),
+            handwritten: Lent::default(),
+        }
+    }
+
+    pub fn start_history(&mut self, random: Random) {
+        self.random = random;
+        self.state = Lent {
+            registers: vec![0; 3],
+            answer: vec![0; 2],
+            ..Lent::default()
+        };
+        self.last_number = 0;
+        self.calls_in_history = 0;
+    }
+
+    /// Makes the call on two copies of the state, compares all of them, and goes on from there.
+    pub fn make(&mut self, call: Call) -> Outcome {
+        for word in &mut self.state.answer {
+            *word = self.random.word();
+        }
+        self.library.copy_from(&self.state);
+        self.handwritten.copy_from(&self.state);
+        let library_number = on_library(call, &mut self.library);
+        let handwritten_number = on_handwritten(call, &mut self.handwritten);
+        if library_number != handwritten_number || self.library != self.handwritten {
+            return Err(Box::new(Difference {
+                call,
+                place: self.calls_in_history,
+                before: self.state.clone(),
+                library_number,
+                library: self.library.clone(),
+                handwritten_number,
+                handwritten: self.handwritten.clone(),
+            }));
+        }
+        self.calls_in_history += 1;
+        self.occurrences.count(call, library_number, &self.state, &self.library);
+        std::mem::swap(&mut self.state, &mut self.library);
+        self.last_number = library_number;
+        Ok(())
+    }
+}

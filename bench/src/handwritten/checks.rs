@@ -1,0 +1,135 @@
+//! The tests that a call makes before it changes anything.
+
+use super::layout::{
+    Control, Range, Shape, SlotWord, BUFFER_ENTRIES, BUFFER_WORDS, LAST_EPOCH, MOST_AHEAD, MOST_SLOTS,
+};
+use super::Registers;
+
+/// A packed range, then the data that the line had in it.
+pub type Entry = [u64; 2];
+
+/// The refusals, by the paper's numbers. `Entry` is the one that comes with a value.
+#[derive(Clone, Copy, Debug)]
+#[repr(u64)]
+pub enum Refusal {
+    Shape = 1,
+    Work = 2,
+    Entry = 3,
+    Registers = 4,
+    Address = 5,
+    Slot = 6,
+    Buffer = 7,
+    Room = 8,
+    Waiting = 9,
+    Last = 10,
+    None = 11,
+}
+
+/// The board's first two words, once they agree with each other and with its length.
+#[inline]
+pub fn head(board: &[u64]) -> Result<(Control, Shape), Refusal> {
+    let [control, shape, ..] = *board else {
+        return Err(Refusal::Shape);
+    };
+    let control = Control::unpack(control);
+    let shape = Shape::unpack(shape);
+    let entries = shape.entries as usize;
+    let agree = shape.is_in_range()
+        && board.len() == shape.board_words()
+        && control.persisted < LAST_EPOCH
+        && control.start < entries
+        && control.length <= entries;
+    if agree {
+        Ok((control, shape))
+    } else {
+        Err(Refusal::Shape)
+    }
+}
+
+/// How many slots a work memory of that many words has.
+#[inline]
+pub fn slot_count(work_words: usize) -> Result<usize, Refusal> {
+    let slot_words = work_words.wrapping_sub(BUFFER_WORDS);
+    let slots = slot_words / 2;
+    if slot_words.is_multiple_of(2) && (1..=MOST_SLOTS).contains(&slots) {
+        Ok(slots)
+    } else {
+        Err(Refusal::Work)
+    }
+}
+
+#[inline]
+pub fn registers(registers: &Registers, control: Control, shape: Shape, slots: usize) -> Result<(), Refusal> {
+    let Registers {
+        epoch,
+        buffered,
+        cursor,
+    } = *registers;
+    let ahead = epoch.wrapping_sub(control.persisted);
+    let proper = (1..=MOST_AHEAD).contains(&ahead)
+        && epoch <= LAST_EPOCH
+        && buffered < BUFFER_ENTRIES as u64
+        && cursor <= slots as u64
+        && (cursor == 0 || ahead > 1)
+        && control.length as u64 + buffered <= shape.entries;
+    if proper {
+        Ok(())
+    } else {
+        Err(Refusal::Registers)
+    }
+}
+
+/// Whether `word` may stand in slot `place` of `slots`.
+#[inline]
+pub fn slot_is_proper(word: SlotWord, place: usize, slots: usize, lines: usize, persisted: u64, epoch: u64) -> bool {
+    if word == SlotWord::EMPTY {
+        return true;
+    }
+    let address = word.address() as u32;
+    let tag = word.tag();
+    let tag_is_proper = if word.is_dirty() {
+        persisted < tag && tag <= epoch
+    } else {
+        tag == 0
+    };
+    word.is_valid()
+        && word.ends_in_zeros()
+        && tag_is_proper
+        && (address as usize) < lines
+        && (address % slots as u32) as usize == place
+}
+
+#[inline]
+pub fn buffer(buffered: &[Entry], lines: u64, epoch: u64) -> Result<(), Refusal> {
+    let proper = buffered.iter().all(|&[packed, _]| {
+        let range = Range::unpack(packed);
+        range.address < lines && range.valid_from < range.valid_till && range.valid_till <= epoch
+    });
+    if proper {
+        Ok(())
+    } else {
+        Err(Refusal::Buffer)
+    }
+}
+
+/// The log's entries, from the oldest to the newest.
+#[inline]
+pub fn oldest_to_newest(log: &[Entry], control: Control) -> impl DoubleEndedIterator<Item = &Entry> {
+    let (wrapped, older) = log.split_at(control.start);
+    let before_end = control.length.min(older.len());
+    let after_end = control.length - before_end;
+    older[..before_end].iter().chain(&wrapped[..after_end])
+}
+
+/// The place in the log, the oldest counted 0, of the first entry that is not proper.
+#[inline]
+pub fn first_improper_entry(log: &[Entry], control: Control, lines: u64) -> Option<usize> {
+    // The least ValidTill that the next entry may have: above the persisted epoch, and not below the entry before.
+    let mut least_till = control.persisted + 1;
+    oldest_to_newest(log, control).position(|&[packed, _]| {
+        let range = Range::unpack(packed);
+        let proper = range.address < lines && range.valid_from < range.valid_till && range.valid_till >= least_till;
+        least_till = range.valid_till;
+        !proper
+    })
+}

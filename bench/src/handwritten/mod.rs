@@ -1,0 +1,291 @@
+//! The eight calls in ordinary Rust, written from the paper alone: the yardstick for what the library answers and for
+//! how fast it does so.
+
+mod checks;
+pub mod layout;
+mod machine;
+mod side;
+#[cfg(test)]
+mod tests;
+
+use crate::interface::Answer;
+use checks::Refusal;
+use layout::{Control, Range, Shape, SlotWord, LAST_EPOCH, MOST_AHEAD};
+use machine::{Machine, Mains, Stop};
+pub use side::HandWritten;
+
+const OK: u64 = 0;
+const CUT: u64 = 12;
+
+#[derive(Clone, Copy, Debug, Default, PartialEq, Eq)]
+pub struct Registers {
+    /// The running epoch, s.
+    pub epoch: u64,
+    /// Undo entries in the buffer, b.
+    pub buffered: u64,
+    /// The scan's cursor, c.
+    pub cursor: u64,
+}
+
+#[inline(never)]
+pub fn format(board: &mut [u64], lines: u64, entries: u64) -> Answer {
+    let shape = Shape { lines, entries };
+    if !shape.is_in_range() || board.len() != shape.board_words() {
+        return refused(Refusal::Shape, 0);
+    }
+    board.fill(0);
+    board[1] = shape.pack();
+    accepted(0, 0)
+}
+
+#[inline(never)]
+pub fn power_up(board: &mut [u64], work: &mut [u64], registers: &mut Registers, allowance: u32) -> Answer {
+    *registers = Registers::default();
+    let mut mains = Mains::new(allowance);
+    match recover(board, work, &mut mains) {
+        Ok(persisted) => {
+            work.fill(0);
+            registers.epoch = persisted + 1;
+            accepted(0, mains.stores())
+        }
+        Err(stop) => stopped(stop, &mains, work, registers),
+    }
+}
+
+/// Brings the lines back as of the persisted epoch, which it gives, and empties the log.
+#[inline]
+fn recover(board: &mut [u64], work: &[u64], mains: &mut Mains) -> Result<u64, Stop> {
+    let (control, shape) = checks::head(board)?;
+    checks::slot_count(work.len())?;
+    let [control_word, _, rest @ ..] = board else {
+        return Err(Stop::Refused(Refusal::Shape));
+    };
+    let (log, lines) = rest.split_at_mut(2 * shape.entries as usize);
+    let log = log.as_chunks().0;
+    if let Some(place) = checks::first_improper_entry(log, control, shape.lines) {
+        return Err(Stop::Entry(place));
+    }
+    checks::oldest_to_newest(log, control)
+        .rev()
+        .try_for_each(|&[packed, data]| {
+            let range = Range::unpack(packed);
+            if range.covers(control.persisted) {
+                mains.store(&mut lines[range.address as usize], data)?;
+            }
+            Ok::<(), Stop>(())
+        })?;
+    let empty_log = Control {
+        start: 0,
+        length: 0,
+        ..control
+    };
+    mains.store(control_word, empty_log.pack())?;
+    Ok(control.persisted)
+}
+
+#[inline(never)]
+pub fn load(board: &mut [u64], work: &mut [u64], registers: &mut Registers, address: u64, allowance: u32) -> Answer {
+    with_machine(board, work, registers, allowance, |machine| {
+        let place = machine.slot_of(address)?;
+        machine.check_buffer()?;
+        machine.hold(place, address)?;
+        Ok(machine.slots[place][1])
+    })
+}
+
+#[inline(never)]
+pub fn store(
+    board: &mut [u64],
+    work: &mut [u64],
+    registers: &mut Registers,
+    address: u64,
+    data: u64,
+    allowance: u32,
+) -> Answer {
+    with_machine(board, work, registers, allowance, |machine| {
+        let place = machine.slot_of(address)?;
+        machine.check_buffer()?;
+        let epoch = machine.registers.epoch;
+        let word = machine.word_of(place);
+        let held_dirty = word.holds(address) && word.is_dirty();
+        if held_dirty && word.tag() == epoch {
+            machine.slots[place][1] = data;
+            return Ok(0);
+        }
+        let entries = machine.control.length + machine.registers.buffered as usize;
+        if entries == machine.log.len() {
+            return Err(Stop::Refused(Refusal::Room));
+        }
+        machine.hold(place, address)?;
+        let valid_from = if held_dirty {
+            word.tag()
+        } else {
+            machine.control.persisted
+        };
+        let old_data = machine.slots[place][1];
+        machine.slots[place] = [SlotWord::dirty(address, epoch).0, data];
+        let range = Range {
+            address,
+            valid_from,
+            valid_till: epoch,
+        };
+        machine.record(range, old_data)?;
+        Ok(0)
+    })
+}
+
+#[inline(never)]
+pub fn evict(board: &mut [u64], work: &mut [u64], registers: &mut Registers, address: u64, allowance: u32) -> Answer {
+    with_machine(board, work, registers, allowance, |machine| {
+        let place = machine.slot_of(address)?;
+        machine.check_buffer()?;
+        if !machine.word_of(place).holds(address) {
+            return Ok(0);
+        }
+        machine.write_out_if_dirty(place)?;
+        machine.slots[place] = [SlotWord::EMPTY.0, 0];
+        Ok(1)
+    })
+}
+
+/// The allowance does not matter: a commit makes no store.
+#[inline(never)]
+pub fn commit(board: &[u64], work: &[u64], registers: &mut Registers, _allowance: u32) -> Answer {
+    match next_epoch(board, work, registers) {
+        Ok(epoch) => {
+            registers.epoch = epoch;
+            accepted(0, 0)
+        }
+        Err(refusal) => refused(refusal, 0),
+    }
+}
+
+#[inline]
+fn next_epoch(board: &[u64], work: &[u64], registers: &Registers) -> Result<u64, Refusal> {
+    let (control, shape) = checks::head(board)?;
+    let slot_count = checks::slot_count(work.len())?;
+    checks::registers(registers, control, shape, slot_count)?;
+    let buffer = work[2 * slot_count..].as_chunks().0;
+    let buffered = &buffer[..registers.buffered as usize];
+    checks::buffer(buffered, shape.lines, registers.epoch)?;
+    if registers.epoch - control.persisted == MOST_AHEAD {
+        return Err(Refusal::Waiting);
+    }
+    if registers.epoch == LAST_EPOCH {
+        return Err(Refusal::Last);
+    }
+    Ok(registers.epoch + 1)
+}
+
+#[inline(never)]
+pub fn scan(board: &mut [u64], work: &mut [u64], registers: &mut Registers, allowance: u32) -> Answer {
+    with_machine(board, work, registers, allowance, |machine| {
+        let place = machine.registers.cursor as usize;
+        let at_end = place == machine.slots.len();
+        if !at_end {
+            machine.check_slot(place)?;
+        }
+        machine.check_buffer()?;
+        let target = machine.control.persisted + 1;
+        if machine.registers.epoch == target {
+            return Err(Stop::Refused(Refusal::None));
+        }
+        if at_end {
+            persist(machine, target)?;
+            return Ok(target);
+        }
+        let word = machine.word_of(place);
+        if word.is_dirty() && word.tag() == target {
+            machine.write_out(place)?;
+            machine.slots[place][0] = SlotWord::clean(word.address()).0;
+        }
+        machine.registers.cursor += 1;
+        Ok(0)
+    })
+}
+
+/// Makes `target` the persisted epoch and drops the entries that are needed no longer, in one store.
+#[inline]
+fn persist(machine: &mut Machine, target: u64) -> Result<(), Stop> {
+    machine.flush()?;
+    let dropped = machine.droppable(target);
+    let mut start = machine.control.start + dropped;
+    if start >= machine.log.len() {
+        start -= machine.log.len();
+    }
+    let control = Control {
+        persisted: target,
+        start,
+        length: machine.control.length - dropped,
+    };
+    machine.mains.store(machine.control_word, control.pack())?;
+    machine.registers.cursor = 0;
+    Ok(())
+}
+
+#[inline(never)]
+pub fn tally(work: &[u64]) -> Answer {
+    match checks::slot_count(work.len()) {
+        Ok(slots) => {
+            let is_dirty = |slot: &&[u64; 2]| SlotWord(slot[0]).is_valid_and_dirty();
+            let dirty = work[..2 * slots].as_chunks().0.iter().filter(is_dirty);
+            accepted(dirty.count() as u64, 0)
+        }
+        Err(refusal) => refused(refusal, 0),
+    }
+}
+
+/// Makes a call on memories and registers once they are tested.
+#[inline(always)]
+fn with_machine(
+    board: &mut [u64],
+    work: &mut [u64],
+    registers: &mut Registers,
+    allowance: u32,
+    call: impl FnOnce(&mut Machine) -> Result<u64, Stop>,
+) -> Answer {
+    let mut mains = Mains::new(allowance);
+    let outcome = Machine::open(board, work, registers, &mut mains)
+        .map_err(Stop::Refused)
+        .and_then(|mut machine| call(&mut machine));
+    match outcome {
+        Ok(value) => accepted(value, mains.stores()),
+        Err(stop) => stopped(stop, &mains, work, registers),
+    }
+}
+
+#[inline]
+fn accepted(value: u64, stores: u64) -> Answer {
+    Answer {
+        number: OK,
+        value,
+        stores,
+    }
+}
+
+#[inline]
+fn refused(refusal: Refusal, value: u64) -> Answer {
+    Answer {
+        number: refusal as u64,
+        value,
+        stores: 0,
+    }
+}
+
+/// A refusal leaves all as it was; a cut leaves what the board has got and nothing else.
+#[cold]
+fn stopped(stop: Stop, mains: &Mains, work: &mut [u64], registers: &mut Registers) -> Answer {
+    match stop {
+        Stop::Refused(refusal) => refused(refusal, 0),
+        Stop::Entry(place) => refused(Refusal::Entry, place as u64),
+        Stop::Cut => {
+            work.fill(0);
+            *registers = Registers::default();
+            Answer {
+                number: CUT,
+                value: 0,
+                stores: mains.stores(),
+            }
+        }
+    }
+}

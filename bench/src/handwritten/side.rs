@@ -1,0 +1,75 @@
+//! The hand-written calls as one of the two sides.
+
+use super::Registers;
+use crate::interface::{Answer, CacheLog, RegisterWords};
+
+pub struct HandWritten;
+
+impl CacheLog for HandWritten {
+    type Registers = Registers;
+
+    #[inline]
+    fn format(board: &mut [u64], lines: u64, entries: u64) -> Answer {
+        super::format(board, lines, entries)
+    }
+
+    #[inline]
+    fn power_up(board: &mut [u64], work: &mut [u64], registers: &mut Registers, allowance: u32) -> Answer {
+        super::power_up(board, work, registers, allowance)
+    }
+
+    #[inline]
+    fn load(board: &mut [u64], work: &mut [u64], registers: &mut Registers, address: u64, allowance: u32) -> Answer {
+        super::load(board, work, registers, address, allowance)
+    }
+
+    #[inline]
+    fn store(
+        board: &mut [u64],
+        work: &mut [u64],
+        registers: &mut Registers,
+        address: u64,
+        data: u64,
+        allowance: u32,
+    ) -> Answer {
+        super::store(board, work, registers, address, data, allowance)
+    }
+
+    #[inline]
+    fn evict(board: &mut [u64], work: &mut [u64], registers: &mut Registers, address: u64, allowance: u32) -> Answer {
+        super::evict(board, work, registers, address, allowance)
+    }
+
+    #[inline]
+    fn commit(board: &[u64], work: &[u64], registers: &mut Registers, allowance: u32) -> Answer {
+        super::commit(board, work, registers, allowance)
+    }
+
+    #[inline]
+    fn scan(board: &mut [u64], work: &mut [u64], registers: &mut Registers, allowance: u32) -> Answer {
+        super::scan(board, work, registers, allowance)
+    }
+
+    #[inline]
+    fn tally(work: &[u64]) -> Answer {
+        super::tally(work)
+    }
+}
+
+impl From<RegisterWords> for Registers {
+    #[inline]
+    fn from([epoch, buffered, cursor]: RegisterWords) -> Self {
+        Registers {
+            epoch,
+            buffered,
+            cursor,
+        }
+    }
+}
+
+impl From<Registers> for RegisterWords {
+    #[inline]
+    fn from(registers: Registers) -> Self {
+        [registers.epoch, registers.buffered, registers.cursor]
+    }
+}

@@ -1,0 +1,248 @@
+//! The paper's own examples: W1 to W12, its replay, and its traps.
+
+use super::layout::{Control, Range, Shape, SlotWord};
+use super::{HandWritten, Registers};
+use crate::call::{Call, NO_CUT};
+use crate::interface::Answer;
+
+const fn answer(number: u64, value: u64, stores: u64) -> Answer {
+    Answer { number, value, stores }
+}
+
+const fn range(address: u64, valid_from: u64, valid_till: u64) -> Range {
+    Range {
+        address,
+        valid_from,
+        valid_till,
+    }
+}
+
+struct Loom {
+    board: Vec<u64>,
+    work: Vec<u64>,
+    registers: Registers,
+    entries: usize,
+}
+
+impl Loom {
+    fn new(lines: usize, entries: usize, slots: usize) -> Self {
+        let mut loom = Loom {
+            board: vec![u64::MAX; 2 + 2 * entries + lines],
+            work: vec![u64::MAX; 2 * slots + 64],
+            registers: Registers::default(),
+            entries,
+        };
+        let format = Call::Format {
+            lines: lines as u64,
+            entries: entries as u64,
+        };
+        assert_eq!(loom.make(format), answer(0, 0, 0));
+        assert_eq!(loom.power_up(), answer(0, 0, 1));
+        loom
+    }
+
+    fn make(&mut self, call: Call) -> Answer {
+        call.make::<HandWritten>(&mut self.board, &mut self.work, &mut self.registers)
+    }
+
+    fn power_up(&mut self) -> Answer {
+        self.make(Call::PowerUp { allowance: NO_CUT })
+    }
+
+    fn load(&mut self, address: u64) -> Answer {
+        self.make(Call::Load {
+            address,
+            allowance: NO_CUT,
+        })
+    }
+
+    fn store(&mut self, address: u64, data: u64) -> Answer {
+        self.make(Call::Store {
+            address,
+            data,
+            allowance: NO_CUT,
+        })
+    }
+
+    fn evict(&mut self, address: u64, allowance: u32) -> Answer {
+        self.make(Call::Evict { address, allowance })
+    }
+
+    fn commit(&mut self) -> Answer {
+        self.make(Call::Commit { allowance: NO_CUT })
+    }
+
+    fn scan(&mut self) -> Answer {
+        self.make(Call::Scan { allowance: NO_CUT })
+    }
+
+    fn control(&self) -> Control {
+        Control::unpack(self.board[0])
+    }
+
+    fn line(&self, address: usize) -> u64 {
+        self.board[2 + 2 * self.entries + address]
+    }
+
+    fn buffered(&self, place: usize) -> Range {
+        Range::unpack(self.work[self.work.len() - 64 + 2 * place])
+    }
+
+    /// What the replay prints behind the answer: s, P, log length, b.
+    fn counts(&self) -> [u64; 4] {
+        [
+            self.registers.epoch,
+            self.control().persisted,
+            self.control().length as u64,
+            self.registers.buffered,
+        ]
+    }
+
+    fn put_log(&mut self, persisted: u64, log: &[(Range, u64)]) {
+        self.board[0] = Control {
+            persisted,
+            start: 0,
+            length: log.len(),
+        }
+        .pack();
+        for (place, &(range, data)) in log.iter().enumerate() {
+            self.board[2 + 2 * place] = range.pack();
+            self.board[3 + 2 * place] = data;
+        }
+    }
+}
+
+#[test]
+fn w1_to_w4_words() {
+    let control = Control {
+        persisted: 1,
+        start: 1,
+        length: 1,
+    };
+    let shape = Shape { lines: 4, entries: 8 };
+    assert_eq!(range(5, 1, 2).pack(), 0x0005000001000002);
+    assert_eq!(Range::unpack(0x0005000001000002), range(5, 1, 2));
+    assert_eq!(control.pack(), 0x0000010000100001);
+    assert_eq!(Control::unpack(0x0000010000100001), control);
+    assert_eq!(shape.pack(), 0x0000000000400008);
+    assert_eq!(SlotWord::dirty(3, 2).0, 0xC000C00000800000);
+}
+
+#[test]
+fn w5_range_covers() {
+    let covered: Vec<bool> = (0..4).map(|epoch| range(0, 1, 3).covers(epoch)).collect();
+    assert_eq!(covered, [false, true, true, false]);
+}
+
+#[test]
+fn w6_oldest_covering_entry_wins() {
+    let mut loom = Loom::new(4, 8, 2);
+    loom.put_log(1, &[(range(3, 0, 2), 4), (range(3, 0, 2), 6)]);
+    assert_eq!(loom.power_up(), answer(0, 0, 3));
+    assert_eq!(loom.line(3), 4);
+}
+
+#[test]
+fn w7_to_w9_undo_entries() {
+    let mut loom = Loom::new(4, 8, 2);
+    loom.commit();
+    loom.store(1, 7);
+    assert_eq!(loom.buffered(0), range(1, 0, 2));
+
+    let mut loom = Loom::new(4, 8, 2);
+    loom.store(1, 7);
+    loom.commit();
+    loom.commit();
+    loom.store(1, 8);
+    assert_eq!(loom.buffered(1), range(1, 1, 3));
+    loom.store(1, 9);
+    assert_eq!(loom.registers.buffered, 2);
+}
+
+#[test]
+fn w10_and_w11_eviction_with_its_entry_buffered() {
+    let mut loom = Loom::new(4, 8, 2);
+    loom.store(1, 7);
+    assert_eq!(loom.evict(1, 4), answer(0, 1, 4));
+    assert_eq!(loom.line(1), 7);
+
+    let mut loom = Loom::new(4, 8, 2);
+    loom.store(1, 7);
+    assert_eq!(loom.evict(1, 3), answer(12, 0, 3));
+    assert_eq!(loom.control().length, 1);
+    assert_eq!(loom.line(1), 0);
+    assert_eq!(loom.registers, Registers::default());
+    assert!(loom.work.iter().all(|&word| word == 0));
+}
+
+#[test]
+fn w12_fifteen_epochs_wait() {
+    let mut loom = Loom::new(4, 8, 2);
+    for _ in 1..16 {
+        assert_eq!(loom.commit(), answer(0, 0, 0));
+    }
+    assert_eq!(loom.commit(), answer(9, 0, 0));
+}
+
+#[test]
+fn replay_of_the_paper() {
+    let mut loom = Loom::new(4, 8, 2);
+    assert_eq!(loom.counts(), [1, 0, 0, 0]);
+    assert_eq!(loom.store(0, 7), answer(0, 0, 0));
+    assert_eq!(loom.counts(), [1, 0, 0, 1]);
+    assert_eq!(loom.commit(), answer(0, 0, 0));
+    assert_eq!(loom.store(0, 9), answer(0, 0, 0));
+    assert_eq!(loom.counts(), [2, 0, 0, 2]);
+    assert_eq!(loom.commit(), answer(0, 0, 0));
+    assert_eq!(loom.scan(), answer(0, 0, 0));
+    assert_eq!(loom.scan(), answer(0, 0, 0));
+    assert_eq!(loom.counts(), [3, 0, 0, 2]);
+    assert_eq!(loom.scan(), answer(0, 1, 6));
+    assert_eq!(loom.counts(), [3, 1, 1, 0]);
+    assert_eq!(loom.power_up(), answer(0, 0, 2));
+    assert_eq!(loom.counts(), [2, 1, 0, 0]);
+    assert_eq!(loom.load(0), answer(0, 7, 0));
+}
+
+#[test]
+fn scan_flushes_before_it_writes_out() {
+    let mut loom = Loom::new(4, 8, 2);
+    loom.store(0, 7);
+    loom.commit();
+    assert_eq!(loom.scan(), answer(0, 0, 4));
+    assert_eq!(loom.control().length, 1);
+    assert_eq!(loom.line(0), 7);
+}
+
+#[test]
+fn clean_line_is_undone_from_the_persisted_epoch() {
+    let mut loom = Loom::new(4, 8, 2);
+    loom.commit();
+    while loom.scan().value == 0 {}
+    loom.store(2, 5);
+    assert_eq!(loom.buffered(0), range(2, 1, 2));
+}
+
+#[test]
+fn the_lowest_number_wins_and_names_the_entry() {
+    let mut loom = Loom::new(4, 8, 2);
+    loom.put_log(1, &[(range(3, 0, 3), 4), (range(3, 0, 2), 6)]);
+    assert_eq!(loom.power_up(), answer(3, 1, 0));
+    assert_eq!(loom.load(0), answer(4, 0, 0));
+    loom.work.push(0);
+    assert_eq!(loom.power_up(), answer(2, 0, 0));
+    loom.board.push(0);
+    assert_eq!(loom.power_up(), answer(1, 0, 0));
+}
+
+#[test]
+fn a_full_buffer_is_flushed_at_once_and_a_full_log_has_no_room() {
+    let mut loom = Loom::new(64, 33, 64);
+    for address in 0..31 {
+        assert_eq!(loom.store(address, 1), answer(0, 0, 0));
+    }
+    assert_eq!(loom.store(31, 1), answer(0, 0, 65));
+    assert_eq!(loom.store(32, 1), answer(0, 0, 0));
+    assert_eq!(loom.store(33, 1), answer(8, 0, 0));
+    assert_eq!(loom.store(32, 2), answer(0, 0, 0));
+}

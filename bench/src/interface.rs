@@ -1,0 +1,55 @@
+//! What both sides have in common: the eight calls, as one loop can make them on either side.
+
+/// What a call answers: the paper's number, the value and the board stores made.
+#[derive(Clone, Copy, Debug, PartialEq, Eq)]
+pub struct Answer {
+    pub number: u64,
+    pub value: u64,
+    pub stores: u64,
+}
+
+/// The words of the registers as they stand in an array: s, b, c.
+pub type RegisterWords = [u64; 3];
+
+/// One implementation of the eight calls.
+///
+/// The registers have a type for each side, so that each is called as it wants to be: the library with an array of
+/// words, the hand-written Rust with a struct.
+pub trait CacheLog {
+    type Registers: Copy + From<RegisterWords> + Into<RegisterWords>;
+
+    fn format(board: &mut [u64], lines: u64, entries: u64) -> Answer;
+
+    fn power_up(board: &mut [u64], work: &mut [u64], registers: &mut Self::Registers, allowance: u32) -> Answer;
+
+    fn load(
+        board: &mut [u64],
+        work: &mut [u64],
+        registers: &mut Self::Registers,
+        address: u64,
+        allowance: u32,
+    ) -> Answer;
+
+    fn store(
+        board: &mut [u64],
+        work: &mut [u64],
+        registers: &mut Self::Registers,
+        address: u64,
+        data: u64,
+        allowance: u32,
+    ) -> Answer;
+
+    fn evict(
+        board: &mut [u64],
+        work: &mut [u64],
+        registers: &mut Self::Registers,
+        address: u64,
+        allowance: u32,
+    ) -> Answer;
+
+    fn commit(board: &[u64], work: &[u64], registers: &mut Self::Registers, allowance: u32) -> Answer;
+
+    fn scan(board: &mut [u64], work: &mut [u64], registers: &mut Self::Registers, allowance: u32) -> Answer;
+
+    fn tally(work: &[u64]) -> Answer;
+}

@@ -1,0 +1,242 @@
+//! The static library: its functions as include/picl.h declares them, and safe calls of them.
+//!
+//! A slice is what the header asks of its caller: aligned, not null, as long as it says, and overlapping nothing that
+//! is lent with it. So nothing is left to test here, and nothing is tested.
+
+mod side;
+
+pub use side::Library;
+
+mod c {
+    unsafe extern "C" {
+        pub fn picl_format(
+            board: *mut u64,
+            board_words: usize,
+            lines: u64,
+            entries: u64,
+            answer: *mut u64,
+            answer_words: usize,
+        ) -> u64;
+        pub fn picl_power_up(
+            board: *mut u64,
+            board_words: usize,
+            work: *mut u64,
+            work_words: usize,
+            registers: *mut u64,
+            register_words: usize,
+            allowance: u32,
+            answer: *mut u64,
+            answer_words: usize,
+        ) -> u64;
+        pub fn picl_load(
+            board: *mut u64,
+            board_words: usize,
+            work: *mut u64,
+            work_words: usize,
+            registers: *mut u64,
+            register_words: usize,
+            address: u64,
+            allowance: u32,
+            answer: *mut u64,
+            answer_words: usize,
+        ) -> u64;
+        pub fn picl_store(
+            board: *mut u64,
+            board_words: usize,
+            work: *mut u64,
+            work_words: usize,
+            registers: *mut u64,
+            register_words: usize,
+            address: u64,
+            data: u64,
+            allowance: u32,
+            answer: *mut u64,
+            answer_words: usize,
+        ) -> u64;
+        pub fn picl_evict(
+            board: *mut u64,
+            board_words: usize,
+            work: *mut u64,
+            work_words: usize,
+            registers: *mut u64,
+            register_words: usize,
+            address: u64,
+            allowance: u32,
+            answer: *mut u64,
+            answer_words: usize,
+        ) -> u64;
+        pub fn picl_commit(
+            board: *const u64,
+            board_words: usize,
+            work: *const u64,
+            work_words: usize,
+            registers: *mut u64,
+            register_words: usize,
+            allowance: u32,
+            answer: *mut u64,
+            answer_words: usize,
+        ) -> u64;
+        pub fn picl_scan(
+            board: *mut u64,
+            board_words: usize,
+            work: *mut u64,
+            work_words: usize,
+            registers: *mut u64,
+            register_words: usize,
+            allowance: u32,
+            answer: *mut u64,
+            answer_words: usize,
+        ) -> u64;
+        pub fn picl_tally(work: *const u64, work_words: usize, answer: *mut u64, answer_words: usize) -> u64;
+    }
+}
+
+/// What the library answers when the registers or the answer have too few words.
+pub const TOO_SHORT: u64 = 255;
+
+#[inline]
+pub fn format(board: &mut [u64], lines: u64, entries: u64, answer: &mut [u64]) -> u64 {
+    unsafe {
+        c::picl_format(
+            board.as_mut_ptr(),
+            board.len(),
+            lines,
+            entries,
+            answer.as_mut_ptr(),
+            answer.len(),
+        )
+    }
+}
+
+#[inline]
+pub fn power_up(board: &mut [u64], work: &mut [u64], registers: &mut [u64], allowance: u32, answer: &mut [u64]) -> u64 {
+    unsafe {
+        c::picl_power_up(
+            board.as_mut_ptr(),
+            board.len(),
+            work.as_mut_ptr(),
+            work.len(),
+            registers.as_mut_ptr(),
+            registers.len(),
+            allowance,
+            answer.as_mut_ptr(),
+            answer.len(),
+        )
+    }
+}
+
+#[inline]
+pub fn load(
+    board: &mut [u64],
+    work: &mut [u64],
+    registers: &mut [u64],
+    address: u64,
+    allowance: u32,
+    answer: &mut [u64],
+) -> u64 {
+    unsafe {
+        c::picl_load(
+            board.as_mut_ptr(),
+            board.len(),
+            work.as_mut_ptr(),
+            work.len(),
+            registers.as_mut_ptr(),
+            registers.len(),
+            address,
+            allowance,
+            answer.as_mut_ptr(),
+            answer.len(),
+        )
+    }
+}
+
+#[inline]
+pub fn store(
+    board: &mut [u64],
+    work: &mut [u64],
+    registers: &mut [u64],
+    address: u64,
+    data: u64,
+    allowance: u32,
+    answer: &mut [u64],
+) -> u64 {
+    unsafe {
+        c::picl_store(
+            board.as_mut_ptr(),
+            board.len(),
+            work.as_mut_ptr(),
+            work.len(),
+            registers.as_mut_ptr(),
+            registers.len(),
+            address,
+            data,
+            allowance,
+            answer.as_mut_ptr(),
+            answer.len(),
+        )
+    }
+}
+
+#[inline]
+pub fn evict(
+    board: &mut [u64],
+    work: &mut [u64],
+    registers: &mut [u64],
+    address: u64,
+    allowance: u32,
+    answer: &mut [u64],
+) -> u64 {
+    unsafe {
+        c::picl_evict(
+            board.as_mut_ptr(),
+            board.len(),
+            work.as_mut_ptr(),
+            work.len(),
+            registers.as_mut_ptr(),
+            registers.len(),
+            address,
+            allowance,
+            answer.as_mut_ptr(),
+            answer.len(),
+        )
+    }
+}
+
+#[inline]
+pub fn commit(board: &[u64], work: &[u64], registers: &mut [u64], allowance: u32, answer: &mut [u64]) -> u64 {
+    unsafe {
+        c::picl_commit(
+            board.as_ptr(),
+            board.len(),
+            work.as_ptr(),
+            work.len(),
+            registers.as_mut_ptr(),
+            registers.len(),
+            allowance,
+            answer.as_mut_ptr(),
+            answer.len(),
+        )
+    }
+}
+
+#[inline]
+pub fn scan(board: &mut [u64], work: &mut [u64], registers: &mut [u64], allowance: u32, answer: &mut [u64]) -> u64 {
+    unsafe {
+        c::picl_scan(
+            board.as_mut_ptr(),
+            board.len(),
+            work.as_mut_ptr(),
+            work.len(),
+            registers.as_mut_ptr(),
+            registers.len(),
+            allowance,
+            answer.as_mut_ptr(),
+            answer.len(),
+        )
+    }
+}
+
+#[inline]
+pub fn tally(work: &[u64], answer: &mut [u64]) -> u64 {
+    unsafe { c::picl_tally(work.as_ptr(), work.len(), answer.as_mut_ptr(), answer.len()) }
+}

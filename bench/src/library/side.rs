@@ -1,0 +1,80 @@
+//! The library as one of the two sides.
+
+use crate::interface::{Answer, CacheLog, RegisterWords};
+
+/// The words of an answer as they stand in an array: value, stores.
+type AnswerWords = [u64; 2];
+
+pub struct Library;
+
+/// Makes a call that fills an answer array, and gives what it answered.
+#[inline(always)]
+fn answered(call: impl FnOnce(&mut AnswerWords) -> u64) -> Answer {
+    let mut words = [0; 2];
+    let number = call(&mut words);
+    let [value, stores] = words;
+    Answer { number, value, stores }
+}
+
+impl CacheLog for Library {
+    type Registers = RegisterWords;
+
+    #[inline]
+    fn format(board: &mut [u64], lines: u64, entries: u64) -> Answer {
+        answered(|answer| super::format(board, lines, entries, answer))
+    }
+
+    #[inline]
+    fn power_up(board: &mut [u64], work: &mut [u64], registers: &mut RegisterWords, allowance: u32) -> Answer {
+        answered(|answer| super::power_up(board, work, registers, allowance, answer))
+    }
+
+    #[inline]
+    fn load(
+        board: &mut [u64],
+        work: &mut [u64],
+        registers: &mut RegisterWords,
+        address: u64,
+        allowance: u32,
+    ) -> Answer {
+        answered(|answer| super::load(board, work, registers, address, allowance, answer))
+    }
+
+    #[inline]
+    fn store(
+        board: &mut [u64],
+        work: &mut [u64],
+        registers: &mut RegisterWords,
+        address: u64,
+        data: u64,
+        allowance: u32,
+    ) -> Answer {
+        answered(|answer| super::store(board, work, registers, address, data, allowance, answer))
+    }
+
+    #[inline]
+    fn evict(
+        board: &mut [u64],
+        work: &mut [u64],
+        registers: &mut RegisterWords,
+        address: u64,
+        allowance: u32,
+    ) -> Answer {
+        answered(|answer| super::evict(board, work, registers, address, allowance, answer))
+    }
+
+    #[inline]
+    fn commit(board: &[u64], work: &[u64], registers: &mut RegisterWords, allowance: u32) -> Answer {
+        answered(|answer| super::commit(board, work, registers, allowance, answer))
+    }
+
+    #[inline]
+    fn scan(board: &mut [u64], work: &mut [u64], registers: &mut RegisterWords, allowance: u32) -> Answer {
+        answered(|answer| super::scan(board, work, registers, allowance, answer))
+    }
+
+    #[inline]
+    fn tally(work: &[u64]) -> Answer {
+        answered(|answer| super::tally(work, answer))
+    }
+}

@@ -1,0 +1,80 @@
+//! The proved library beside a hand-written one: the same answers, call by call, and the cost of each.
+
+mod benchmark;
+mod call;
+mod differential;
+mod handwritten;
+mod interface;
+mod library;
+mod random;
+
+use std::process::ExitCode;
+
+const USAGE: &str = "\
+picl-bench test [--seed SEED] [--calls COUNT] [--only GROUP:HISTORY]
+    compare library and hand-written Rust call by call
+picl-bench bench [--table]
+    time both
+picl-bench bench --row NAME --side library|handwritten --repeat COUNT
+    play one side of one row, for a tool that counts instructions; prints the number of measured calls
+picl-bench rows
+    the names of the rows";
+
+fn main() -> ExitCode {
+    let words: Vec<String> = std::env::args().skip(1).collect();
+    match run(&words) {
+        Ok(()) => ExitCode::SUCCESS,
+        Err(text) => {
+            eprintln!("{text}");
+            ExitCode::FAILURE
+        }
+    }
+}
+
+fn run(words: &[String]) -> Result<(), String> {
+    let (command, flags) = words.split_first().ok_or(USAGE)?;
+    match command.as_str() {
+        "test" => differential::run(&test_options(flags)?),
+        "bench" => run_benchmark(flags),
+        "rows" => {
+            benchmark::print_row_names();
+            Ok(())
+        }
+        _ => Err(USAGE.to_string()),
+    }
+}
+
+fn test_options(flags: &[String]) -> Result<differential::Options, String> {
+    let mut options = differential::Options {
+        seed: differential::DEFAULT_SEED,
+        calls: differential::DEFAULT_CALLS,
+        only: None,
+    };
+    for pair in flags.chunks(2) {
+        match pair {
+            [flag, value] if flag == "--seed" => options.seed = number(value)?,
+            [flag, value] if flag == "--calls" => options.calls = number(value)?,
+            [flag, value] if flag == "--only" => {
+                let (group, history) = value.split_once(':').ok_or(USAGE)?;
+                options.only = Some((group.to_string(), number(history)?));
+            }
+            _ => return Err(USAGE.to_string()),
+        }
+    }
+    Ok(options)
+}
+
+fn run_benchmark(flags: &[String]) -> Result<(), String> {
+    let flags: Vec<&str> = flags.iter().map(String::as_str).collect();
+    match flags[..] {
+        [] => benchmark::print_times(),
+        ["--table"] => benchmark::print_table(),
+        ["--row", row, "--side", side, "--repeat", count] => benchmark::play_row(row, side, number(count)?)?,
+        _ => return Err(USAGE.to_string()),
+    }
+    Ok(())
+}
+
+fn number(text: &str) -> Result<u64, String> {
+    text.parse().map_err(|_| format!("{text} is not a number\n{USAGE}"))
+}
