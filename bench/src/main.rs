@@ -6,6 +6,7 @@ mod differential;
 mod handwritten;
 mod interface;
 mod library;
+mod loom;
 mod random;
 
 use std::process::ExitCode;
@@ -18,7 +19,9 @@ picl-bench bench [--table]
 picl-bench bench --row NAME --side library|handwritten --repeat COUNT
     play one side of one row, for a tool that counts instructions; prints the number of measured calls
 picl-bench rows
-    the names of the rows";
+    the names of the rows
+picl-bench loom
+    what the loom's work asks of a board";
 
 fn main() -> ExitCode {
     let words: Vec<String> = std::env::args().skip(1).collect();
@@ -40,6 +43,7 @@ fn run(words: &[String]) -> Result<(), String> {
             benchmark::print_row_names();
             Ok(())
         }
+        "loom" => loom::print_figures(),
         _ => Err(USAGE.to_string()),
     }
 }

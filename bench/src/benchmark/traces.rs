@@ -4,11 +4,9 @@ use super::region::{Memories, Start};
 use crate::call::{Call, NO_CUT};
 use crate::handwritten::layout::{Control, Range, Shape, BUFFER_WORDS, MOST_AHEAD, MOST_ENTRIES, MOST_LINES};
 use crate::handwritten::HandWritten;
+use crate::loom::workload::{Order, STORES_PER_EPOCH};
 use crate::random::Random;
 
-/// What the customer counted on his looms, in an epoch of one second.
-const STORES_PER_EPOCH: usize = 2_600;
-const LINES_OF_A_LOOM: usize = 400;
 const SEED: u64 = 2_600_400;
 
 const SCAN: Call = Call::Scan { allowance: NO_CUT };
@@ -59,17 +57,6 @@ fn after(start: Start, calls: &[Call]) -> Start {
     memories.into_start()
 }
 
-fn lines_of_a_loom(random: &mut Random) -> Vec<u64> {
-    let mut lines = Vec::new();
-    while lines.len() < LINES_OF_A_LOOM {
-        let address = random.below(MOST_LINES);
-        if !lines.contains(&address) {
-            lines.push(address);
-        }
-    }
-    lines
-}
-
 /// One epoch: a store and another access by turns, each to a line drawn evenly, `scans` scan calls spread evenly, a
 /// commit.
 fn epoch(random: &mut Random, lines: &[u64], access: fn(u64) -> Call, scans: usize) -> Vec<Call> {
@@ -90,7 +77,7 @@ fn epoch(random: &mut Random, lines: &[u64], access: fn(u64) -> Call, scans: usi
 /// An epoch in the midst of work: one epoch waits before it, which its scan calls persist.
 fn epoch_in_midst(slots: usize, access: fn(u64) -> Call) -> (Start, Vec<Call>) {
     let random = &mut Random::new(SEED);
-    let lines = lines_of_a_loom(random);
+    let lines = Order::Scattered.lines(random, MOST_LINES);
     let mut calls = epoch(random, &lines, load, 0);
     for _ in 0..2 {
         calls.extend(epoch(random, &lines, load, slots + 1));
