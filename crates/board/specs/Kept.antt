@@ -1,12 +1,12 @@
 -- Words that lie before every store stay as they were, so what is read there is the same before and after.
 use Prim.Native.Nat.{ℕ, zero, suc, _+_, _<_, _≤_}
 use mathlib.Core.Path.{_≡_, refl, _∙_}
-use mathlib.Core.List.{List, [], _∷_, _++_}
+use mathlib.Core.List.{List, _∷_, _++_, []}
 use native.Mathlib.Omega.{arith}
 use lib.ListN.{getD, set, take}
 use lib.Seq.{getD-set-other}
 use Rattle.board.specs.declared.Meter.{Meter}
-use Rattle.board.specs.Stores.{Store, one, applied, stored, Ran, each}
+use Rattle.board.specs.Stores.{Store, one, applied, allowed, stored, Ran, each}
 
 -- every store is at place n or behind it
 unfoldable pub Beyond : ℕ → List Store → Type 0
@@ -47,4 +47,4 @@ applied-kept n (s ∷ ss) b i h g =
 pub ran-kept : {b b′ : List ℕ} {m m′ : Meter} (n : ℕ) (ss : List Store) → Beyond n ss → Ran b m ss b′ m′ → (i : ℕ) → i < n
     → getD b′ i 0 ≡ getD b i 0
 unfolding stored
-ran-kept {b} {b′} {m} n ss h p i g = rw (p .memory) (applied-kept n (take (m .left) ss) b i (beyond-take n (m .left) ss h) g)
+ran-kept {b} {b′} {m} n ss h p i g = rw (p .memory) (applied-kept n (take (allowed m) ss) b i (beyond-take n (allowed m) ss h) g)

@@ -1,13 +1,13 @@
 -- Stores to a part of a memory that is lent, `&mut memory[a..]`, are stores to the whole.
 use Prim.Native.Nat.{ℕ, zero, suc, _+_, _-_, _≤_}
 use mathlib.Core.Path.{_≡_, refl, sym, ap, _∙_}
-use mathlib.Core.List.{List, [], _∷_, _++_}
+use mathlib.Core.List.{List, _∷_, _++_, []}
 use native.Mathlib.Omega.{arith}
 use lib.ListN.{length, set, take, drop, length-set, take-append-drop}
 use lib.Seq.{take-set-le, drop-set-add}
 use Rattle.base.specs.Parts.{rest-lent, rest-back}
 use Rattle.board.specs.declared.Meter.{Meter}
-use Rattle.board.specs.Stores.{Store, applied, stored, Ran, shifted}
+use Rattle.board.specs.Stores.{Store, applied, allowed, stored, Ran, shifted}
 
 pub length-shifted : (a : ℕ) (ss : List Store) → length (shifted a ss) ≡ length ss
 unfolding shifted
@@ -33,7 +33,7 @@ pub ran-part : {b p : List ℕ} {m m′ : Meter} {ss : List Store} (a : ℕ) →
     → Ran b m (shifted a ss) (take a b ++ (p ++ drop (length b - a) (drop a b))) m′
 unfolding stored
 ran-part {b} {p} {m} {m′} {ss} a h q =
-    let e : p ≡ applied (drop a b) (take (m .left) ss) = rw rest-lent at (q .memory) in
+    let e : p ≡ applied (drop a b) (take (allowed m) ss) = rw rest-lent at (q .memory) in
     record {
       memory = rw (rest-back a b p, take-shifted, applied-shifted, e);
       meter = rw length-shifted (q .meter);

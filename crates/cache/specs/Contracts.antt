@@ -5,7 +5,7 @@ use mathlib.Core.Bool.{true}
 use mathlib.Core.List.{List}
 use lib.ListN.{length}
 use Rattle.board.specs.declared.Meter.{Meter}
-use Rattle.board.specs.Stores.{Ran}
+use Rattle.board.specs.Stores.{allowed, Ran}
 use Rattle.layout.specs.declared.Entry.{Entry}
 use Rattle.layout.specs.declared.Slot.{Slot}
 use Rattle.layout.specs.Words.{EntryFits}
@@ -34,8 +34,8 @@ pub record Brings (board work : List ℕ) (u : Undo) (k address : ℕ) (m : Mete
 -- memory are told only where all stores were allowed.
 pub record Carries (board : List ℕ) (m : Meter) (e : Effect) (board′ work′ : List ℕ) (r : Progress) : Type 0 where
   pub ran : Ran board m (e .stores) board′ (r .meter)
-  pub undo : length (e .stores) ≤ m .left → r .undo ≡ e .undo
-  pub memory : length (e .stores) ≤ m .left → work′ ≡ e .work
+  pub undo : length (e .stores) ≤ allowed m → r .undo ≡ e .undo
+  pub memory : length (e .stores) ≤ allowed m → work′ ≡ e .work
 
 -- The memories are large enough, and the log's numbers sound.
 pub record Ready (board work : List ℕ) (u : Undo) : Type 0 where

@@ -9,8 +9,8 @@ use lib.Dec.{leb}
 use lib.ListN.{length, replicate}
 use lib.Seq.{take-nil}
 use Rattle.board.specs.declared.Meter.{Meter}
-use Rattle.board.specs.Stores.{full, applied, Ran}
-use Rattle.board.specs.Outcome.{ran-board, ran-within, ran-cut-off, ran-whole, ran-count}
+use Rattle.board.specs.Stores.{full, applied, Ran, wasCut}
+use Rattle.board.specs.Outcome.{ran-board, ran-within, ran-cut-off, ran-whole, ran-count, allowed-full}
 use Rattle.status.specs.declared.Status.{Status}
 use Rattle.status.specs.declared.Status.the-variants as status
 use Rattle.undo.specs.declared.Undo.{Undo}
@@ -24,12 +24,12 @@ use Rattle.picl.specs.Answers.{Outcome, Verdict, refused, due, refusal, 
 use Rattle.picl.specs.Calls.{carried}
 use Rattle.picl.specs.Contracts.{Answers, Finishes}
 
-module _ (work work′ : List ℕ) (m : Meter) (allowance value : ℕ) (r : Registers) (t : Bool) (cut : t ≡ m .cut) where
+module _ (work work′ : List ℕ) (m : Meter) (allowance value : ℕ) (r : Registers) (t : Bool) (cut : t ≡ wasCut m) where
   pub finish-cut : (z : Registers) → t ≡ true → z ≡ zero → work′ ≡ replicate (length work) 0
       → Finishes work m allowance value r work′ (record { status = status.Cut; value = 0; stores = allowance; registers = z })
   finish-cut z h e x = rw e record { answer = rw (← cut, h); memory = rw (← cut, h) x }
 
-  pub finish-whole : (n : ℕ) → t ≡ false → n ≡ allowance - m .left
+  pub finish-whole : (n : ℕ) → t ≡ false → n ≡ allowance + 1 - m .left
       → Finishes work m allowance value r work (record { status = status.Ok; value = value; stores = n; registers = r })
   finish-whole n h e = rw e record { answer = rw (← cut, h); memory = rw (← cut, h) }
 
@@ -57,9 +57,9 @@ pub answers-due : (allowance : ℕ) (given : Registers) (board work : List ℕ) 
     → (length (o .stores) ≤ allowance → r ≡ o .registers) → Finishes work′ m allowance value r work″ a
     → Answers allowance given board work (due o) board′ work″ a
 unfolding answerOf boardAfter workAfter
-answers-due allowance given board work o m board′ work′ work″ value r a p l w x y f = go (m .cut) refl
+answers-due allowance given board work o m board′ work′ work″ value r a p l w x y f = go (wasCut m) refl
   where
-    go : (t : Bool) → m .cut ≡ t → Answers allowance given board work (due o) board′ work″ a
+    go : (t : Bool) → wasCut m ≡ t → Answers allowance given board work (due o) board′ work″ a
     go true e =
         let h : allowance < length (o .stores) = ran-cut-off allowance (o .stores) p e in
         record {
@@ -77,10 +77,10 @@ answers-due allowance given board work o m board′ work′ work″ value r a p 
 
 -- an effect on log and cache that comes about under a new meter
 module _ (allowance : ℕ) (board board′ work′ : List ℕ) (e : Effect) (m : Meter) (r : Progress) (new : m ≡ full allowance) where
-  pub carries-within : Carries board m e board′ work′ r → r .meter .left ≤ allowance
+  pub carries-within : Carries board m e board′ work′ r → r .meter .left ≤ allowance + 1
   carries-within x = ran-within allowance (e .stores) (rw new at (x .ran))
 
-  pub acts-within : Acts board m e board′ work′ r → r .meter .left ≤ allowance
+  pub acts-within : Acts board m e board′ work′ r → r .meter .left ≤ allowance + 1
   acts-within x = ran-within allowance (e .stores) (rw new at (x .ran))
 
 pub acted : {board board′ work′ : List ℕ} {m : Meter} {e : Effect} {r : Progress} → Acts board m e board′ work′ r → Carries board m e board′ work′ r
@@ -92,7 +92,7 @@ pub carries-answers : (allowance : ℕ) (given : Registers) (board work : List �
     → Answers allowance given board work (due (carried value base e)) board′ work″ a
 carries-answers allowance given board work e m r board′ work′ work″ value base after told a new c l v q f =
     let p : Ran board (full allowance) (e .stores) board′ (r .meter) = rw new at (c .ran) in
-    let undo : length (e .stores) ≤ allowance → r .undo ≡ e .undo = rw new at (c .undo) in
-    let memory : length (e .stores) ≤ allowance → work′ ≡ e .work = rw new at (c .memory) in
+    let undo : length (e .stores) ≤ allowance → r .undo ≡ e .undo = rw (new, allowed-full) at (c .undo) in
+    let memory : length (e .stores) ≤ allowance → work′ ≡ e .work = rw (new, allowed-full) at (c .memory) in
     answers-due allowance given board work (carried value base e) (r .meter) board′ work′ work″ told after a p l memory (λ h. v (memory h))
     (λ h. q ∙ ap (λ (u : Undo). buffering base (u .buffered)) (undo h)) f

@@ -42,7 +42,7 @@ use Rattle.picl.proofs.Finishing.{answers-refused, answers-due}
 
 -- power-up
 pub wake-within : (allowance : ℕ) (board board′ : List ℕ) (u : Undo) (m m′ : Meter) → m ≡ full allowance
-    → Ran board m (recoverStores board u) board′ m′ → m′ .left ≤ allowance
+    → Ran board m (recoverStores board u) board′ m′ → m′ .left ≤ allowance + 1
 wake-within allowance board board′ u m m′ new x = ran-within allowance (recoverStores board u) (rw new at x)
 
 pub wake-done : (allowance : ℕ) (board work : List ℕ) (u : Undo) (m m′ : Meter) (board′ work′ work″ : List ℕ) (r : Registers) (a : Answer)

@@ -5,6 +5,7 @@ use mathlib.Core.Bool.{true, cond, _&&_}
 use mathlib.Core.List.{List}
 use lib.ListN.{length, replicate}
 use Rattle.board.specs.declared.Meter.{Meter}
+use Rattle.board.specs.Stores.{wasCut}
 use Rattle.layout.specs.Memory.{slotIn}
 use Rattle.layout.specs.Words.{bit}
 use Rattle.status.specs.declared.Status.the-variants as status
@@ -31,8 +32,8 @@ pub record Formats (board : List ℕ) (lines entries : ℕ) (board′ : List ℕ
 
 -- What the last step of a call does with the meter, and with the value and the registers that hold if the call was not cut.
 pub record Finishes (work : List ℕ) (m : Meter) (allowance value : ℕ) (r : Registers) (work′ : List ℕ) (a : Answer) : Type 0 where
-  pub answer : a ≡ cond (m .cut) (cutOff allowance) (record { status = status.Ok; value = value; stores = allowance - m .left; registers = r })
-  pub memory : work′ ≡ cond (m .cut) (replicate (length work) 0) work
+  pub answer : a ≡ cond (wasCut m) (cutOff allowance) (record { status = status.Ok; value = value; stores = allowance + 1 - m .left; registers = r })
+  pub memory : work′ ≡ cond (wasCut m) (replicate (length work) 0) work
 
 -- what the tests of each call told
 pub record LinePassed (board work : List ℕ) (r : Registers) (address : ℕ) (v : View) : Type 0 where

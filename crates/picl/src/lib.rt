@@ -4,7 +4,7 @@ mod epochs;
 mod lines;
 mod memory;
 
-ghost use Prim.Native.Nat.{_≤_};
+ghost use Prim.Native.Nat.{_+_, _≤_};
 ghost use mathlib.Core.Path.{_≡_};
 ghost use Rattle.picl.specs.Answers.{refusal as refused};
 ghost use Rattle.picl.specs.Contracts.{Finishes};
@@ -54,7 +54,7 @@ fn finish(
     value: u64,
     registers: Registers,
 ) -> Answer
-    requires { ⌜ meter .left ≤ allowance ⌝ }
+    requires { ⌜ meter .left ≤ allowance + 1 ⌝ }
     ensures { λ r. ⌜ Finishes (now (work .entry)) meter allowance value registers (now (work .exit)) r ⌝ }
 {
     if meter.is_cut() {

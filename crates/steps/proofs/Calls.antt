@@ -7,7 +7,7 @@ use native.Mathlib.Omega.{arith}
 use borrow.Author.Tests.{not-true, not-false, eq-eqb, ne-eqb}
 use lib.ListN.{length, getD, set, length-append}
 use Rattle.board.specs.declared.Meter.{Meter}
-use Rattle.board.specs.Stores.{Store, applied, spent, Ran}
+use Rattle.board.specs.Stores.{Store, applied, spent, Ran, allowed}
 use Rattle.board.specs.Laws.{ran-none, ran-all, ran-read, ran-length}
 use Rattle.layout.specs.declared.Slot.{Slot}
 use Rattle.layout.specs.Limits.{bufferPlaces}
@@ -180,7 +180,7 @@ module _ (board work : List ℕ) (u : Undo) (address : ℕ) (spot : Spot) (epoch
     unfolding loading bringing
     same-undo = rw out (brings .undo)
 
-    same-work : length (emptying u work (spot .slot) .stores) ≤ m .left → work′ ≡ loading board u work address spot .work
+    same-work : length (emptying u work (spot .slot) .stores) ≤ allowed m → work′ ≡ loading board u work address spot .work
     unfolding loading bringing
     same-work h = rw out (brings .memory ∙ rw (ran-all (emptying u work (spot .slot) .stores) (brings .ran) h))
 
@@ -195,10 +195,10 @@ module _ (board work : List ℕ) (u : Undo) (address : ℕ) (spot : Spot) (epoch
     store-brought value board″ work″ r x =
         let xs = emptying u work (spot .slot) .stores in
         let l = loading board u work address spot in
-        let same : length xs ≤ m .left
+        let same : length xs ≤ allowed m
         → marking (b .undo) work′ (spot .slot) address epoch value ≡ marking (l .undo) (l .work) (spot .slot) address epoch value =
         λ h. rw (same-undo, same-work h) in
-        let part : length (l .stores ++ marking (l .undo) (l .work) (spot .slot) address epoch value .stores) ≤ m .left → length xs ≤ m .left =
+        let part : length (l .stores ++ marking (l .undo) (l .work) (spot .slot) address epoch value .stores) ≤ allowed m → length xs ≤ allowed m =
         λ h. omega (arith, ap length same-stores, length-append (l .stores) (marking (l .undo) (l .work) (spot .slot) address epoch value .stores)) in
         record {
           ran = rw same-stores (ran-read xs (brings .ran) (x .ran) (λ h. ap (λ (e : Effect). e .stores) (same h)));

@@ -1,4 +1,5 @@
 use Rattle.picl.proofs.Finishing.{finish-cut, finish-whole}
+use mathlib.Core.Path.{sym, _∙_}
 use borrow.Author.Needs.{needs}
 use Rattle.picl.proofs.finish.Statement.{statement}
 use Rattle.picl.proofs.finish.Tie as tie
@@ -19,7 +20,7 @@ returns : tie.Need-returns
 returns c = search (finish-cut)
 
 made-requires : tie.Need-made-requires
-made-requires c κs = search needs
+made-requires c κs = (sym (c .before .is-cut .ensures) ∙ c .if1 .left, search needs)
 
 returns-2 : tie.Need-returns-2
 returns-2 c = search (finish-whole)
