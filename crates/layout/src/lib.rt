@@ -5,12 +5,16 @@ ghost use Rattle.layout.specs.Words.{encodeControl, decodeControl, Contr
 ghost use Rattle.layout.specs.Words.{encodeShape, decodeShape, ShapeFits};
 ghost use Rattle.layout.specs.Words.{encodeEntry, decodeEntry, EntryFits};
 ghost use Rattle.layout.specs.Words.{encodeSlot, decodeSlot, SlotFits, IsBit};
-ghost use Rattle.layout.specs.Limits.{mostEntries};
+ghost use Rattle.layout.specs.Limits.{epochBits, mostLines, mostEntries};
 ghost use Rattle.layout.specs.Memory.{linesAt};
-ghost use Prim.Native.Nat.{_≤_};
+ghost use Prim.Native.Nat.{_^_, _<_, _≤_};
+ghost use lib.Dec.{ltb, leb};
+ghost use mathlib.Core.Bool.{_&&_};
 ghost use mathlib.Core.Path.{_≡_};
 
 // Widths in bits.
+const WORD_BITS: u32 = 64;
+
 const EPOCH_BITS: u32 = 24;
 
 const ADDRESS_BITS: u32 = 16;
@@ -65,6 +69,9 @@ pub fn lines_at(entries: u64) -> usize
 {
     LOG_AT + 2 * entries as usize
 }
+
+// A slot of the work memory: its slot word, then the line's data.
+pub const SLOT_WORDS: usize = 2;
 
 // The words of the buffer, which is the end of the work memory.
 pub const BUFFER_WORDS: usize = 2 * BUFFER_PLACES;
@@ -161,6 +168,36 @@ impl Entry {
     }
 }
 
+// Tests on an entry's first word that is not decoded, for loops over entries: words compare as their topmost fields do,
+// and a field is made the topmost by one shift, which drops those above it.
+
+// How far below the word's top a field stands.
+const FROM_TO_TOP: u32 = ADDRESS_BITS;
+
+const TILL_TO_TOP: u32 = WORD_BITS - EPOCH_BITS;
+
+pub fn is_address_below(word: u64, lines: u64) -> bool
+    requires { ⌜ 1 ≤ lines ⌝ }
+    requires { ⌜ lines ≤ mostLines ⌝ }
+    ensures { λ r. ⌜ r ≡ ltb (decodeEntry word .address) lines ⌝ }
+{
+    word <= (lines - 1) * ENTRY_ADDRESS + (ENTRY_ADDRESS - 1)
+}
+
+pub fn is_till_at_most(word: u64, epoch: u64) -> bool
+    requires { ⌜ epoch < 2 ^ epochBits ⌝ }
+    ensures { λ r. ⌜ r ≡ leb (decodeEntry word .till) epoch ⌝ }
+{
+    word << TILL_TO_TOP <= epoch << TILL_TO_TOP
+}
+
+// Whether ValidFrom is below ValidTill.
+pub fn is_range(word: u64) -> bool
+    ensures { λ r. ⌜ r ≡ ltb (decodeEntry word .from) (decodeEntry word .till) ⌝ }
+{
+    word << FROM_TO_TOP < word << TILL_TO_TOP
+}
+
 // The slot word: whether the slot holds a line and whether that is dirty, the line's address, the epoch of its last
 // store (0 where clean), and the bits that are kept zero.
 pub struct Slot {
@@ -209,4 +246,11 @@ impl Slot {
             + self.tag * SLOT_TAG
             + self.spare
     }
+}
+
+// Whether a slot word's valid and dirty bits are both 1: they are its topmost.
+pub fn is_dirty_word(word: u64) -> bool
+    ensures { λ r. ⌜ r ≡ decodeSlot word .valid && decodeSlot word .dirty ⌝ }
+{
+    word >= SLOT_VALID + SLOT_DIRTY
 }
