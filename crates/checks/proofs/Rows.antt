@@ -117,6 +117,8 @@ bounds-words v r b work e h = rw e (omega (arith, h .work-words))
 ready-of : (board work : List ℕ) (r : Registers) (v : View) → Running board work r v → RowsReady work r v
 ready-of board work r v h =
     record {
+      lines-some = h .shaped .lines-some;
+      lines-most = h .shaped .lines-most;
       slots-some = h .shaped .slots-some;
       work-words = h .shaped .work-words;
       buffered = h .buffered;

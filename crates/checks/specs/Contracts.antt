@@ -41,6 +41,8 @@ pub record Running (board work : List ℕ) (r : Registers) (v : View) : Type 0 w
 
 -- what the later rows ask of the earlier ones
 pub record RowsReady (work : List ℕ) (r : Registers) (v : View) : Type 0 where
+  pub lines-some : 1 ≤ v .shape .lines
+  pub lines-most : v .shape .lines ≤ mostLines
   pub slots-some : 1 ≤ v .slots
   pub work-words : length work ≡ workWords (v .slots)
   pub buffered : r .buffered < bufferPlaces

@@ -1,12 +1,13 @@
 -- Reading the log: an entry's place in the ring, and the search for the first improper entry.
 use Prim.Native.Nat.{ℕ, _+_, _-_, _*_, _%_, _<_, _≤_}
 use mathlib.Core.Path.{_≡_, refl, sym, ap, _∙_}
-use mathlib.Core.Bool.{Bool, true, false, not}
+use mathlib.Core.Bool.{Bool, true, false, not, and-true, and-false}
 use mathlib.Core.List.{List}
 use native.Mathlib.Nat.{mod-eq-of-lt, add-mul-mod-self-right}
 use native.Mathlib.Numerals.{add-one}
 use native.Mathlib.Omega.{arith}
-use lib.Dec.{leb, eqb}
+use borrow.Author.Tests.{not-true, not-false}
+use lib.Dec.{ltb, leb, eqb}
 use lib.ListN.{getD}
 use Rattle.base.specs.Walk.{Walked, walk-start, walk-end, walk-found, walk-next}
 use Rattle.layout.specs.declared.Entry.{Entry}
@@ -72,10 +73,20 @@ pub expired-read : (board : List ℕ) (u : Undo) (target i : ℕ) (e : Entry) �
 unfolding expired
 expired-read board u target i e d = rw (← d .is)
 
-pub buffered-read : (buffer : List ℕ) (lines epoch i : ℕ) (e : Entry) (t : Bool) → Decoded EntryFits (decodeEntry (getD buffer (2 * i) 0)) e
-    → t ≡ properBuffered lines epoch e → t ≡ bufferedProper buffer lines epoch i
-unfolding bufferedProper bufferedIn
-buffered-read buffer lines epoch i e t d a = rw (← d .is) a
+module _ (buffer : List ℕ) (lines epoch i : ℕ) (t : Bool) (address : t ≡ ltb (decodeEntry (getD buffer (2 * i) 0) .address) lines) where
+  pub buffered-outside : not t ≡ true → false ≡ bufferedProper buffer lines epoch i
+  unfolding bufferedProper bufferedIn properBuffered
+  buffered-outside x = rw (← address, not-true t x)
+
+  module _ (named : not t ≡ false) (s : Bool) (till : s ≡ leb (decodeEntry (getD buffer (2 * i) 0) .till) epoch) where
+    pub buffered-late : not s ≡ true → false ≡ bufferedProper buffer lines epoch i
+    unfolding bufferedProper bufferedIn properBuffered
+    buffered-late x = rw (← address, not-false t named, ← till, not-true s x, and-false)
+
+    pub buffered-range : (r : Bool) → not s ≡ false → r ≡ ltb (decodeEntry (getD buffer (2 * i) 0) .from) (decodeEntry (getD buffer (2 * i) 0) .till)
+        → r ≡ bufferedProper buffer lines epoch i
+    unfolding bufferedProper bufferedIn properBuffered
+    buffered-range r x range = rw (← address, not-false t named, ← till, not-false s x, ← range, and-true)
 
 pub elsewhere-read : (buffer : List ℕ) (address i : ℕ) (e : Entry) → Decoded EntryFits (decodeEntry (getD buffer (2 * i) 0)) e
     → not (eqb (e .address) address) ≡ elsewhere buffer address i

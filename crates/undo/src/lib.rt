@@ -1,12 +1,12 @@
 // The undo log on the board, and the undo buffer before it.
-ghost use Prim.Native.Nat.{_+_, _*_, _<_, _≤_};
+ghost use Prim.Native.Nat.{_+_, _*_, _^_, _<_, _≤_};
 ghost use lib.ListN.{length};
 ghost use mathlib.Core.Path.{_≡_};
 ghost use Rattle.board.specs.Stores.{Ran, each};
-ghost use Rattle.layout.specs.Limits.{bufferPlaces};
+ghost use Rattle.layout.specs.Limits.{epochBits, mostLines, bufferPlaces};
 ghost use Rattle.layout.specs.Memory.{logAt, linesAt, bufferWords};
 ghost use Rattle.layout.specs.Words.{Decoded, EntryFits};
-ghost use Rattle.undo.specs.Entries.{covers, properEntry, properBuffered};
+ghost use Rattle.undo.specs.Entries.{covers, properEntry};
 ghost use Rattle.undo.specs.Log.{Sound, Placed, entryIn, firstImproper, bufferedProper, bufferProper, elsewhere};
 ghost use Rattle.undo.specs.Log.{buffers, expired, DroppedBy, entryStores, counted, flushed, advanceStores};
 ghost use Rattle.undo.specs.Log.{restoreStores, restoreTurn, recoverStores};
@@ -88,18 +88,6 @@ pub fn is_proper(entry: Entry, lines: u64, persisted: u64, older: u64) -> bool
     older <= entry.till
 }
 
-pub fn is_proper_buffered(entry: Entry, lines: u64, epoch: u64) -> bool
-    ensures { λ r. ⌜ r ≡ properBuffered lines epoch entry ⌝ }
-{
-    if entry.address >= lines {
-        return false;
-    }
-    if entry.from >= entry.till {
-        return false;
-    }
-    entry.till <= epoch
-}
-
 // The first word of entry i, counted from the log's first word.
 pub fn place(undo: Undo, i: u64) -> usize
     requires { ⌜ Sound undo ⌝ }
@@ -176,15 +164,27 @@ pub fn dropped_by(board: &[u64], undo: Undo, target: u64) -> u64
 
 fn is_buffered_proper(buffer: &[u64], lines: u64, epoch: u64, i: usize) -> bool
     requires { ⌜ 2 * i < length (now buffer) ⌝ }
+    requires { ⌜ 1 ≤ lines ⌝ }
+    requires { ⌜ lines ≤ mostLines ⌝ }
+    requires { ⌜ epoch < 2 ^ epochBits ⌝ }
     ensures { λ r. ⌜ r ≡ bufferedProper (now (buffer .entry)) lines epoch i ⌝ }
 {
-    let entry = Entry::decode(buffer[2 * i]);
-    is_proper_buffered(entry, lines, epoch)
+    let word = buffer[2 * i];
+    if !layout::is_address_below(word, lines) {
+        return false;
+    }
+    if !layout::is_till_at_most(word, epoch) {
+        return false;
+    }
+    layout::is_range(word)
 }
 
 // Whether the first entries of the buffer, count of them, are proper.
 pub fn is_buffer_proper(buffer: &[u64], count: usize, lines: u64, epoch: u64) -> bool
     requires { ⌜ 2 * count ≤ length (now buffer) ⌝ }
+    requires { ⌜ 1 ≤ lines ⌝ }
+    requires { ⌜ lines ≤ mostLines ⌝ }
+    requires { ⌜ epoch < 2 ^ epochBits ⌝ }
     ensures { λ r. ⌜ r ≡ bufferProper (now (buffer .entry)) count lines epoch ⌝ }
 {
     let mut i: usize = 0;

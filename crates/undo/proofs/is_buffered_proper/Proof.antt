@@ -1,33 +1,45 @@
-use Rattle.undo.proofs.Reading.{buffered-read}
+use Rattle.undo.proofs.Reading.{buffered-outside, buffered-late, buffered-range}
 use borrow.Author.Needs.{needs}
 use Rattle.undo.proofs.is_buffered_proper.Statement.{statement}
 use Rattle.undo.proofs.is_buffered_proper.Tie as tie
 
-mul-decode : tie.Need-mul-decode
-mul-decode c = search needs
+mul-word : tie.Need-mul-word
+mul-word c = search needs
 
-mul-decode-2 : tie.Need-mul-decode-2
-mul-decode-2 c = search needs
+mul-word-2 : tie.Need-mul-word-2
+mul-word-2 c = search needs
 
-shared-slice-read-decode : tie.Need-shared-slice-read-decode
-shared-slice-read-decode c = search needs
+shared-slice-read-word : tie.Need-shared-slice-read-word
+shared-slice-read-word c = search needs
 
-decode-requires : tie.Need-decode-requires
-decode-requires c κs = search needs
-
-is-proper-buffered-requires : tie.Need-is-proper-buffered-requires
-is-proper-buffered-requires c κs = search needs
+is-address-below-requires : tie.Need-is-address-below-requires
+is-address-below-requires c κs = search needs
 
 returns : tie.Need-returns
-returns c = search (buffered-read)
+returns c = search (buffered-outside)
+
+is-till-at-most-requires : tie.Need-is-till-at-most-requires
+is-till-at-most-requires c κs = search needs
+
+returns-2 : tie.Need-returns-2
+returns-2 c = search (buffered-late)
+
+is-range-requires : tie.Need-is-range-requires
+is-range-requires c κs = search needs
+
+returns-3 : tie.Need-returns-3
+returns-3 c = search (buffered-range)
 
 pub is-buffered-proper-spec : {M : Type 1} → statement M
 is-buffered-proper-spec =
     tie.close
     (tie.spec
-    mul-decode
-    mul-decode-2
-    shared-slice-read-decode
-    decode-requires
-    is-proper-buffered-requires
-    returns)
+    mul-word
+    mul-word-2
+    shared-slice-read-word
+    is-address-below-requires
+    returns
+    is-till-at-most-requires
+    returns-2
+    is-range-requires
+    returns-3)
