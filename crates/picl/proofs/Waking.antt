@@ -7,16 +7,15 @@ use native.Mathlib.Numerals.{add-one}
 use native.Mathlib.Omega.{arith}
 use borrow.Author.Tests.{lt-ltb, le-ltb, ltb-true, not-true, not-false}
 use lib.Dec.{ltb}
-use lib.ListN.{length, set, replicate, length-replicate}
+use lib.ListN.{length, getD, set, replicate, length-replicate}
 use Rattle.base.specs.Tests.{held}
 use Rattle.base.specs.Walk.{first, first-all}
 use Rattle.board.specs.declared.Meter.{Meter}
 use Rattle.board.specs.Stores.{full, Ran}
 use Rattle.board.specs.Outcome.{ran-within}
-use Rattle.layout.specs.declared.Slot.{Slot}
 use Rattle.layout.specs.Limits.{lastEpoch, mostLines, mostEntries}
 use Rattle.layout.specs.Memory.{shapeAt, linesAt, boardWords, slotIn, slotsOf}
-use Rattle.layout.specs.Words.{Decoded, SlotFits, ShapeFits, IsBit, bit, encodeShape}
+use Rattle.layout.specs.Words.{ShapeFits, IsBit, bit, encodeShape, decodeSlot}
 use Rattle.status.specs.declared.Status.{Status}
 use Rattle.status.specs.declared.Status.the-variants as status
 use Rattle.undo.specs.declared.Undo.{Undo}
@@ -152,30 +151,37 @@ module _ (board : List ℕ) (lines entries : ℕ) (t : Bool) (test : t ≡ goodF
         words = words-of board lines entries sizes
 
 -- tally
-module _ (work : List ℕ) (k : ℕ) (s : Slot) (read : Decoded SlotFits (slotIn work k) s) where
-  pub dirty-none : not (s .valid) ≡ true → CountsDirty work k 0
-  dirty-none h = record { is = rw (← read .is, not-true (s .valid) h); most = omega arith }
+pub dirty-counted : (work : List ℕ) (at r : ℕ) (t : Bool) → t ≡ decodeSlot (getD work at 0) .valid && decodeSlot (getD work at 0) .dirty → IsBit t r
+    → CountsDirty work at r
+dirty-counted work at r t e x = record { is = rw e at (x .is); most = omega (arith, x .below) }
 
-  pub dirty-counted : (b : ℕ) → not (s .valid) ≡ false → IsBit (s .dirty) b → CountsDirty work k b
-  dirty-counted b h x = record { is = rw (← read .is, not-false (s .valid) h) (x .is); most = omega (arith, x .below) }
-
-pub record Counted (work : List ℕ) (slots k count : ℕ) : Type 0 where
-  pub within : k ≤ slots
-  pub so-far : count ≡ dirtySlots work k
-  pub most : count ≤ k
+-- the slots before a word's place
+pub record Counted (work : List ℕ) (slots at count : ℕ) : Type 0 where
+  pub slot : ℕ
+  pub here : at ≡ 2 * slot
+  pub within : slot ≤ slots
+  pub so-far : count ≡ dirtySlots work slot
+  pub most : count ≤ slot
 
 pub count-start : (work : List ℕ) (slots : ℕ) → Counted work slots 0 0
 unfolding dirtySlots
-count-start work slots = record { within = omega arith; so-far = refl; most = omega arith }
+count-start work slots = record { slot = 0; here = refl; within = omega arith; so-far = refl; most = omega arith }
 
-pub count-next : (work : List ℕ) (slots k count r : ℕ) → Counted work slots k count → k < slots → CountsDirty work k r
-    → Counted work slots (k + 1) (count + r)
+pub count-next : (work : List ℕ) (slots at count r : ℕ) → Counted work slots at count → at < 2 * slots → CountsDirty work at r
+    → Counted work slots (at + 2) (count + r)
 unfolding dirtySlots
-count-next work slots k count r c h x =
-    record { within = omega arith; so-far = rw (add-one, c .so-far, x .is); most = omega (arith, c .most, x .most) }
+count-next work slots at count r c h x =
+    let e : r ≡ bit (slotIn work (c .slot) .valid && slotIn work (c .slot) .dirty) = rw (c .here) at (x .is) in
+    record {
+      slot = c .slot + 1;
+      here = omega (arith, c .here);
+      within = omega (arith, c .here);
+      so-far = rw (add-one, c .so-far, e);
+      most = omega (arith, c .most, x .most);
+    }
 
-pub count-end : (work : List ℕ) (slots k count : ℕ) → Counted work slots k count → slots ≤ k → count ≡ dirtySlots work slots
-count-end work slots k count c h = let e : k ≡ slots = omega (arith, c .within) in rw e at (c .so-far)
+pub count-end : (work : List ℕ) (slots at count : ℕ) → Counted work slots at count → 2 * slots ≤ at → count ≡ dirtySlots work slots
+count-end work slots at count c h = let e : c .slot ≡ slots = omega (arith, c .here, c .within) in rw e at (c .so-far)
 
 module _ (work : List ℕ) (t : Bool) (test : t ≡ goodWork (length work)) (r : Report) where
   pub tally-refused : not t ≡ true → r ≡ report status.Work 0 → r ≡ tallyReport work

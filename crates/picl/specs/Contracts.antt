@@ -3,11 +3,10 @@ use Prim.Native.Nat.{ℕ, _+_, _-_, _<_, _≤_}
 use mathlib.Core.Path.{_≡_}
 use mathlib.Core.Bool.{true, cond, _&&_}
 use mathlib.Core.List.{List}
-use lib.ListN.{length, replicate}
+use lib.ListN.{length, getD, replicate}
 use Rattle.board.specs.declared.Meter.{Meter}
 use Rattle.board.specs.Stores.{wasCut}
-use Rattle.layout.specs.Memory.{slotIn}
-use Rattle.layout.specs.Words.{bit}
+use Rattle.layout.specs.Words.{bit, decodeSlot}
 use Rattle.status.specs.declared.Status.the-variants as status
 use Rattle.cache.specs.Slots.{properAt, properFor, spotOf}
 use Rattle.cache.specs.Effects.{undoDue}
@@ -50,6 +49,7 @@ pub record ScanPassed (board work : List ℕ) (r : Registers) (v : View) : Type 
   pub slot : r .cursor < v .slots → properAt (boundsOf v r) work (r .cursor) ≡ true
   pub waiting : v .control .persisted + 1 < r .epoch
 
-pub record CountsDirty (work : List ℕ) (k r : ℕ) : Type 0 where
-  pub is : r ≡ bit (slotIn work k .valid && slotIn work k .dirty)
+-- what the slot word at a place of the work memory adds to the tally
+pub record CountsDirty (work : List ℕ) (at r : ℕ) : Type 0 where
+  pub is : r ≡ bit (decodeSlot (getD work at 0) .valid && decodeSlot (getD work at 0) .dirty)
   pub most : r ≤ 1

@@ -12,6 +12,7 @@ use layout::LOG_AT;
 use layout::MOST_ENTRIES;
 use layout::MOST_LINES;
 use layout::SHAPE_AT;
+use layout::SLOT_WORDS;
 use layout::Shape;
 use status::Status;
 
@@ -60,26 +61,23 @@ pub fn format(board: &mut [u64], lines: u64, entries: u64) -> Report
     reporting(Status::Ok, 0)
 }
 
-fn dirty_at(work: &[u64], k: usize) -> u64
-    requires { ⌜ 2 * k + 2 ≤ length (now work) ⌝ }
-    ensures { λ r. ⌜ CountsDirty (now (work .entry)) k r ⌝ }
+fn dirty_at(work: &[u64], at: usize) -> u64
+    requires { ⌜ at < length (now work) ⌝ }
+    ensures { λ r. ⌜ CountsDirty (now (work .entry)) at r ⌝ }
 {
-    let slot = cache::slot_at(work, k);
-    if !slot.valid {
-        return 0;
-    }
-    layout::bit(slot.dirty)
+    layout::bit(layout::is_dirty_word(work[at]))
 }
 
 fn count_dirty(work: &[u64], slots: usize) -> u64
     requires { ⌜ 2 * slots ≤ length (now work) ⌝ }
     ensures { λ r. ⌜ r ≡ dirtySlots (now (work .entry)) slots ⌝ }
 {
+    let end = SLOT_WORDS * slots;
     let mut count: u64 = 0;
-    let mut k: usize = 0;
-    while k < slots {
-        count += dirty_at(work, k);
-        k += 1;
+    let mut at: usize = 0;
+    while at < end {
+        count += dirty_at(work, at);
+        at += SLOT_WORDS;
     }
     count
 }

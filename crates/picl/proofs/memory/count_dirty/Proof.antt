@@ -1,14 +1,17 @@
 use borrow.Author.Needs.{needs}
-use Prim.Native.Nat.{_-_}
+use Prim.Native.Nat.{_*_, _-_}
 use Rattle.picl.proofs.Waking.{Counted, count-start, count-next, count-end}
 use Rattle.picl.proofs.memory.count_dirty.Statement.{statement}
 use Rattle.picl.proofs.memory.count_dirty.Tie as tie
 
 abbrev Inv-loop : tie.InvT-loop
-Inv-loop work slots count₀ k₀ count k = Counted work slots k count
+Inv-loop work slots end count₀ at₀ count at = Counted work slots at count
 
 abbrev μ-loop : tie.MeasureT-loop
-μ-loop work slots count₀ k₀ count k = slots - k
+μ-loop work slots end count₀ at₀ count at = 2 * slots - at
+
+mul-end : tie.Need-mul-end Inv-loop μ-loop
+mul-end c = search needs
 
 loop-holds : tie.Need-loop-holds Inv-loop μ-loop
 loop-holds c = search (count-start)
@@ -19,8 +22,8 @@ dirty-at-requires c κs = search needs
 add-count : tie.Need-add-count Inv-loop μ-loop
 add-count c = search needs
 
-add-k : tie.Need-add-k Inv-loop μ-loop
-add-k c = search needs
+add-at : tie.Need-add-at Inv-loop μ-loop
+add-at c = search needs
 
 loop-less : tie.Need-loop-less Inv-loop μ-loop
 loop-less c = search needs
@@ -37,10 +40,11 @@ count-dirty-spec =
     (tie.spec
     Inv-loop
     μ-loop
+    mul-end
     loop-holds
     dirty-at-requires
     add-count
-    add-k
+    add-at
     loop-less
     loop-again
     returns)

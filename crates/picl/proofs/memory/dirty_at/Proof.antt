@@ -1,19 +1,29 @@
-use Rattle.picl.proofs.Waking.{dirty-none, dirty-counted}
+use Rattle.picl.proofs.Waking.{dirty-counted}
 use borrow.Author.Needs.{needs}
 use Rattle.picl.proofs.memory.dirty_at.Statement.{statement}
 use Rattle.picl.proofs.memory.dirty_at.Tie as tie
 
-slot-at-requires : tie.Need-slot-at-requires
-slot-at-requires c κs = search needs
+mul-is-dirty-word : tie.Need-mul-is-dirty-word
+mul-is-dirty-word c = search needs
 
-returns : tie.Need-returns
-returns c = search (dirty-none)
+shared-slice-read-is-dirty-word : tie.Need-shared-slice-read-is-dirty-word
+shared-slice-read-is-dirty-word c = search needs
+
+is-dirty-word-requires : tie.Need-is-dirty-word-requires
+is-dirty-word-requires c κs = search needs
 
 bit-requires : tie.Need-bit-requires
 bit-requires c κs = search needs
 
-returns-2 : tie.Need-returns-2
-returns-2 c = search (dirty-counted)
+returns : tie.Need-returns
+returns c = search (dirty-counted)
 
 pub dirty-at-spec : {M : Type 1} → statement M
-dirty-at-spec = tie.close (tie.spec slot-at-requires returns bit-requires returns-2)
+dirty-at-spec =
+    tie.close
+    (tie.spec
+    mul-is-dirty-word
+    shared-slice-read-is-dirty-word
+    is-dirty-word-requires
+    bit-requires
+    returns)
