@@ -1,14 +1,14 @@
 -- Lines on their way between the slots and the board: one law for each way out of a function.
-use Prim.Native.Nat.{ℕ, _+_, _-_, _*_, _<_, _≤_}
-use mathlib.Core.Path.{_≡_, refl, sym, ap, _∙_}
+use Prim.Native.Nat.{ℕ, _+_, _-_, _*_, _≤_}
+use mathlib.Core.Path.{_≡_, refl}
 use mathlib.Core.Bool.{Bool, true, false, not}
-use mathlib.Core.List.{List, [], _++_}
+use mathlib.Core.List.{List, _++_}
 use native.Mathlib.Omega.{arith}
 use borrow.Author.Tests.{not-true, not-false}
 use lib.ListN.{length, getD, take, drop}
 use Rattle.base.specs.Parts.{setPair, rest-lent, rest-back}
 use Rattle.board.specs.declared.Meter.{Meter}
-use Rattle.board.specs.Stores.{Store, one, shifted, Ran}
+use Rattle.board.specs.Stores.{one, shifted, Ran}
 use Rattle.board.specs.Laws.{ran-none, ran-then, ran-length}
 use Rattle.board.specs.Parts.{ran-part}
 use Rattle.layout.specs.declared.Slot.{Slot}
@@ -20,7 +20,7 @@ use Rattle.undo.specs.Log.{buffers}
 use Rattle.undo.specs.Contracts.{Flushes}
 use Rattle.cache.specs.Slots.{cleanSlot, zeroed, filled}
 use Rattle.cache.specs.Effects.{withBuffer, flushingIf, writingOut, clearing, emptying, lineIn}
-use Rattle.cache.specs.Contracts.{Acts, Brings, LineReady, SlotReady}
+use Rattle.cache.specs.Contracts.{Acts, LineReady, SlotReady}
 
 module _ (due : Bool) (board work : List ℕ) (u : Undo) (m : Meter) where
   pub flush-spared : not due ≡ true → Acts board m (flushingIf due u work) board work (record { undo = u; meter = m })
@@ -56,28 +56,29 @@ written board work u address value m m′ due board′ work′ part f lines read
     let h : lines ≤ length board′ = omega (arith, ready .named, ran-length (flushingIf due u work .stores) (x .ran)) in
     rw (← e, ← l) record { ran = ran-then (x .ran) (ran-part lines h y); undo = x .undo; memory = x .memory }
 
--- emptying a slot
+-- a line leaves its slot
 module _ (board work : List ℕ) (u : Undo) (k : ℕ) (s : Slot) (read : Decoded SlotFits (slotIn work k) s) where
   pub slot-line : SlotReady board work u k → LineReady board work u (s .address)
   slot-line h = rw (read .is) record { ready = h .ready; named = h .named }
 
-  module _ (m : Meter) (work″ : List ℕ) where
-    pub empty-clean : not (s .dirty) ≡ true → work″ ≡ setPair work (2 * k) 0 0
-        → Acts board m (emptying u work k) board work″ (record { undo = u; meter = m })
-    unfolding emptying clearing zeroed
-    empty-clean h z = rw (← read .is, not-true (s .dirty) h) record { ran = ran-none board m; undo = refl; memory = z }
+  pub leave-clean : (m : Meter) → not (s .dirty) ≡ true → Acts board m (clearing u work k) board work (record { undo = u; meter = m })
+  unfolding clearing
+  leave-clean m h = rw (← read .is, not-true (s .dirty) h) record { ran = ran-none board m; undo = refl; memory = refl }
 
-    pub empty-dirty : (board′ work′ : List ℕ) (r : Progress) → not (s .dirty) ≡ false
-        → Acts board m (writingOut u work (s .address) (dataIn work k)) board′ work′ r → work″ ≡ setPair work′ (2 * k) 0 0
-        → Acts board m (emptying u work k) board′ work″ r
-    unfolding emptying clearing zeroed
-    empty-dirty board′ work′ r h x z =
-        rw (← read .is, not-false (s .dirty) h) record { ran = x .ran; undo = x .undo; memory = rw (← x .memory) z }
+  pub leave-dirty : (m : Meter) (board′ work′ : List ℕ) (r : Progress) → not (s .dirty) ≡ false
+      → Acts board m (writingOut u work (s .address) (dataIn work k)) board′ work′ r → Acts board m (clearing u work k) board′ work′ r
+  unfolding clearing
+  leave-dirty m board′ work′ r h x = rw (← read .is, not-false (s .dirty) h) x
+
+-- zeroing it
+pub emptied : (board work : List ℕ) (u : Undo) (k : ℕ) (m : Meter) (board′ work′ work″ : List ℕ) (r : Progress)
+    → Acts board m (clearing u work k) board′ work′ r → work″ ≡ setPair work′ (2 * k) 0 0 → Acts board m (emptying u work k) board′ work″ r
+unfolding emptying zeroed
+emptied board work u k m board′ work′ work″ r x z = record { ran = x .ran; undo = x .undo; memory = rw (← x .memory) z }
 
 -- filling it
-pub brought : (board work : List ℕ) (u : Undo) (k address : ℕ) (m : Meter) (board′ work′ work″ : List ℕ) (r : Progress) (lines word : ℕ)
-    → Acts board m (emptying u work k) board′ work′ r → lines ≡ linesAt (u .entries) → word ≡ encodeSlot (cleanSlot address)
-    → work″ ≡ setPair work′ (2 * k) word (getD board′ (lines + address) 0) → Brings board work u k address m board′ work″ r
+pub line-filled : (board work : List ℕ) (u : Undo) (k address lines word : ℕ) (work′ : List ℕ) → lines ≡ linesAt (u .entries)
+    → word ≡ encodeSlot (cleanSlot address) → work′ ≡ setPair work (2 * k) word (getD board (lines + address) 0)
+    → work′ ≡ filled work k address (lineIn board u address)
 unfolding filled lineIn
-brought board work u k address m board′ work′ work″ r lines word x l w z =
-    record { ran = x .ran; undo = x .undo; memory = rw (← x .memory, ← l, ← w) z }
+line-filled board work u k address lines word work′ l w z = rw (← l, ← w) z

@@ -9,26 +9,20 @@ use Rattle.board.specs.Stores.{allowed, Ran}
 use Rattle.layout.specs.declared.Entry.{Entry}
 use Rattle.layout.specs.declared.Slot.{Slot}
 use Rattle.layout.specs.Words.{EntryFits}
-use Rattle.layout.specs.Limits.{epochBits, addressBits, bufferPlaces}
+use Rattle.layout.specs.Limits.{epochBits, addressBits, mostEntries, bufferPlaces}
 use Rattle.layout.specs.Memory.{linesAt, bufferWords, slotIn, dataIn}
 use Rattle.undo.specs.declared.Undo.{Undo}
 use Rattle.undo.specs.declared.Progress.{Progress}
 use Rattle.undo.specs.Log.{Sound, counted}
 use Rattle.cache.specs.declared.Spot.{Spot}
-use Rattle.cache.specs.Slots.{filled, dirtied}
-use Rattle.cache.specs.Effects.{Effect, emptying, lineIn, entryDue, entryFor, undoDue, logged}
+use Rattle.cache.specs.Slots.{dirtied}
+use Rattle.cache.specs.Effects.{Effect, entryDue, entryFor, undoDue, logged}
 
 -- An effect that does not depend on the board comes about; where the call is cut the board has the first of its stores.
 pub record Acts (board : List ℕ) (m : Meter) (e : Effect) (board′ work′ : List ℕ) (r : Progress) : Type 0 where
   pub ran : Ran board m (e .stores) board′ (r .meter)
   pub undo : r .undo ≡ e .undo
   pub memory : work′ ≡ e .work
-
--- The slot is emptied, then filled from the board as it then is.
-pub record Brings (board work : List ℕ) (u : Undo) (k address : ℕ) (m : Meter) (board′ work′ : List ℕ) (r : Progress) : Type 0 where
-  pub ran : Ran board m (emptying u work k .stores) board′ (r .meter)
-  pub undo : r .undo ≡ emptying u work k .undo
-  pub memory : work′ ≡ filled (emptying u work k .work) k address (lineIn board′ u address)
 
 -- An effect that depends on what is read of the board. Behind a cut that may be anything, so the log's numbers and the work
 -- memory are told only where all stores were allowed.
@@ -54,6 +48,13 @@ pub record SlotReady (board work : List ℕ) (u : Undo) (k : ℕ) : Type 0 where
   pub within : 2 * k + 2 + bufferWords ≤ length work
   pub named : linesAt (u .entries) + slotIn work k .address < length board
 
+-- The board has the line at an address, and the work memory slot k for it.
+pub record PlaceReady (board work : List ℕ) (u : Undo) (k address : ℕ) : Type 0 where
+  pub entries-most : u .entries ≤ mostEntries
+  pub within : 2 * k + 2 + bufferWords ≤ length work
+  pub named : linesAt (u .entries) + address < length board
+  pub fits : address < 2 ^ addressBits
+
 -- The line at an address, and the slot that it takes.
 pub record FillReady (board work : List ℕ) (u : Undo) (k address : ℕ) : Type 0 where
   pub slot : SlotReady board work u k
@@ -68,6 +69,14 @@ pub record MarkReady (board work : List ℕ) (u : Undo) (k address epoch : ℕ) 
   pub epoch-fits : epoch < 2 ^ epochBits
   pub place : u .buffered < bufferPlaces
   pub room : entryDue epoch (slotIn work k) ≡ true → u .control .length + u .buffered + 1 ≤ u .entries
+
+-- A store to a line that was not held, with room for the entry that it makes.
+pub record EnterReady (board work : List ℕ) (u : Undo) (k address epoch : ℕ) : Type 0 where
+  pub ready : Ready board work u
+  pub taken : PlaceReady board work u k address
+  pub epoch-fits : epoch < 2 ^ epochBits
+  pub place : u .buffered < bufferPlaces
+  pub room : u .control .length + u .buffered + 1 ≤ u .entries
 
 -- A store to the line at an address, whether it is held or has to be brought.
 pub record StoreReady (board work : List ℕ) (u : Undo) (address : ℕ) (spot : Spot) (epoch : ℕ) : Type 0 where

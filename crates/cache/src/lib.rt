@@ -6,9 +6,9 @@ ghost use Rattle.layout.specs.Limits.{addressBits};
 ghost use Rattle.layout.specs.Memory.{slotIn, bufferWords};
 ghost use Rattle.layout.specs.Words.{Decoded, SlotFits, encodeSlot};
 ghost use Rattle.cache.specs.Slots.{IsHome, properTag, properFull, properSlot, properAt, properFor, holds, spotOf};
-ghost use Rattle.cache.specs.Slots.{cleanSlot};
-ghost use Rattle.cache.specs.Effects.{flushingIf, writingOut, emptying};
-ghost use Rattle.cache.specs.Contracts.{Acts, Brings, Ready, LineReady, SlotReady, FillReady};
+ghost use Rattle.cache.specs.Slots.{cleanSlot, filled};
+ghost use Rattle.cache.specs.Effects.{flushingIf, writingOut, clearing, emptying, lineIn};
+ghost use Rattle.cache.specs.Contracts.{Acts, Ready, LineReady, SlotReady, PlaceReady};
 use board::Meter;
 use layout::BUFFER_WORDS;
 use layout::Slot;
@@ -169,20 +169,27 @@ pub fn write_out(
     }
 }
 
+// A dirty line of slot k to the board; a clean or an empty slot costs nothing. The slot's words stay.
+pub fn leave(board: &mut [u64], work: &mut [u64], undo: Undo, k: usize, meter: Meter) -> Progress
+    requires { ⌜ SlotReady (now board) (now work) undo k ⌝ }
+    ensures { λ r. ⌜ Acts (now (board .entry)) meter (clearing undo (now (work .entry)) k) (now (board .exit)) (now (work .exit)) r ⌝ }
+{
+    let slot = slot_at(work, k);
+    if !slot.dirty {
+        return Progress { undo, meter };
+    }
+    let value = work[2 * k + 1];
+    write_out(board, work, undo, slot.address, value, meter)
+}
+
 // An empty slot, its line written out before if it was dirty.
 pub fn empty(board: &mut [u64], work: &mut [u64], undo: Undo, k: usize, meter: Meter) -> Progress
     requires { ⌜ SlotReady (now board) (now work) undo k ⌝ }
     ensures { λ r. ⌜ Acts (now (board .entry)) meter (emptying undo (now (work .entry)) k) (now (board .exit)) (now (work .exit)) r ⌝ }
 {
-    let slot = slot_at(work, k);
-    if !slot.dirty {
-        base::set_pair(work, 2 * k, 0, 0);
-        return Progress { undo, meter };
-    }
-    let value = work[2 * k + 1];
-    let done = write_out(board, work, undo, slot.address, value, meter);
+    let left = leave(board, work, undo, k, meter);
     base::set_pair(work, 2 * k, 0, 0);
-    done
+    left
 }
 
 pub fn clean_word(address: u64) -> u64
@@ -199,21 +206,11 @@ pub fn clean_word(address: u64) -> u64
     slot.encode()
 }
 
-// The line at an address in its slot, as the board has it.
-pub fn bring(
-    board: &mut [u64],
-    work: &mut [u64],
-    undo: Undo,
-    k: usize,
-    address: u64,
-    meter: Meter,
-) -> Progress
-    requires { ⌜ FillReady (now board) (now work) undo k address ⌝ }
-    ensures { λ r. ⌜ Brings (now (board .entry)) (now (work .entry)) undo k address meter (now (board .exit)) (now (work .exit)) r ⌝ }
+// The line at an address to slot k, clean, as the board has it.
+pub fn fill(board: &[u64], work: &mut [u64], undo: Undo, k: usize, address: u64)
+    requires { ⌜ PlaceReady (now board) (now work) undo k address ⌝ }
+    ensures { λ _. ⌜ now (work .exit) ≡ filled (now (work .entry)) k address (lineIn (now (board .entry)) undo address) ⌝ }
 {
-    let emptied = empty(board, work, undo, k, meter);
     let at = layout::lines_at(undo.entries) + address as usize;
-    let line = board[at];
-    base::set_pair(work, 2 * k, clean_word(address), line);
-    emptied
+    base::set_pair(work, 2 * k, clean_word(address), board[at]);
 }

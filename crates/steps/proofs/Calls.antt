@@ -1,17 +1,17 @@
 -- The steps of load, store, evict and scan: one law for each way out of a function.
-use Prim.Native.Nat.{ℕ, _+_, _-_, _*_, _^_, _<_, _≤_}
+use Prim.Native.Nat.{ℕ, _+_, _*_, _<_, _≤_}
 use mathlib.Core.Path.{_≡_, refl, sym, ap, _∙_}
 use mathlib.Core.Bool.{Bool, true, false, not, cond, _||_}
-use mathlib.Core.List.{List, [], _++_}
+use mathlib.Core.List.{List, _++_}
 use native.Mathlib.Omega.{arith}
 use borrow.Author.Tests.{not-true, not-false, eq-eqb, ne-eqb}
 use lib.ListN.{length, getD, set, length-append}
 use Rattle.board.specs.declared.Meter.{Meter}
-use Rattle.board.specs.Stores.{Store, applied, spent, Ran, allowed}
+use Rattle.board.specs.Stores.{applied, allowed, Ran}
 use Rattle.board.specs.Laws.{ran-none, ran-all, ran-read, ran-length}
 use Rattle.layout.specs.declared.Slot.{Slot}
 use Rattle.layout.specs.Limits.{bufferPlaces}
-use Rattle.layout.specs.Memory.{linesAt, bufferWords, bufferIn, slotIn, dataIn}
+use Rattle.layout.specs.Memory.{linesAt, bufferIn, slotIn, dataIn}
 use Rattle.layout.specs.Words.{Decoded, SlotFits, encodeSlot}
 use Rattle.undo.specs.declared.Undo.{Undo}
 use Rattle.undo.specs.declared.Progress.{Progress}
@@ -22,7 +22,8 @@ use Rattle.cache.specs.declared.Spot.{Spot}
 use Rattle.cache.specs.Slots.{cleanSlot, cleaned, filled}
 use Rattle.cache.specs.Effects.{Effect, nothing, flushing, flushingIf, writingOut, clearing, emptying, lineIn, bringing, entryDue, undoDue, marking}
 use Rattle.cache.specs.Effects.{loading, storing, evicting, sweeping, visiting, persisting}
-use Rattle.cache.specs.Contracts.{Acts, Brings, Carries, Ready, LineReady, SlotReady, FillReady, MarkReady, StoreReady, PersistReady}
+use Rattle.cache.specs.Contracts.{Acts, Carries, MarkReady, EnterReady, StoreReady, PersistReady}
+use Rattle.steps.proofs.Entering.{filled-zeroed}
 
 -- an effect that does not depend on the board is told in any case
 told : {board board′ work′ : List ℕ} {m : Meter} {e : Effect} {r : Progress} → Acts board m e board′ work′ r → Carries board m e board′ work′ r
@@ -101,20 +102,30 @@ module _ (board work : List ℕ) (u : Undo) (target : ℕ) (m : Meter) (board′
         memory = λ h. flush .memory;
       }
 
+-- the line left its slot and the board's line fills it: the slot's words between them do not matter
+brought : (board work : List ℕ) (u : Undo) (k address : ℕ) (m : Meter) (board′ work′ : List ℕ) (r : Progress)
+    → Acts board m (clearing u work k) board′ work′ r → length (clearing u work k .stores) ≤ allowed m
+    → filled work′ k address (lineIn board′ u address) ≡ bringing board u work k address .work
+unfolding bringing emptying
+brought board work u k address m board′ work′ r x g =
+    rw (x .memory, ran-all (clearing u work k .stores) (x .ran) g)
+    (sym (filled-zeroed (clearing u work k .work) k address (lineIn (applied board (clearing u work k .stores)) u address)))
+
 -- load
 module _ (board work : List ℕ) (u : Undo) (address : ℕ) (spot : Spot) (m : Meter) where
   pub load-held : spot .held ≡ true → Carries board m (loading board u work address spot) board work (record { undo = u; meter = m })
   unfolding loading
   load-held h = rw h record { ran = ran-none board m; undo = λ x. refl; memory = λ x. refl }
 
-  pub load-brought : (board′ work′ : List ℕ) (r : Progress) → spot .held ≡ false → Brings board work u (spot .slot) address m board′ work′ r
-      → Carries board m (loading board u work address spot) board′ work′ r
-  unfolding loading bringing
-  load-brought board′ work′ r h x =
+  pub load-brought : (board′ work′ work″ : List ℕ) (r : Progress) → spot .held ≡ false → Acts board m (clearing u work (spot .slot)) board′ work′ r
+      → work″ ≡ filled work′ (spot .slot) address (lineIn board′ u address)
+      → Carries board m (loading board u work address spot) board′ work″ r
+  unfolding loading bringing emptying
+  load-brought board′ work′ work″ r h x f =
       rw h record {
         ran = x .ran;
         undo = λ g. x .undo;
-        memory = λ g. x .memory ∙ rw (ran-all (emptying u work (spot .slot) .stores) (x .ran) g);
+        memory = λ g. f ∙ brought board work u (spot .slot) address m board′ work′ r x g;
       }
 
 -- store
@@ -132,12 +143,12 @@ module _ (board work : List ℕ) (u : Undo) (address : ℕ) (spot : Spot) (epoch
         room = rw h at room;
       }
 
-  -- emptying a slot flushes or leaves the log's numbers as they are; either keeps the room for the store's entry
+  -- a line that leaves its slot flushes or leaves the log's numbers as they are; either keeps the room for the store's entry
   abbrev Kept : Undo → Type 0
   Kept v = Sound v × (v .entries ≡ u .entries) × (v .buffered < bufferPlaces) × (v .control .length + v .buffered + 1 ≤ v .entries)
 
-  kept : spot .held ≡ false → Kept (emptying u work (spot .slot) .undo)
-  unfolding emptying clearing writingOut flushingIf flushed undoDue
+  kept : spot .held ≡ false → Kept (clearing u work (spot .slot) .undo)
+  unfolding clearing writingOut flushingIf flushed undoDue
   kept h = dirty (slotIn work (spot .slot) .dirty)
     where
       room : u .control .length + u .buffered + 1 ≤ u .entries
@@ -155,53 +166,67 @@ module _ (board work : List ℕ) (u : Undo) (address : ℕ) (spot : Spot) (epoch
       dirty false = same
 
   module _ (m : Meter) (board′ work′ : List ℕ) (b : Progress) (out : spot .held ≡ false)
-      (brings : Brings board work u (spot .slot) address m board′ work′ b) where
-    pub store-brought-ready : length work′ ≡ length work → MarkReady board′ work′ (b .undo) (spot .slot) address epoch
-    store-brought-ready l =
+      (leaves : Acts board m (clearing u work (spot .slot)) board′ work′ b) where
+    same-board : length board′ ≡ length board
+    same-board = ran-length (clearing u work (spot .slot) .stores) (leaves .ran)
+
+    pub store-enter-ready : length work′ ≡ length work → EnterReady board′ work′ (b .undo) (spot .slot) address epoch
+    store-enter-ready l =
         let k = kept out in
-        rw (brings .undo) record {
+        let fill = ready .fill in
+        rw (leaves .undo) record {
           ready =
               record {
                 sound = k .0;
-                board-words =
-                    omega
-                    (arith, k .1, ready .fill .slot .ready .board-words, ran-length (emptying u work (spot .slot) .stores) (brings .ran));
-                work-words = rw l (ready .fill .slot .ready .work-words);
+                board-words = omega (arith, k .1, fill .slot .ready .board-words, same-board);
+                work-words = rw l (fill .slot .ready .work-words);
               };
-          within = rw l (ready .fill .slot .within);
-          address-fits = ready .fill .fits;
+          taken =
+              record {
+                entries-most = k .0 .most;
+                within = rw l (fill .slot .within);
+                named = omega (arith, k .1, fill .named, same-board);
+                fits = fill .fits;
+              };
           epoch-fits = ready .epoch-fits;
           place = k .2;
-          room = λ d. k .3;
+          room = k .3;
         }
 
     -- what was brought, where all stores were allowed
     same-undo : b .undo ≡ loading board u work address spot .undo
-    unfolding loading bringing
-    same-undo = rw out (brings .undo)
+    unfolding loading bringing emptying
+    same-undo = rw out (leaves .undo)
 
-    same-work : length (emptying u work (spot .slot) .stores) ≤ allowed m → work′ ≡ loading board u work address spot .work
-    unfolding loading bringing
-    same-work h = rw out (brings .memory ∙ rw (ran-all (emptying u work (spot .slot) .stores) (brings .ran) h))
+    same-line : lineIn board′ (b .undo) address ≡ lineIn board′ u address
+    unfolding lineIn
+    same-line = ap (λ (n : ℕ). getD board′ (linesAt n + address) 0) (ap (λ (v : Undo). v .entries) (leaves .undo) ∙ kept out .1)
 
-    same-stores : loading board u work address spot .stores ≡ emptying u work (spot .slot) .stores
-    unfolding loading bringing
+    same-work : length (clearing u work (spot .slot) .stores) ≤ allowed m
+        → filled work′ (spot .slot) address (lineIn board′ (b .undo) address) ≡ loading board u work address spot .work
+    unfolding loading
+    same-work h = rw (out, same-line) (brought board work u (spot .slot) address m board′ work′ b leaves h)
+
+    same-stores : loading board u work address spot .stores ≡ clearing u work (spot .slot) .stores
+    unfolding loading bringing emptying
     same-stores = rw out
 
-    pub store-brought : (value : ℕ) (board″ work″ : List ℕ) (r : Progress)
-        → Acts board′ (b .meter) (marking (b .undo) work′ (spot .slot) address epoch value) board″ work″ r
+    pub store-entered : (value : ℕ) (board″ work″ : List ℕ) (r : Progress)
+        → Acts board′ (b .meter)
+        (marking (b .undo) (filled work′ (spot .slot) address (lineIn board′ (b .undo) address)) (spot .slot) address epoch value) board″ work″ r
         → Carries board m (storing board u work address spot epoch value) board″ work″ r
     unfolding storing
-    store-brought value board″ work″ r x =
-        let xs = emptying u work (spot .slot) .stores in
+    store-entered value board″ work″ r x =
+        let xs = clearing u work (spot .slot) .stores in
         let l = loading board u work address spot in
+        let f = filled work′ (spot .slot) address (lineIn board′ (b .undo) address) in
         let same : length xs ≤ allowed m
-        → marking (b .undo) work′ (spot .slot) address epoch value ≡ marking (l .undo) (l .work) (spot .slot) address epoch value =
-        λ h. rw (same-undo, same-work h) in
+        → marking (b .undo) f (spot .slot) address epoch value ≡ marking (l .undo) (l .work) (spot .slot) address epoch value =
+        λ h. rw (same-work h, same-undo) in
         let part : length (l .stores ++ marking (l .undo) (l .work) (spot .slot) address epoch value .stores) ≤ allowed m → length xs ≤ allowed m =
         λ h. omega (arith, ap length same-stores, length-append (l .stores) (marking (l .undo) (l .work) (spot .slot) address epoch value .stores)) in
         record {
-          ran = rw same-stores (ran-read xs (brings .ran) (x .ran) (λ h. ap (λ (e : Effect). e .stores) (same h)));
+          ran = rw same-stores (ran-read xs (leaves .ran) (x .ran) (λ h. ap (λ (e : Effect). e .stores) (same h)));
           undo = λ h. x .undo ∙ ap (λ (e : Effect). e .undo) (same (part h));
           memory = λ h. x .memory ∙ ap (λ (e : Effect). e .work) (same (part h));
         }

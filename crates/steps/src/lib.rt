@@ -5,10 +5,10 @@ ghost use mathlib.Core.Path.{_≡_};
 ghost use Rattle.layout.specs.Limits.{addressBits, epochBits};
 ghost use Rattle.layout.specs.Memory.{slotIn};
 ghost use Rattle.layout.specs.Words.{encodeSlot};
-ghost use Rattle.cache.specs.Slots.{dirtySlot};
-ghost use Rattle.cache.specs.Effects.{entryDue, entryFor, undoDue, marking};
+ghost use Rattle.cache.specs.Slots.{dirtySlot, filled};
+ghost use Rattle.cache.specs.Effects.{entryDue, entryFor, undoDue, marking, lineIn};
 ghost use Rattle.cache.specs.Effects.{loading, storing, evicting, sweeping, visiting, persisting};
-ghost use Rattle.cache.specs.Contracts.{Acts, Carries, SlotReady, FillReady, MarkReady};
+ghost use Rattle.cache.specs.Contracts.{Acts, Carries, SlotReady, FillReady, MarkReady, EnterReady};
 ghost use Rattle.cache.specs.Contracts.{Logs, LogReady, LogsStore, LogStoreReady, StoreReady, PersistReady};
 use board::Meter;
 use cache::Spot;
@@ -118,6 +118,38 @@ pub fn mark(
     )
 }
 
+// A store to a line that slot k takes from the board: what `mark` does once the slot is filled, without filling it.
+fn enter(
+    board: &mut [u64],
+    work: &mut [u64],
+    undo: Undo,
+    k: usize,
+    address: u64,
+    epoch: u64,
+    value: u64,
+    meter: Meter,
+) -> Progress
+    requires { ⌜ EnterReady (now board) (now work) undo k address epoch ⌝ }
+    ensures { λ r. ⌜ Acts (now (board .entry)) meter (marking undo (filled (now (work .entry)) k address (lineIn (now (board .entry)) undo address)) k address epoch value) (now (board .exit)) (now (work .exit)) r ⌝ }
+{
+    let at = layout::lines_at(undo.entries) + address as usize;
+    let old = board[at];
+    let entry = Entry {
+        address,
+        from: undo.control.persisted,
+        till: epoch,
+    };
+    let counted = log(work, undo, entry, old);
+    base::set_pair(work, 2 * k, dirty_word(address, epoch), value);
+    cache::flush_if(
+        counted.buffered == BUFFER_PLACES as u64,
+        board,
+        work,
+        counted,
+        meter,
+    )
+}
+
 // The line of slot k to the board, and clean from then on.
 fn sweep(
     board: &mut [u64],
@@ -197,7 +229,9 @@ pub fn load(
     if spot.held {
         return Progress { undo, meter };
     }
-    cache::bring(board, work, undo, spot.slot, address, meter)
+    let left = cache::leave(board, work, undo, spot.slot, meter);
+    cache::fill(board, work, undo, spot.slot, address);
+    left
 }
 
 // A store to the line at an address.
@@ -217,10 +251,10 @@ pub fn store(
     if spot.held {
         return mark(board, work, undo, spot.slot, address, epoch, value, meter);
     }
-    let brought = cache::bring(board, work, undo, spot.slot, address, meter);
-    let after = brought.undo;
-    let left = brought.meter;
-    mark(board, work, after, spot.slot, address, epoch, value, left)
+    let left = cache::leave(board, work, undo, spot.slot, meter);
+    let after = left.undo;
+    let rest = left.meter;
+    enter(board, work, after, spot.slot, address, epoch, value, rest)
 }
 
 // An empty slot where the line at an address was held.

@@ -1,10 +1,10 @@
-use Rattle.cache.proofs.Moving.{slot-line, empty-clean, empty-dirty}
+use Rattle.cache.proofs.Moving.{emptied}
 use borrow.Author.Needs.{needs}
 use Rattle.cache.proofs.empty.Statement.{statement}
 use Rattle.cache.proofs.empty.Tie as tie
 
-slot-at-requires : tie.Need-slot-at-requires
-slot-at-requires c κs = search needs
+leave-requires : tie.Need-leave-requires
+leave-requires c κs = search needs
 
 mul-set-pair : tie.Need-mul-set-pair
 mul-set-pair c = search needs
@@ -15,55 +15,13 @@ set-pair-requires c κs = search needs
 same-length : tie.Need-same-length
 same-length c = search needs
 
-returns : tie.Need-returns
-returns c = search (empty-clean)
-
-mul-value : tie.Need-mul-value
-mul-value c = search needs
-
-add-value : tie.Need-add-value
-add-value c = search needs
-
-mul-value-2 : tie.Need-mul-value-2
-mul-value-2 c = search needs
-
-slice-read-value : tie.Need-slice-read-value
-slice-read-value c = search needs
-
-write-out-requires : tie.Need-write-out-requires
-write-out-requires c κs = search (slot-line)
-
-mul-set-pair-2 : tie.Need-mul-set-pair-2
-mul-set-pair-2 c = search needs
-
-set-pair-requires-2 : tie.Need-set-pair-requires-2
-set-pair-requires-2 c κs = search needs
-
 same-length-2 : tie.Need-same-length-2
 same-length-2 c = search needs
 
-same-length-3 : tie.Need-same-length-3
-same-length-3 c = search needs
-
-returns-2 : tie.Need-returns-2
-returns-2 c = search (empty-dirty)
+returns : tie.Need-returns
+returns c = search (emptied)
 
 pub empty-spec : {M : Type 1} → statement M
 empty-spec =
     tie.close
-    (tie.spec
-    slot-at-requires
-    mul-set-pair
-    set-pair-requires
-    same-length
-    returns
-    mul-value
-    add-value
-    mul-value-2
-    slice-read-value
-    write-out-requires
-    mul-set-pair-2
-    set-pair-requires-2
-    same-length-2
-    same-length-3
-    returns-2)
+    (tie.spec leave-requires mul-set-pair set-pair-requires same-length same-length-2 returns)

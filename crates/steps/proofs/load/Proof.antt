@@ -6,8 +6,11 @@ use Rattle.steps.proofs.load.Tie as tie
 returns : tie.Need-returns
 returns c = search (load-held)
 
-bring-requires : tie.Need-bring-requires
-bring-requires c κs = search needs
+leave-requires : tie.Need-leave-requires
+leave-requires c κs = search needs
+
+fill-requires : tie.Need-fill-requires
+fill-requires c κs = search needs
 
 same-length : tie.Need-same-length
 same-length c = search needs
@@ -19,4 +22,5 @@ returns-2 : tie.Need-returns-2
 returns-2 c = search (load-brought)
 
 pub load-spec : {M : Type 1} → statement M
-load-spec = tie.close (tie.spec returns bring-requires same-length same-length-2 returns-2)
+load-spec =
+    tie.close (tie.spec returns leave-requires fill-requires same-length same-length-2 returns-2)

@@ -1,4 +1,4 @@
-use Rattle.steps.proofs.Calls.{store-held-ready, store-held, store-brought-ready, store-brought}
+use Rattle.steps.proofs.Calls.{store-held-ready, store-held, store-enter-ready, store-entered}
 use borrow.Author.Needs.{needs}
 use Rattle.steps.proofs.store.Statement.{statement}
 use Rattle.steps.proofs.store.Tie as tie
@@ -15,11 +15,11 @@ same-length-2 c = search needs
 returns : tie.Need-returns
 returns c = search (store-held)
 
-bring-requires : tie.Need-bring-requires
-bring-requires c κs = search needs
+leave-requires : tie.Need-leave-requires
+leave-requires c κs = search needs
 
-mark-requires-2 : tie.Need-mark-requires-2
-mark-requires-2 c κs = search (store-brought-ready)
+enter-requires : tie.Need-enter-requires
+enter-requires c κs = search (store-enter-ready)
 
 same-length-3 : tie.Need-same-length-3
 same-length-3 c = search needs
@@ -28,7 +28,7 @@ same-length-4 : tie.Need-same-length-4
 same-length-4 c = search needs
 
 returns-2 : tie.Need-returns-2
-returns-2 c = search (store-brought)
+returns-2 c = search (store-entered)
 
 pub store-spec : {M : Type 1} → statement M
 store-spec =
@@ -38,8 +38,8 @@ store-spec =
     same-length
     same-length-2
     returns
-    bring-requires
-    mark-requires-2
+    leave-requires
+    enter-requires
     same-length-3
     same-length-4
     returns-2)
