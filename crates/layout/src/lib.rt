@@ -62,6 +62,8 @@ pub const SHAPE_AT: usize = 1;
 
 pub const LOG_AT: usize = 2;
 
+pub const ENTRY_WORDS: usize = 2;
+
 // Where the lines of a board begin whose log has place for so many entries.
 pub fn lines_at(entries: u64) -> usize
     requires { ⌜ entries ≤ mostEntries ⌝ }

@@ -20,8 +20,7 @@ use Rattle.status.specs.declared.Status.{Status}
 use Rattle.status.specs.declared.Status.the-variants as status
 use Rattle.undo.specs.declared.Undo.{Undo}
 use Rattle.undo.specs.Contracts.{RecoverReady}
-use Rattle.undo.specs.Entries.{properEntry}
-use Rattle.undo.specs.Log.{Sound, entryIn, properAt, firstImproper, recoverStores}
+use Rattle.undo.specs.Log.{Sound, properAt, firstImproper, recoverStores}
 use Rattle.checks.specs.declared.Checked.{Checked}
 use Rattle.checks.specs.declared.Checked.the-variants.{Refused, Passed}
 use Rattle.checks.specs.declared.Registers.{Registers}
@@ -66,10 +65,6 @@ module _ (board work : List ℕ) (v : View) (u : Undo) (zero : Registers) (none 
   pub wake-epoch : Shaped board work v → u .control .persisted < lastEpoch
   wake-epoch s = rw same (s .persisted)
 
-  named : (i : ℕ) → properAt board u (v .shape .lines) i ≡ true → entryIn board u i .address < v .shape .lines
-  unfolding properAt properEntry
-  named i h = search held depth 12
-
   module _ (found : ℕ) (first : found ≡ firstImproper board u (v .shape .lines)) where
     pub wake-refused : (allowance : ℕ) (a : Answer) (z : Registers) → found < v .control .length → z ≡ registers.zero
         → a ≡ refusal status.Entry found z → Answers allowance registers.zero board work (wakeVerdict board work v) board work a
@@ -92,10 +87,7 @@ module _ (board work : List ℕ) (v : View) (u : Undo) (zero : Registers) (none 
         record {
           sound = wake-sound s;
           board-words = omega (arith, s .board-words, entries-same);
-          named =
-              λ i g.
-              named i
-              (first-all (properAt board u (v .shape .lines)) (u .control .length) (omega (arith, length-same, first)) i g);
+          proper = first-all (properAt board u (v .shape .lines)) (u .control .length) (omega (arith, length-same, first));
         }
 
 module _ (allowance : ℕ) (board work : List ℕ) (k : Checked) (is : k ≡ memoriesChecked board work) where

@@ -1,3 +1,4 @@
+pub mod Ring
 pub mod Reading
 pub mod Storing
 pub mod Restoring

@@ -1,78 +1,130 @@
--- Reading the log: an entry's place in the ring, and the search for the first improper entry.
-use Prim.Native.Nat.{ℕ, _+_, _-_, _*_, _%_, _<_, _≤_}
+-- Reading the log: an entry at its place, the run that an advance drops, and the search for the first improper entry.
+use Prim.Native.Nat.{ℕ, _+_, _-_, _*_, _<_, _≤_}
 use mathlib.Core.Path.{_≡_, refl, sym, ap, _∙_}
-use mathlib.Core.Bool.{Bool, true, false, not, and-true, and-false}
+use mathlib.Core.Bool.{Bool, true, false, not, _&&_, and-true, and-false}
 use mathlib.Core.List.{List}
-use native.Mathlib.Nat.{mod-eq-of-lt, add-mul-mod-self-right}
 use native.Mathlib.Numerals.{add-one}
 use native.Mathlib.Omega.{arith}
-use borrow.Author.Tests.{not-true, not-false}
+use borrow.Author.Tests.{lt-ltb, le-ltb, le-leb, lt-leb, ltb-true, ltb-false, leb-true, not-true, not-false}
 use lib.Dec.{ltb, leb, eqb}
 use lib.ListN.{getD}
-use Rattle.base.specs.Walk.{Walked, walk-start, walk-end, walk-found, walk-next}
+use Rattle.base.specs.Walk.{Walked, walk-start, walk-end, walk-stop, walk-pass, walk-found, walk-next}
 use Rattle.layout.specs.declared.Entry.{Entry}
 use Rattle.layout.specs.Memory.{logAt}
 use Rattle.layout.specs.Words.{Decoded, EntryFits, decodeEntry}
 use Rattle.undo.specs.declared.Undo.{Undo}
-use Rattle.undo.specs.Entries.{properEntry, properBuffered}
-use Rattle.undo.specs.Log.{Sound, Placed, placeOf, entryIn, olderTill, properAt, firstImproper}
-use Rattle.undo.specs.Log.{bufferedIn, bufferedProper, elsewhere, expired, dropped, DroppedBy}
-
--- start + i is below 2L: the remainder by L is the number itself, or the number less L
-module _ (u : Undo) (i : ℕ) (sound : Sound u) (within : i ≤ u .entries) where
-  pub placed-low : u .control .start + i < u .entries → Placed u i (2 * (u .control .start + i))
-  unfolding placeOf
-  placed-low h = record { is = ap (_*_ 2) (sym (mod-eq-of-lt h)); below = omega arith }
-
-  pub placed-high : u .entries ≤ u .control .start + i → Placed u i (2 * (u .control .start + i - u .entries))
-  unfolding placeOf
-  placed-high h =
-      let k : u .control .start + i - u .entries < u .entries = omega arith in
-      let e : u .control .start + i ≡ u .control .start + i - u .entries + 1 * u .entries = omega arith in
-      record {
-        is = ap (_*_ 2) (sym (mod-eq-of-lt k) ∙ sym (ap (λ (x : ℕ). x % u .entries) e ∙ add-mul-mod-self-right _ 1 (u .entries)));
-        below = omega arith;
-      }
+use Rattle.undo.specs.Entries.{properEntry, properAbove, properBuffered}
+use Rattle.undo.specs.Log.{Sound, Placed, entryIn, olderTill, properAt, firstImproper}
+use Rattle.undo.specs.Log.{bufferedIn, bufferedProper, elsewhere, expired, dropped, DroppedBy, KeptBy}
+use Rattle.undo.specs.Laws.{proper-till}
+use Rattle.undo.specs.Ring.{nextPlace}
+use Rattle.undo.proofs.Ring.{placed-next}
 
 pub entry-read : (board : List ℕ) (u : Undo) (i at : ℕ) (e : Entry) → Placed u i at
     → Decoded EntryFits (decodeEntry (getD board (logAt + at) 0)) e → Decoded EntryFits (entryIn board u i) e
 unfolding entryIn
 entry-read board u i at e p d = rw (← p .is) d
 
--- the search for the first improper entry carries the ValidTill of the entry before
-pub record Searched (board : List ℕ) (u : Undo) (lines i older : ℕ) : Type 0 where
+-- the test of an entry's word, one law for each way out
+module _ (word lines least : ℕ) (t : Bool) (address : t ≡ ltb (decodeEntry word .address) lines) where
+  pub word-address : not t ≡ true → false ≡ properAbove lines least (decodeEntry word)
+  unfolding properAbove
+  word-address x = rw (← address, not-true t x)
+
+  module _ (named : not t ≡ false) (e : Entry) (d : Decoded EntryFits (decodeEntry word) e) where
+    pub word-till : e .till < least → false ≡ properAbove lines least (decodeEntry word)
+    unfolding properAbove
+    word-till h = rw (← address, not-false t named, ← d .is, lt-leb least (e .till) h)
+
+    pub word-from : least ≤ e .till → ltb (e .from) (e .till) ≡ properAbove lines least (decodeEntry word)
+    unfolding properAbove
+    word-from h = rw (← address, not-false t named, ← d .is, le-leb least (e .till) h)
+
+-- one bound stands for both: what is at or above least is above P, and not below the older entry's ValidTill
+abbrev pub Bounds : (persisted older least : ℕ) → Type 0
+Bounds persisted older least = (till : ℕ) → leb least till ≡ ltb persisted till && leb older till
+
+bounds-first : (persisted : ℕ) → Bounds persisted 0 (persisted + 1)
+bounds-first persisted till = go (ltb persisted till) refl
+  where
+    go : (t : Bool) → ltb persisted till ≡ t → leb (persisted + 1) till ≡ t && leb 0 till
+    go true e =
+        let h : persisted < till = ltb-true persisted till e in
+        le-leb (persisted + 1) till (omega arith) ∙ sym (le-leb 0 till (omega arith))
+    go false e = let h : till ≤ persisted = ltb-false persisted till e in lt-leb (persisted + 1) till (omega arith)
+
+bounds-next : (persisted older : ℕ) → persisted < older → Bounds persisted older older
+bounds-next persisted older h till = go (leb older till) refl
+  where
+    go : (t : Bool) → leb older till ≡ t → t ≡ ltb persisted till && t
+    go true e = let g : older ≤ till = leb-true older till e in rw (lt-ltb persisted till (omega arith))
+    go false e = none (ltb persisted till)
+      where
+        none : (t : Bool) → false ≡ t && false
+        none true = refl
+        none false = refl
+
+swapped : (a b c d : Bool) → a && (b && c) && d ≡ a && d && b && c
+swapped true true true true = refl
+swapped true true true false = refl
+swapped true true false true = refl
+swapped true true false false = refl
+swapped true false c true = refl
+swapped true false c false = refl
+swapped false b c d = refl
+
+proper-above : (lines persisted older least : ℕ) → Bounds persisted older least → (e : Entry)
+    → properAbove lines least e ≡ properEntry lines persisted older e
+unfolding properAbove properEntry
+proper-above lines persisted older least h e =
+    rw (h (e .till)) (swapped (ltb (e .address) lines) (ltb persisted (e .till)) (leb older (e .till)) (ltb (e .from) (e .till)))
+
+-- the search for the first improper entry carries its place and the lower bound of its ValidTill
+pub record Searched (board : List ℕ) (u : Undo) (lines i at least : ℕ) : Type 0 where
   pub walked : Walked (properAt board u lines) (u .control .length) i
-  pub carried : older ≡ olderTill board u i
+  pub placed : Placed u i at
+  pub carried : Bounds (u .control .persisted) (olderTill board u i) least
 
-pub search-start : (board : List ℕ) (u : Undo) (lines : ℕ) → Searched board u lines 0 0
+pub search-start : (board : List ℕ) (u : Undo) (lines at : ℕ) → Placed u 0 at → Searched board u lines 0 at (u .control .persisted + 1)
 unfolding olderTill
-search-start board u lines = record { walked = walk-start (properAt board u lines) (u .control .length); carried = refl }
+search-start board u lines at p =
+    record {
+      walked = walk-start (properAt board u lines) (u .control .length);
+      placed = p;
+      carried = bounds-first (u .control .persisted);
+    }
 
-module _ {board : List ℕ} {u : Undo} {lines i older : ℕ} (s : Searched board u lines i older) where
+module _ {board : List ℕ} {u : Undo} {lines i at least : ℕ} (s : Searched board u lines i at least) where
   pub search-end : u .control .length ≤ i → i ≡ firstImproper board u lines
   unfolding firstImproper
   search-end h = walk-end (s .walked) h
 
-  module _ (e : Entry) (t : Bool) (d : Decoded EntryFits (entryIn board u i) e)
-      (a : t ≡ properEntry lines (u .control .persisted) older e) (h : i < u .control .length) where
+  word-read : decodeEntry (getD board (logAt + at) 0) ≡ entryIn board u i
+  unfolding entryIn
+  word-read = rw (← s .placed .is)
+
+  module _ (t : Bool) (a : t ≡ properAbove lines least (decodeEntry (getD board (logAt + at) 0))) (h : i < u .control .length) where
     tested : t ≡ properAt board u lines i
     unfolding properAt
-    tested = rw (← s .carried, ← d .is) a
+    tested = a ∙ ap (properAbove lines least) word-read ∙ proper-above lines _ _ least (s .carried) (entryIn board u i)
 
     pub search-found : not t ≡ true → i ≡ firstImproper board u lines
     unfolding firstImproper
     search-found x = walk-found (s .walked) t tested h x
 
-    pub search-next : not t ≡ false → Searched board u lines (i + 1) (e .till)
+    pub search-next : (e : Entry) (r : ℕ) → Sound u → not t ≡ false → Decoded EntryFits (decodeEntry (getD board (logAt + at) 0)) e
+        → r ≡ nextPlace (2 * u .entries) at → Searched board u lines (i + 1) r (e .till)
     unfolding olderTill
-    search-next x = record { walked = walk-next (s .walked) t tested h x; carried = rw (add-one, d .is) }
+    search-next e r sound x d n =
+        let same : e ≡ entryIn board u i = d .is ∙ word-read in
+        let above : u .control .persisted < entryIn board u i .till = proper-till board u lines i (sym tested ∙ not-false t x) in
+        record {
+          walked = walk-next (s .walked) t tested h x;
+          placed = placed-next u sound i at r (s .placed) n;
+          carried = rw (add-one, same) (bounds-next (u .control .persisted) (entryIn board u i .till) above);
+        }
 
 -- one place's test
-pub expired-read : (board : List ℕ) (u : Undo) (target i : ℕ) (e : Entry) → Decoded EntryFits (entryIn board u i) e
-    → leb (e .till) target ≡ expired board u target i
-unfolding expired
-expired-read board u target i e d = rw (← d .is)
-
 module _ (buffer : List ℕ) (lines epoch i : ℕ) (t : Bool) (address : t ≡ ltb (decodeEntry (getD buffer (2 * i) 0) .address) lines) where
   pub buffered-outside : not t ≡ true → false ≡ bufferedProper buffer lines epoch i
   unfolding bufferedProper bufferedIn properBuffered
@@ -93,12 +145,48 @@ pub elsewhere-read : (buffer : List ℕ) (address i : ℕ) (e : Entry) → Decod
 unfolding elsewhere bufferedIn
 elsewhere-read buffer address i e d = rw (← d .is)
 
--- the run that an advance drops
-module _ {board : List ℕ} {u : Undo} {target i : ℕ} (w : Walked (expired board u target) (u .control .length) i) where
-  pub run-end : u .control .length ≤ i → DroppedBy board u target i
-  unfolding dropped
-  run-end h = record { is = walk-end w h; within = w .within }
+-- the run that an advance drops: the walk counts down what is left of the log, and carries the place of the next entry
+pub record Dropping (board : List ℕ) (u : Undo) (target at left : ℕ) : Type 0 where
+  pub within : left ≤ u .control .length
+  pub walked : Walked (expired board u target) (u .control .length) (u .control .length - left)
+  pub placed : Placed u (u .control .length - left) at
 
-  pub run-stop : (t : Bool) → t ≡ expired board u target i → i < u .control .length → not t ≡ true → DroppedBy board u target i
+pub drop-start : (board : List ℕ) (u : Undo) (target at : ℕ) → Placed u 0 at → Dropping board u target at (u .control .length)
+drop-start board u target at p =
+    let e : 0 ≡ u .control .length - u .control .length = omega arith in
+    record {
+      within = omega arith;
+      walked = rw e at (walk-start (expired board u target) (u .control .length));
+      placed = rw e at p;
+    }
+
+pub drop-rest : (board : List ℕ) (u : Undo) (target r : ℕ) → KeptBy board u target r → DroppedBy board u target (u .control .length - r)
+drop-rest board u target r k = record { is = k .rest; within = omega arith }
+
+module _ {board : List ℕ} {u : Undo} {target at left : ℕ} (s : Dropping board u target at left) where
+  pub drop-end : left ≡ 0 → KeptBy board u target left
   unfolding dropped
-  run-stop t a h x = record { is = walk-found w t a h x; within = w .within }
+  drop-end h =
+      let e : u .control .length - left ≡ u .control .length = omega arith in
+      record { within = s .within; rest = walk-end (s .walked) (omega arith) }
+
+  module _ (e : Entry) (d : Decoded EntryFits (decodeEntry (getD board (logAt + at) 0)) e) (some : left ≡ 0 → ⊥) where
+    read : Decoded EntryFits (entryIn board u (u .control .length - left)) e
+    read = entry-read board u (u .control .length - left) at e (s .placed) d
+
+    before : u .control .length - left < u .control .length
+    before = omega (arith, s .within)
+
+    pub drop-stop : target < e .till → KeptBy board u target left
+    unfolding dropped expired
+    drop-stop h = record { within = s .within; rest = walk-stop (s .walked) before (rw (← read .is) (lt-leb (e .till) target h)) }
+
+    pub drop-next : (r : ℕ) → Sound u → e .till ≤ target → r ≡ nextPlace (2 * u .entries) at → Dropping board u target r (left - 1)
+    unfolding expired
+    drop-next r sound h x =
+        let k : u .control .length - left + 1 ≡ u .control .length - (left - 1) = omega (arith, s .within) in
+        record {
+          within = omega (arith, s .within);
+          walked = rw k at (walk-pass (s .walked) before (rw (← read .is) (le-leb (e .till) target h)));
+          placed = rw k at (placed-next u sound (u .control .length - left) at r (s .placed) x);
+        }

@@ -1,16 +1,15 @@
 -- Recovery's stores go to the lines, so the log reads the same throughout.
 use Prim.Native.Nat.{ℕ, _+_, _-_, _*_, _<_, _≤_}
-use mathlib.Core.Path.{_≡_, refl, sym, ap, _∙_}
-use mathlib.Core.Bool.{Bool, true, false, not, cond}
+use mathlib.Core.Path.{_≡_, refl, ap, subst, _∙_}
+use mathlib.Core.Bool.{Bool, true, false, _&&_, cond}
 use mathlib.Core.List.{List, [], _++_}
-use native.Mathlib.Nat.{mod-lt}
 use native.Mathlib.Omega.{arith}
-use borrow.Author.Tests.{not-true, not-false}
-use lib.ListN.{length, getD, take, drop, length-take, length-drop}
+use borrow.Author.Tests.{lt-ltb, le-leb, lt-leb}
+use lib.ListN.{length, getD, take, drop, length-drop}
 use Rattle.base.specs.Parts.{rest-lent}
 use Rattle.board.specs.declared.Meter.{Meter}
-use Rattle.board.specs.Stores.{Store, one, shifted, each, Ran}
-use Rattle.board.specs.Laws.{ran-none, ran-then, ran-length, each-none, each-next, each-done}
+use Rattle.board.specs.Stores.{one, shifted, each, Ran}
+use Rattle.board.specs.Laws.{ran-none, ran-then, each-none, each-next, each-done}
 use Rattle.board.specs.Parts.{ran-part}
 use Rattle.board.specs.Kept.{Beyond, beyond-none, beyond-one, beyond-each, ran-kept}
 use Rattle.layout.specs.declared.Entry.{Entry}
@@ -18,91 +17,122 @@ use Rattle.layout.specs.Memory.{controlAt, logAt, linesAt}
 use Rattle.layout.specs.Words.{Decoded, EntryFits, decodeEntry, encodeControl}
 use Rattle.undo.specs.declared.Undo.{Undo}
 use Rattle.undo.specs.Entries.{covers}
-use Rattle.undo.specs.Log.{Sound, Placed, placeOf, entryIn, oldIn, restoreStores, restoreTurn, emptied, recoverStores}
+use Rattle.undo.specs.Log.{Placed, placeOf, entryIn, oldIn, properAt, restoreStores, restoreTurn, emptied, recoverStores}
+use Rattle.undo.specs.Ring.{previousPlace, entryAt, restoreAt}
 use Rattle.undo.specs.Contracts.{RecoverReady, RestoreReady}
+use Rattle.undo.specs.Laws.{proper-named, proper-till}
+use Rattle.undo.proofs.Ring.{place-below, placed-previous}
 
--- one entry
-module _ (board : List ℕ) (u : Undo) (i p : ℕ) (e : Entry) (placed : Placed u i p)
-    (read : Decoded EntryFits (decodeEntry (getD board (logAt + p) 0)) e) where
-  same : e ≡ entryIn board u i
-  unfolding entryIn
-  same = rw (← placed .is) (read .is)
-
-  pub restore-line : (lines : ℕ) → lines ≡ linesAt (u .entries) → RestoreReady board u i
+-- one entry, at its place
+module _ (board : List ℕ) (u : Undo) (at : ℕ) (e : Entry) (read : Decoded EntryFits (entryAt board at) e) where
+  pub restore-line : (lines : ℕ) → lines ≡ linesAt (u .entries) → RestoreReady board u at
       → e .address < length (take (length board - lines) (drop lines board))
   restore-line lines h g =
-      let k : linesAt (u .entries) + e .address < length board = rw same (g .named) in
+      let k : linesAt (u .entries) + e .address < length board = rw (read .is) (g .named) in
       rw (rest-lent lines board, length-drop) (omega arith)
 
-  module _ (m : Meter) (t : Bool) (test : t ≡ covers e (u .control .persisted)) where
-    pub restore-skipped : not t ≡ true → Ran board m (restoreStores board u i) board m
-    unfolding restoreStores
-    restore-skipped h = rw (← same, ← test, not-true t h) (ran-none board m)
+  module _ (m : Meter) where
+    pub restore-skipped : u .control .persisted < e .from → Ran board m (restoreAt board u at) board m
+    unfolding restoreAt
+    restore-skipped h = rw (← read .is, lt-leb (e .from) (u .control .persisted) h) (ran-none board m)
 
-    pub restore-made : (lines : ℕ) (part : List ℕ) (m′ : Meter) → not t ≡ false → lines ≡ linesAt (u .entries)
-        → RestoreReady board u i
-        → Ran (take (length board - lines) (drop lines board)) m (one (e .address) (getD board (logAt + p + 1) 0)) part m′
-        → Ran board m (restoreStores board u i) (take lines board ++ (part ++ drop (length board - lines) (drop lines board))) m′
-    unfolding restoreStores oldIn shifted
+    pub restore-made : (lines : ℕ) (part : List ℕ) (m′ : Meter) → e .from ≤ u .control .persisted → lines ≡ linesAt (u .entries)
+        → RestoreReady board u at
+        → Ran (take (length board - lines) (drop lines board)) m (one (e .address) (getD board (logAt + at + 1) 0)) part m′
+        → Ran board m (restoreAt board u at) (take lines board ++ (part ++ drop (length board - lines) (drop lines board))) m′
+    unfolding restoreAt shifted
     restore-made lines part m′ h l g x =
         let k : lines ≤ length board = omega (arith, g .named) in
-        rw (← same, ← test, not-false t h, ← placed .is, ← l) (ran-part lines k x)
+        rw (← read .is, le-leb (e .from) (u .control .persisted) h, ← l) (ran-part lines k x)
+
+-- of an entry that ends above P, the test of its begin alone decides
+restore-same : (board : List ℕ) (u : Undo) (i at : ℕ) → Placed u i at → u .control .persisted < entryIn board u i .till
+    → restoreAt board u at ≡ restoreStores board u i
+unfolding restoreAt restoreStores covers entryIn oldIn
+restore-same board u i at p h = rw (p .is, lt-ltb (u .control .persisted) (entryIn board u i .till) h, and-true)
+  where
+    and-true : (t : Bool) → t && true ≡ t
+    and-true true = refl
+    and-true false = refl
 
 -- all of them
-turn-beyond : (board : List ℕ) (u : Undo) (j : ℕ) → Beyond (linesAt (u .entries)) (restoreTurn board u j)
-unfolding restoreTurn restoreStores
-turn-beyond board u j = go (covers (entryIn board u (u .control .length - (j + 1))) (u .control .persisted))
+stores-beyond : (board : List ℕ) (u : Undo) (i : ℕ) → Beyond (linesAt (u .entries)) (restoreStores board u i)
+unfolding restoreStores
+stores-beyond board u i = go (covers (entryIn board u i) (u .control .persisted))
   where
-    go : (t : Bool) → Beyond (linesAt (u .entries))
-        (cond t (one (linesAt (u .entries) + entryIn board u (u .control .length - (j + 1)) .address) (oldIn board u (u .control .length - (j + 1)))) [])
+    go : (t : Bool) → Beyond (linesAt (u .entries)) (cond t (one (linesAt (u .entries) + entryIn board u i .address) (oldIn board u i)) [])
     go true = beyond-one _ _ _ (omega arith)
     go false = beyond-none _
 
-place-below : (u : Undo) (i : ℕ) → 0 < u .entries → logAt + placeOf u i + 1 < linesAt (u .entries)
-unfolding placeOf
-place-below u i h = omega (arith, mod-lt (u .control .start + i) h)
+turn-beyond : (board : List ℕ) (u : Undo) (j : ℕ) → Beyond (linesAt (u .entries)) (restoreTurn board u j)
+unfolding restoreTurn
+turn-beyond board u j = stores-beyond board u _
 
-pub record Restoring (board₀ : List ℕ) (u : Undo) (m₀ : Meter) (j : ℕ) (board : List ℕ) (m : Meter) : Type 0 where
+pub record Restoring (board₀ : List ℕ) (u : Undo) (m₀ : Meter) (board : List ℕ) (m : Meter) (at j : ℕ) : Type 0 where
   pub within : j ≤ u .control .length
   pub ran : Ran board₀ m₀ (each (restoreTurn board₀ u) j) board m
+  pub placed : Placed u (u .control .length - j) at
   pub same-words : length board ≡ length board₀
 
-pub restore-start : (board : List ℕ) (u : Undo) (m : Meter) → Restoring board u m 0 board m
-restore-start board u m = record { within = omega arith; ran = each-none (restoreTurn board u) board m; same-words = refl }
+pub restore-start : (board : List ℕ) (u : Undo) (m : Meter) (at : ℕ) → Placed u (u .control .length) at → Restoring board u m board m at 0
+restore-start board u m at p =
+    let e : u .control .length ≡ u .control .length - 0 = omega arith in
+    record {
+      within = omega arith;
+      ran = each-none (restoreTurn board u) board m;
+      placed = subst (λ (k : ℕ). Placed u k at) e p;
+      same-words = refl;
+    }
 
-module _ (board₀ : List ℕ) (u : Undo) (lines : ℕ) (ready : RecoverReady board₀ u lines) (m₀ : Meter) (j : ℕ) (board : List ℕ) (m : Meter)
-    (so-far : Restoring board₀ u m₀ j board m) where
+module _ (board₀ : List ℕ) (u : Undo) (lines : ℕ) (ready : RecoverReady board₀ u lines) (m₀ : Meter) (board : List ℕ) (m : Meter) (at j : ℕ)
+    (so-far : Restoring board₀ u m₀ board m at j) where
   kept : (i : ℕ) → i < linesAt (u .entries) → getD board i 0 ≡ getD board₀ i 0
   kept i h = ran-kept (linesAt (u .entries)) (each (restoreTurn board₀ u) j) (beyond-each _ (restoreTurn board₀ u) (turn-beyond board₀ u) j) (so-far .ran) i h
 
   entry-kept : (i : ℕ) → entryIn board u i ≡ entryIn board₀ u i
   unfolding entryIn
-  entry-kept i = ap decodeEntry (kept (logAt + placeOf u i) (omega (arith, place-below u i (ready .sound .some))))
+  entry-kept i = ap decodeEntry (kept (logAt + placeOf u i) (omega (arith, place-below u (ready .sound) i)))
 
   old-kept : (i : ℕ) → oldIn board u i ≡ oldIn board₀ u i
   unfolding oldIn
-  old-kept i = kept (logAt + placeOf u i + 1) (place-below u i (ready .sound .some))
+  old-kept i = kept (logAt + placeOf u i + 1) (omega (arith, place-below u (ready .sound) i))
 
-  pub restore-ready : j < u .control .length → RestoreReady board u (u .control .length - (j + 1))
-  restore-ready h =
-      let i = u .control .length - (j + 1) in
-      let k : i < u .control .length = omega arith in
-      record {
-        sound = ready .sound;
-        within = omega (arith, ready .sound .room);
-        named = rw (entry-kept i, so-far .same-words) (omega (arith, ready .named i k, ready .board-words));
-      }
+  stores-kept : (i : ℕ) → restoreStores board u i ≡ restoreStores board₀ u i
+  unfolding restoreStores
+  stores-kept i = rw (entry-kept i, old-kept i)
 
-  pub restore-next : (board′ : List ℕ) (m′ : Meter) → j < u .control .length → length board′ ≡ length board
-      → Ran board m (restoreStores board u (u .control .length - (j + 1))) board′ m′ → Restoring board₀ u m₀ (j + 1) board′ m′
-  unfolding restoreTurn restoreStores
-  restore-next board′ m′ h l x =
-      let i = u .control .length - (j + 1) in
-      record {
-        within = omega arith;
-        ran = each-next (restoreTurn board₀ u) j (so-far .ran) (rw (entry-kept i, old-kept i) at x);
-        same-words = l ∙ so-far .same-words;
-      }
+  module _ (r : ℕ) (h : j < u .control .length) (step : r ≡ previousPlace (2 * u .entries) at) where
+    placed : Placed u (u .control .length - (j + 1)) r
+    placed =
+        let e : u .control .length - j ≡ u .control .length - (j + 1) + 1 = omega arith in
+        placed-previous u (ready .sound) (u .control .length - (j + 1)) at r (subst (λ (k : ℕ). Placed u k at) e (so-far .placed)) step
+
+    proper : properAt board₀ u lines (u .control .length - (j + 1)) ≡ true
+    proper = ready .proper (u .control .length - (j + 1)) (omega arith)
+
+    pub restore-ready : RestoreReady board u r
+    unfolding entryIn
+    restore-ready =
+        let i = u .control .length - (j + 1) in
+        let named : entryIn board₀ u i .address < lines = proper-named board₀ u lines i proper in
+        record {
+          sound = ready .sound;
+          below = placed .below;
+          named = rw (placed .is, entry-kept i, so-far .same-words) (omega (arith, named, ready .board-words));
+        }
+
+    pub restore-next : (board′ : List ℕ) (m′ : Meter) → length board′ ≡ length board → Ran board m (restoreAt board u r) board′ m′
+        → Restoring board₀ u m₀ board′ m′ r (j + 1)
+    unfolding restoreTurn
+    restore-next board′ m′ l x =
+        let i = u .control .length - (j + 1) in
+        let till : u .control .persisted < entryIn board u i .till = rw (entry-kept i) (proper-till board₀ u lines i proper) in
+        record {
+          within = omega arith;
+          ran = each-next (restoreTurn board₀ u) j (so-far .ran) (rw (restore-same board u i r placed till, stores-kept i) at x);
+          placed = placed;
+          same-words = l ∙ so-far .same-words;
+        }
 
   pub restore-end : u .control .length ≤ j → Ran board₀ m₀ (each (restoreTurn board₀ u) (u .control .length)) board m
   restore-end h = each-done (restoreTurn board₀ u) j (u .control .length) (so-far .within) h (so-far .ran)

@@ -1,6 +1,7 @@
 -- What the storing functions of this crate do.
-use Prim.Native.Nat.{ℕ, _+_, _^_, _<_, _≤_}
+use Prim.Native.Nat.{ℕ, _+_, _*_, _^_, _<_, _≤_}
 use mathlib.Core.Path.{_≡_}
+use mathlib.Core.Bool.{true}
 use mathlib.Core.List.{List}
 use lib.ListN.{length}
 use Rattle.board.specs.declared.Meter.{Meter}
@@ -11,7 +12,8 @@ use Rattle.layout.specs.Memory.{linesAt, boardWords, bufferWords}
 use Rattle.layout.specs.Words.{EntryFits}
 use Rattle.undo.specs.declared.Undo.{Undo}
 use Rattle.undo.specs.declared.Progress.{Progress}
-use Rattle.undo.specs.Log.{Sound, entryIn, flushStores, flushed, flushedBuffer, pushed, counted}
+use Rattle.undo.specs.Log.{Sound, properAt, flushStores, flushed, flushedBuffer, pushed, counted}
+use Rattle.undo.specs.Ring.{entryAt}
 
 -- a flush of the buffer to the board's log
 pub record Flushes (board buffer : List ℕ) (u : Undo) (m : Meter) (board′ buffer′ : List ℕ) (r : Progress) : Type 0 where
@@ -40,14 +42,14 @@ pub record AdvanceReady (board : List ℕ) (u : Undo) (target : ℕ) : Type 0 wh
   pub board-words : linesAt (u .entries) ≤ length board
   pub fits : target < 2 ^ epochBits
 
--- a recovery: the log's numbers are sound, and each entry names a line
+-- a recovery: the log's numbers are sound, and each entry is proper
 pub record RecoverReady (board : List ℕ) (u : Undo) (lines : ℕ) : Type 0 where
   pub sound : Sound u
   pub board-words : boardWords lines (u .entries) ≤ length board
-  pub named : (i : ℕ) → i < u .control .length → entryIn board u i .address < lines
+  pub proper : (i : ℕ) → i < u .control .length → properAt board u lines i ≡ true
 
--- the restoring of one entry
-pub record RestoreReady (board : List ℕ) (u : Undo) (i : ℕ) : Type 0 where
+-- the restoring of the entry at a place
+pub record RestoreReady (board : List ℕ) (u : Undo) (at : ℕ) : Type 0 where
   pub sound : Sound u
-  pub within : i ≤ u .entries
-  pub named : linesAt (u .entries) + entryIn board u i .address < length board
+  pub below : at + 1 < 2 * u .entries
+  pub named : linesAt (u .entries) + entryAt board at .address < length board

@@ -1,4 +1,5 @@
 pub mod Entries
 pub mod Log
+pub mod Ring
 pub mod Contracts
 pub mod Laws

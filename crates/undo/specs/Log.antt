@@ -111,6 +111,11 @@ pub record DroppedBy (board : List ℕ) (u : Undo) (target r : ℕ) : Type 0 whe
   pub is : r ≡ dropped board u target
   pub within : r ≤ u .control .length
 
+-- what is left of the log then
+pub record KeptBy (board : List ℕ) (u : Undo) (target r : ℕ) : Type 0 where
+  pub within : r ≤ u .control .length
+  pub rest : u .control .length - r ≡ dropped board u target
+
 -- "stores one control word with P = target and the oldest run .. dropped, start going up by their number, mod L"
 abbrev pub advanced : Undo → ℕ → ℕ → Control
 advanced u target count =

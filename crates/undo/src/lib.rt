@@ -1,20 +1,21 @@
 // The undo log on the board, and the undo buffer before it.
-ghost use Prim.Native.Nat.{_+_, _*_, _^_, _<_, _≤_};
+ghost use Prim.Native.Nat.{_*_, _%_, _^_, _<_, _≤_};
 ghost use lib.ListN.{length};
 ghost use mathlib.Core.Path.{_≡_};
 ghost use Rattle.board.specs.Stores.{Ran, each};
-ghost use Rattle.layout.specs.Limits.{epochBits, mostLines, bufferPlaces};
-ghost use Rattle.layout.specs.Memory.{logAt, linesAt, bufferWords};
-ghost use Rattle.layout.specs.Words.{Decoded, EntryFits};
-ghost use Rattle.undo.specs.Entries.{covers, properEntry};
-ghost use Rattle.undo.specs.Log.{Sound, Placed, entryIn, firstImproper, bufferedProper, bufferProper, elsewhere};
-ghost use Rattle.undo.specs.Log.{buffers, expired, DroppedBy, entryStores, counted, flushed, advanceStores};
-ghost use Rattle.undo.specs.Log.{restoreStores, restoreTurn, recoverStores};
+ghost use Rattle.layout.specs.Limits.{epochBits, mostLines, mostEntries, bufferPlaces};
+ghost use Rattle.layout.specs.Memory.{linesAt, bufferWords};
+ghost use Rattle.layout.specs.Words.{decodeEntry};
+ghost use Rattle.undo.specs.Entries.{properAbove};
+ghost use Rattle.undo.specs.Log.{Sound, Placed, firstImproper, bufferedProper, bufferProper, elsewhere};
+ghost use Rattle.undo.specs.Log.{buffers, DroppedBy, KeptBy, entryStores, counted, flushed, advanceStores};
+ghost use Rattle.undo.specs.Log.{restoreTurn, recoverStores};
+ghost use Rattle.undo.specs.Ring.{nextPlace, previousPlace, restoreAt};
 ghost use Rattle.undo.specs.Contracts.{Flushes, FlushReady, Pushes, PushReady, AdvanceReady, RecoverReady, RestoreReady};
 use board::Meter;
-use layout::BUFFER_WORDS;
 use layout::CONTROL_AT;
 use layout::Control;
+use layout::ENTRY_WORDS;
 use layout::Entry;
 use layout::LOG_AT;
 
@@ -63,29 +64,21 @@ pub struct Progress {
     pub meter: Meter,
 }
 
-// Whether an entry's old data was its line's at the end of an epoch.
-pub fn is_covering(entry: Entry, epoch: u64) -> bool
-    ensures { λ r. ⌜ r ≡ covers entry epoch ⌝ }
+// Whether the entry with this first word is proper. The persisted epoch and the older entry bound its till from below: least is
+// the larger bound.
+fn is_proper_word(word: u64, lines: u64, least: u64) -> bool
+    requires { ⌜ 1 ≤ lines ⌝ }
+    requires { ⌜ lines ≤ mostLines ⌝ }
+    ensures { λ r. ⌜ r ≡ properAbove lines least (decodeEntry word) ⌝ }
 {
-    if entry.from > epoch {
+    if !layout::is_address_below(word, lines) {
         return false;
     }
-    epoch < entry.till
-}
-
-pub fn is_proper(entry: Entry, lines: u64, persisted: u64, older: u64) -> bool
-    ensures { λ r. ⌜ r ≡ properEntry lines persisted older entry ⌝ }
-{
-    if entry.address >= lines {
+    let entry = Entry::decode(word);
+    if entry.till < least {
         return false;
     }
-    if entry.from >= entry.till {
-        return false;
-    }
-    if entry.till <= persisted {
-        return false;
-    }
-    older <= entry.till
+    entry.from < entry.till
 }
 
 // The first word of entry i, counted from the log's first word.
@@ -96,51 +89,83 @@ pub fn place(undo: Undo, i: u64) -> usize
 {
     let turn = undo.control.start + i;
     if turn < undo.entries {
-        return 2 * turn as usize;
+        return ENTRY_WORDS * turn as usize;
     }
-    2 * (turn - undo.entries) as usize
+    ENTRY_WORDS * (turn - undo.entries) as usize
 }
 
-pub fn entry_at(board: &[u64], undo: Undo, i: u64) -> Entry
-    requires { ⌜ Sound undo ⌝ }
-    requires { ⌜ i ≤ undo .entries ⌝ }
-    requires { ⌜ linesAt (undo .entries) ≤ length (now board) ⌝ }
-    ensures { λ r. ⌜ Decoded EntryFits (entryIn (now (board .entry)) undo i) r ⌝ }
+// From an entry's place to that of the next, in a ring of so many words as end says.
+fn next(end: usize, at: usize) -> usize
+    requires { ⌜ at < end ⌝ }
+    requires { ⌜ end ≤ 2 * mostEntries ⌝ }
+    ensures { λ r. ⌜ r ≡ nextPlace end at ⌝ }
 {
-    let at = place(undo, i);
-    Entry::decode(board[LOG_AT + at])
+    if at + ENTRY_WORDS >= end {
+        return 0;
+    }
+    at + ENTRY_WORDS
+}
+
+// From an entry's place to that of the one before.
+fn previous(end: usize, at: usize) -> usize
+    requires { ⌜ 1 < end ⌝ }
+    requires { ⌜ at % 2 ≡ 0 ⌝ }
+    ensures { λ r. ⌜ r ≡ previousPlace end at ⌝ }
+{
+    if at == 0 {
+        return end - ENTRY_WORDS;
+    }
+    at - ENTRY_WORDS
 }
 
 // The place of the first improper entry of the log, the oldest counted 0, or the log's length where all are proper.
 pub fn first_improper(board: &[u64], undo: Undo, lines: u64) -> u64
     requires { ⌜ Sound undo ⌝ }
+    requires { ⌜ 1 ≤ lines ⌝ }
+    requires { ⌜ lines ≤ mostLines ⌝ }
     requires { ⌜ linesAt (undo .entries) ≤ length (now board) ⌝ }
     ensures { λ r. ⌜ r ≡ firstImproper (now (board .entry)) undo lines ⌝ }
 {
+    let end = ENTRY_WORDS * undo.entries as usize;
     let mut i: u64 = 0;
-    let mut older: u64 = 0;
+    let mut at = place(undo, 0);
+    let mut least = undo.control.persisted + 1;
     let found = loop {
         if i >= undo.control.length {
             break i;
         }
-        let entry = entry_at(board, undo, i);
-        if !is_proper(entry, lines, undo.control.persisted, older) {
+        let word = board[LOG_AT + at];
+        if !is_proper_word(word, lines, least) {
             break i;
         }
-        older = entry.till;
+        least = Entry::decode(word).till;
+        at = next(end, at);
         i += 1;
     };
     found
 }
 
-fn is_expired(board: &[u64], undo: Undo, target: u64, i: u64) -> bool
+// How many of the log's entries are left once the oldest run is dropped that the target makes useless.
+fn kept_by(board: &[u64], undo: Undo, target: u64) -> u64
     requires { ⌜ Sound undo ⌝ }
-    requires { ⌜ i ≤ undo .entries ⌝ }
     requires { ⌜ linesAt (undo .entries) ≤ length (now board) ⌝ }
-    ensures { λ r. ⌜ r ≡ expired (now (board .entry)) undo target i ⌝ }
+    ensures { λ r. ⌜ KeptBy (now (board .entry)) undo target r ⌝ }
 {
-    let entry = entry_at(board, undo, i);
-    entry.till <= target
+    let mut at = place(undo, 0);
+    let mut left = undo.control.length;
+    let kept = loop {
+        if left == 0 {
+            break left;
+        }
+        let entry = Entry::decode(board[LOG_AT + at]);
+        if entry.till > target {
+            break left;
+        }
+        let end = ENTRY_WORDS * undo.entries as usize;
+        at = next(end, at);
+        left -= 1;
+    };
+    kept
 }
 
 // How many of the oldest entries no longer matter once the target is persisted.
@@ -149,17 +174,7 @@ pub fn dropped_by(board: &[u64], undo: Undo, target: u64) -> u64
     requires { ⌜ linesAt (undo .entries) ≤ length (now board) ⌝ }
     ensures { λ r. ⌜ DroppedBy (now (board .entry)) undo target r ⌝ }
 {
-    let mut i: u64 = 0;
-    let run = loop {
-        if i >= undo.control.length {
-            break i;
-        }
-        if !is_expired(board, undo, target, i) {
-            break i;
-        }
-        i += 1;
-    };
-    run
+    undo.control.length - kept_by(board, undo, target)
 }
 
 fn is_buffered_proper(buffer: &[u64], lines: u64, epoch: u64, i: usize) -> bool
@@ -230,20 +245,6 @@ pub fn push(buffer: &mut [u64], undo: Undo, entry: Entry, old: u64) -> Undo
     undo.counted()
 }
 
-// The two words of buffered entry i, to the log part of the board.
-fn put_entry(log: &mut [u64], buffer: &[u64], undo: Undo, i: u64, meter: Meter) -> Meter
-    requires { ⌜ Sound undo ⌝ }
-    requires { ⌜ i < undo .buffered ⌝ }
-    requires { ⌜ 2 * undo .entries ≤ length (now log) ⌝ }
-    requires { ⌜ length (now buffer) ≡ bufferWords ⌝ }
-    ensures { λ r. ⌜ Ran (now (log .entry)) meter (entryStores undo (now (buffer .entry)) i) (now (log .exit)) r ⌝ }
-{
-    let at = place(undo, undo.control.length + i);
-    let from = 2 * i as usize;
-    let next = board::put(log, at, buffer[from], meter);
-    board::put(log, at + 1, buffer[from + 1], next)
-}
-
 // The buffered entries, oldest first, to the log part of the board.
 fn put_entries(log: &mut [u64], buffer: &[u64], undo: Undo, meter: Meter) -> Meter
     requires { ⌜ Sound undo ⌝ }
@@ -251,10 +252,15 @@ fn put_entries(log: &mut [u64], buffer: &[u64], undo: Undo, meter: Meter) -> Met
     requires { ⌜ length (now buffer) ≡ bufferWords ⌝ }
     ensures { λ r. ⌜ Ran (now (log .entry)) meter (each (entryStores undo (now (buffer .entry))) (undo .buffered)) (now (log .exit)) r ⌝ }
 {
+    let end = ENTRY_WORDS * undo.entries as usize;
     let mut last = meter;
-    let mut i: u64 = 0;
-    while i < undo.buffered {
-        last = put_entry(log, buffer, undo, i, last);
+    let mut at = place(undo, undo.control.length);
+    let mut i: usize = 0;
+    while i < undo.buffered as usize {
+        let from = ENTRY_WORDS * i;
+        let half = board::put(log, at, buffer[from], last);
+        last = board::put(log, at + 1, buffer[from + 1], half);
+        at = next(end, at);
         i += 1;
     }
     last
@@ -293,17 +299,17 @@ pub fn advance(board: &mut [u64], undo: Undo, target: u64, meter: Meter) -> Mete
     board::put(board, CONTROL_AT, control.encode(), meter)
 }
 
-// The old data of entry i to its line, if the entry covers the persisted epoch.
-fn restore_entry(board: &mut [u64], undo: Undo, i: u64, meter: Meter) -> Meter
-    requires { ⌜ RestoreReady (now board) undo i ⌝ }
-    ensures { λ r. ⌜ Ran (now (board .entry)) meter (restoreStores (now (board .entry)) undo i) (now (board .exit)) r ⌝ }
+// The old data of the entry at a place to its line, if it covers the persisted epoch. The log is proper: no entry ends at that
+// epoch or before it.
+fn restore_entry(board: &mut [u64], undo: Undo, at: usize, meter: Meter) -> Meter
+    requires { ⌜ RestoreReady (now board) undo at ⌝ }
+    ensures { λ r. ⌜ Ran (now (board .entry)) meter (restoreAt (now (board .entry)) undo at) (now (board .exit)) r ⌝ }
 {
-    let at = LOG_AT + place(undo, i);
-    let entry = Entry::decode(board[at]);
-    let old = board[at + 1];
-    if !is_covering(entry, undo.control.persisted) {
+    let entry = Entry::decode(board[LOG_AT + at]);
+    if entry.from > undo.control.persisted {
         return meter;
     }
+    let old = board[LOG_AT + at + 1];
     let lines = layout::lines_at(undo.entries);
     board::put(&mut board[lines..], entry.address as usize, old, meter)
 }
@@ -313,10 +319,13 @@ fn restore(board: &mut [u64], undo: Undo, lines: u64, meter: Meter) -> Meter
     requires { ⌜ RecoverReady (now board) undo lines ⌝ }
     ensures { λ r. ⌜ Ran (now (board .entry)) meter (each (restoreTurn (now (board .entry)) undo) (undo .control .length)) (now (board .exit)) r ⌝ }
 {
+    let end = ENTRY_WORDS * undo.entries as usize;
     let mut last = meter;
+    let mut at = place(undo, undo.control.length);
     let mut j: u64 = 0;
     while j < undo.control.length {
-        last = restore_entry(board, undo, undo.control.length - (j + 1), last);
+        at = previous(end, at);
+        last = restore_entry(board, undo, at, last);
         j += 1;
     }
     last

@@ -5,19 +5,40 @@ use Rattle.undo.proofs.first_improper.Statement.{statement}
 use Rattle.undo.proofs.first_improper.Tie as tie
 
 abbrev Inv-loop : tie.InvT-loop
-Inv-loop board undo lines i₀ older₀ i older = Searched board undo lines i older
+Inv-loop board undo lines end i₀ at₀ least₀ i at least = Searched board undo lines i at least
 
 abbrev μ-loop : tie.MeasureT-loop
-μ-loop board undo lines i₀ older₀ i older = undo .control .length - i
+μ-loop board undo lines end i₀ at₀ least₀ i at least = undo .control .length - i
+
+mul-end : tie.Need-mul-end Inv-loop μ-loop
+mul-end c = search needs
+
+place-requires : tie.Need-place-requires Inv-loop μ-loop
+place-requires c κs = search needs
+
+add-least : tie.Need-add-least Inv-loop μ-loop
+add-least c = search needs
 
 loop-holds : tie.Need-loop-holds Inv-loop μ-loop
 loop-holds c = search (search-start)
 
-entry-at-requires : tie.Need-entry-at-requires Inv-loop μ-loop
-entry-at-requires c κs = search needs
+add-word : tie.Need-add-word Inv-loop μ-loop
+add-word c = search needs
 
-is-proper-requires : tie.Need-is-proper-requires Inv-loop μ-loop
-is-proper-requires c κs = search needs
+mul-word : tie.Need-mul-word Inv-loop μ-loop
+mul-word c = search needs
+
+shared-slice-read-word : tie.Need-shared-slice-read-word Inv-loop μ-loop
+shared-slice-read-word c = search needs
+
+is-proper-word-requires : tie.Need-is-proper-word-requires Inv-loop μ-loop
+is-proper-word-requires c κs = search needs
+
+decode-requires : tie.Need-decode-requires Inv-loop μ-loop
+decode-requires c κs = search needs
+
+next-requires : tie.Need-next-requires Inv-loop μ-loop
+next-requires c κs = search needs
 
 add-i : tie.Need-add-i Inv-loop μ-loop
 add-i c = search needs
@@ -40,9 +61,16 @@ first-improper-spec =
     (tie.spec
     Inv-loop
     μ-loop
+    mul-end
+    place-requires
+    add-least
     loop-holds
-    entry-at-requires
-    is-proper-requires
+    add-word
+    mul-word
+    shared-slice-read-word
+    is-proper-word-requires
+    decode-requires
+    next-requires
     add-i
     loop-less
     loop-again

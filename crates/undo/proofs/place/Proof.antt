@@ -1,4 +1,4 @@
-use Rattle.undo.proofs.Reading.{placed-low, placed-high}
+use Rattle.undo.proofs.Ring.{placed-low, placed-high}
 use borrow.Author.Needs.{needs}
 use Rattle.undo.proofs.place.Statement.{statement}
 use Rattle.undo.proofs.place.Tie as tie

@@ -1,23 +1,27 @@
 use borrow.Author.Needs.{needs}
 use Prim.Native.Nat.{_-_}
+use Rattle.undo.proofs.Ring.{placed-even}
 use Rattle.undo.proofs.Restoring.{Restoring, restore-start, restore-ready, restore-next, restore-end}
 use Rattle.undo.proofs.restore.Statement.{statement}
 use Rattle.undo.proofs.restore.Tie as tie
 
 abbrev Inv-loop : tie.InvT-loop
-Inv-loop board₀ undo lines last₀ j₀ board last j = Restoring board₀ undo last₀ j board last
+Inv-loop board₀ undo lines end last₀ at₀ j₀ board last at j = Restoring board₀ undo last₀ board last at j
 
 abbrev μ-loop : tie.MeasureT-loop
-μ-loop board₀ undo lines last₀ j₀ board last j = undo .control .length - j
+μ-loop board₀ undo lines end last₀ at₀ j₀ board last at j = undo .control .length - j
+
+mul-end : tie.Need-mul-end Inv-loop μ-loop
+mul-end c = search needs
+
+place-requires : tie.Need-place-requires Inv-loop μ-loop
+place-requires c κs = search needs
 
 loop-holds : tie.Need-loop-holds Inv-loop μ-loop
 loop-holds c = search (restore-start)
 
-add-restore-entry : tie.Need-add-restore-entry Inv-loop μ-loop
-add-restore-entry c = search needs
-
-sub-restore-entry : tie.Need-sub-restore-entry Inv-loop μ-loop
-sub-restore-entry c = search needs
+previous-requires : tie.Need-previous-requires Inv-loop μ-loop
+previous-requires c κs = search (needs, placed-even)
 
 restore-entry-requires : tie.Need-restore-entry-requires Inv-loop μ-loop
 restore-entry-requires c κs = search (restore-ready)
@@ -43,9 +47,10 @@ restore-spec =
     (tie.spec
     Inv-loop
     μ-loop
+    mul-end
+    place-requires
     loop-holds
-    add-restore-entry
-    sub-restore-entry
+    previous-requires
     restore-entry-requires
     add-j
     loop-less

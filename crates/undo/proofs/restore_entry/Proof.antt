@@ -1,13 +1,10 @@
-use Rattle.undo.proofs.Restoring.{restore-line, restore-skipped, restore-made}
 use borrow.Author.Needs.{needs}
+use Rattle.undo.proofs.Restoring.{restore-line, restore-skipped, restore-made}
 use Rattle.undo.proofs.restore_entry.Statement.{statement}
 use Rattle.undo.proofs.restore_entry.Tie as tie
 
-place-requires : tie.Need-place-requires
-place-requires c κs = search needs
-
-add-at : tie.Need-add-at
-add-at c = search needs
+add-decode : tie.Need-add-decode
+add-decode c = search needs
 
 mul-decode : tie.Need-mul-decode
 mul-decode c = search needs
@@ -18,20 +15,20 @@ slice-read-decode c = search needs
 decode-requires : tie.Need-decode-requires
 decode-requires c κs = search needs
 
+returns : tie.Need-returns
+returns c = search (restore-skipped)
+
 add-old : tie.Need-add-old
 add-old c = search needs
+
+add-old-2 : tie.Need-add-old-2
+add-old-2 c = search needs
 
 mul-old : tie.Need-mul-old
 mul-old c = search needs
 
 slice-read-old : tie.Need-slice-read-old
 slice-read-old c = search needs
-
-is-covering-requires : tie.Need-is-covering-requires
-is-covering-requires c κs = search needs
-
-returns : tie.Need-returns
-returns c = search (restore-skipped)
 
 lines-at-requires : tie.Need-lines-at-requires
 lines-at-requires c κs = search needs
@@ -61,16 +58,15 @@ pub restore-entry-spec : {M : Type 1} → statement M
 restore-entry-spec =
     tie.close
     (tie.spec
-    place-requires
-    add-at
+    add-decode
     mul-decode
     slice-read-decode
     decode-requires
+    returns
     add-old
+    add-old-2
     mul-old
     slice-read-old
-    is-covering-requires
-    returns
     lines-at-requires
     mul-put
     sub-put

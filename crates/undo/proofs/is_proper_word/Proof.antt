@@ -1,0 +1,23 @@
+use Rattle.undo.proofs.Reading.{word-address, word-till, word-from}
+use borrow.Author.Needs.{needs}
+use Rattle.undo.proofs.is_proper_word.Statement.{statement}
+use Rattle.undo.proofs.is_proper_word.Tie as tie
+
+is-address-below-requires : tie.Need-is-address-below-requires
+is-address-below-requires c κs = search needs
+
+returns : tie.Need-returns
+returns c = search (word-address)
+
+decode-requires : tie.Need-decode-requires
+decode-requires c κs = search needs
+
+returns-2 : tie.Need-returns-2
+returns-2 c = search (word-till)
+
+returns-3 : tie.Need-returns-3
+returns-3 c = search (word-from)
+
+pub is-proper-word-spec : {M : Type 1} → statement M
+is-proper-word-spec =
+    tie.close (tie.spec is-address-below-requires returns decode-requires returns-2 returns-3)
