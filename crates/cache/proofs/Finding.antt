@@ -4,19 +4,26 @@ use mathlib.Core.Path.{_≡_, refl, sym, _∙_}
 use mathlib.Core.Bool.{Bool, true, false, not}
 use mathlib.Core.List.{List}
 use native.Mathlib.Nat.{mod-lt}
+use native.Mathlib.Omega.{arith}
+use mir.Syntax.{w64}
+use mir.Val.{Fits}
 use borrow.Author.Tests.{lt-ltb, le-ltb, eq-eqb, ne-eqb, not-true, not-false}
 use lib.Dec.{leb, eqb}
-use lib.ListN.{getD}
 use Rattle.layout.specs.declared.Slot.{Slot}
 use Rattle.layout.specs.Memory.{slotIn}
 use Rattle.layout.specs.Words.{Decoded, SlotFits, decodeSlot}
 use Rattle.cache.specs.declared.Bounds.{Bounds}
-use Rattle.cache.specs.declared.Spot.{Spot}
 use Rattle.cache.specs.Slots.{homeOf, IsHome, properTag, properFull, properSlot, properAt, properFor, holds, spotOf}
+use Rattle.cache.specs.Contracts.{SlotsReady}
 
-pub is-home : (slots address : ℕ) → 0 < slots → IsHome slots address (address % slots)
-unfolding homeOf
-is-home slots address h = record { is = refl; below = mod-lt address h }
+-- an address belongs in a slot that there is
+module _ (slots address : ℕ) (ready : SlotsReady slots) where
+  pub home-fits : Fits w64 (address % slots)
+  home-fits = omega (arith, mod-lt address (ready .some), ready .most)
+
+  pub is-home : IsHome slots address (address % slots)
+  unfolding homeOf
+  is-home = record { is = refl; below = mod-lt address (ready .some) }
 
 module _ (b : Bounds) (s : Slot) where
   pub tag-clean : not (s .dirty) ≡ true → eqb (s .tag) 0 ≡ properTag b s

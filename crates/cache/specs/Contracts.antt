@@ -9,7 +9,7 @@ use Rattle.board.specs.Stores.{allowed, Ran}
 use Rattle.layout.specs.declared.Entry.{Entry}
 use Rattle.layout.specs.declared.Slot.{Slot}
 use Rattle.layout.specs.Words.{EntryFits}
-use Rattle.layout.specs.Limits.{epochBits, addressBits, mostEntries, bufferPlaces}
+use Rattle.layout.specs.Limits.{epochBits, addressBits, mostEntries, mostSlots, bufferPlaces}
 use Rattle.layout.specs.Memory.{linesAt, bufferWords, slotIn, dataIn}
 use Rattle.undo.specs.declared.Undo.{Undo}
 use Rattle.undo.specs.declared.Progress.{Progress}
@@ -17,6 +17,17 @@ use Rattle.undo.specs.Log.{Sound, counted}
 use Rattle.cache.specs.declared.Spot.{Spot}
 use Rattle.cache.specs.Slots.{dirtied}
 use Rattle.cache.specs.Effects.{Effect, entryDue, entryFor, undoDue, logged}
+
+-- As many slots as a work memory may have.
+pub record SlotsReady (slots : ℕ) : Type 0 where
+  pub some : 0 < slots
+  pub most : slots ≤ mostSlots
+
+-- The work memory has the slots, and a packed word the address.
+pub record SpotReady (work : List ℕ) (slots address : ℕ) : Type 0 where
+  pub slots-ready : SlotsReady slots
+  pub words : 2 * slots ≤ length work
+  pub fits : address < 2 ^ addressBits
 
 -- An effect that does not depend on the board comes about; where the call is cut the board has the first of its stores.
 pub record Acts (board : List ℕ) (m : Meter) (e : Effect) (board′ work′ : List ℕ) (r : Progress) : Type 0 where

@@ -3,12 +3,12 @@ ghost use Prim.Native.Nat.{_+_, _*_, _^_, _<_, _≤_};
 ghost use lib.ListN.{length};
 ghost use mathlib.Core.Path.{_≡_};
 ghost use Rattle.layout.specs.Limits.{addressBits};
-ghost use Rattle.layout.specs.Memory.{slotIn, bufferWords};
+ghost use Rattle.layout.specs.Memory.{slotIn};
 ghost use Rattle.layout.specs.Words.{Decoded, SlotFits, encodeSlot};
 ghost use Rattle.cache.specs.Slots.{IsHome, properTag, properFull, properSlot, properAt, properFor, holds, spotOf};
 ghost use Rattle.cache.specs.Slots.{cleanSlot, filled};
 ghost use Rattle.cache.specs.Effects.{flushingIf, writingOut, clearing, emptying, lineIn};
-ghost use Rattle.cache.specs.Contracts.{Acts, Ready, LineReady, SlotReady, PlaceReady};
+ghost use Rattle.cache.specs.Contracts.{SlotsReady, SpotReady, Acts, Ready, LineReady, SlotReady, PlaceReady};
 use board::Meter;
 use layout::BUFFER_WORDS;
 use layout::Slot;
@@ -41,16 +41,18 @@ fn is_proper_tag(slot: Slot, bounds: Bounds) -> bool
     slot.tag <= bounds.epoch
 }
 
-// The slot that an address belongs in.
+// The slot that an address belongs in. Both numbers are small, and a division of 32 bits is much cheaper than one of 64.
 fn home(slots: usize, address: u64) -> usize
-    requires { ⌜ 0 < slots ⌝ }
+    requires { ⌜ SlotsReady slots ⌝ }
+    requires { ⌜ address < 2 ^ addressBits ⌝ }
     ensures { λ r. ⌜ IsHome slots address r ⌝ }
 {
-    (address % slots as u64) as usize
+    (address as u32 % slots as u32) as usize
 }
 
 fn is_proper_full(slot: Slot, bounds: Bounds, k: usize) -> bool
-    requires { ⌜ 0 < bounds .slots ⌝ }
+    requires { ⌜ SlotsReady (bounds .slots) ⌝ }
+    requires { ⌜ slot .address < 2 ^ addressBits ⌝ }
     ensures { λ r. ⌜ r ≡ properFull bounds k slot ⌝ }
 {
     if !slot.valid {
@@ -69,7 +71,7 @@ fn is_proper_full(slot: Slot, bounds: Bounds, k: usize) -> bool
 }
 
 fn is_proper(word: u64, bounds: Bounds, k: usize) -> bool
-    requires { ⌜ 0 < bounds .slots ⌝ }
+    requires { ⌜ SlotsReady (bounds .slots) ⌝ }
     ensures { λ r. ⌜ r ≡ properSlot bounds k word ⌝ }
 {
     if word == 0 {
@@ -80,7 +82,7 @@ fn is_proper(word: u64, bounds: Bounds, k: usize) -> bool
 
 // Whether slot k is proper.
 pub fn is_proper_at(work: &[u64], bounds: Bounds, k: usize) -> bool
-    requires { ⌜ 0 < bounds .slots ⌝ }
+    requires { ⌜ SlotsReady (bounds .slots) ⌝ }
     requires { ⌜ 2 * k < length (now work) ⌝ }
     ensures { λ r. ⌜ r ≡ properAt bounds (now (work .entry)) k ⌝ }
 {
@@ -89,8 +91,7 @@ pub fn is_proper_at(work: &[u64], bounds: Bounds, k: usize) -> bool
 
 // Whether the slot that an address belongs in is proper.
 pub fn is_proper_for(work: &[u64], bounds: Bounds, address: u64) -> bool
-    requires { ⌜ 0 < bounds .slots ⌝ }
-    requires { ⌜ 2 * bounds .slots ≤ length (now work) ⌝ }
+    requires { ⌜ SpotReady (now work) (bounds .slots) address ⌝ }
     ensures { λ r. ⌜ r ≡ properFor bounds (now (work .entry)) address ⌝ }
 {
     is_proper_at(work, bounds, home(bounds.slots, address))
@@ -115,8 +116,7 @@ fn is_holding(work: &[u64], k: usize, address: u64) -> bool
 }
 
 pub fn find(work: &[u64], slots: usize, address: u64) -> Spot
-    requires { ⌜ 0 < slots ⌝ }
-    requires { ⌜ 2 * slots + bufferWords ≤ length (now work) ⌝ }
+    requires { ⌜ SpotReady (now work) slots address ⌝ }
     ensures { λ r. ⌜ r ≡ spotOf (now (work .entry)) slots address ⌝ }
 {
     let slot = home(slots, address);

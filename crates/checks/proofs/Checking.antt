@@ -1,23 +1,18 @@
--- The checks of a call, from the first row of the table to the last: one law for each way out.
-use Prim.Native.Nat.{ℕ, _+_, _<_, _≤_}
-use mathlib.Core.Path.{_≡_, refl, sym, ap, _∙_}
-use mathlib.Core.Bool.{Bool, true, false, not, cond}
-use mathlib.Core.List.{List, [], _∷_, _++_}
-use borrow.Author.Tests.{lt-ltb, le-ltb, le-leb, lt-leb, eq-eqb, ne-eqb, not-true, not-false}
+-- The first stages of a check, 1 and 2, and 4: one law for each way out of a function.
+use Prim.Native.Nat.{ℕ, _<_}
+use mathlib.Core.Path.{_≡_}
+use mathlib.Core.Bool.{Bool, true, false, not}
+use mathlib.Core.List.{List}
+use borrow.Author.Tests.{lt-leb, not-true, not-false}
 use lib.ListN.{length}
-use Rattle.layout.specs.Laws.{decoded-fits-control}
 use Rattle.layout.specs.Memory.{logAt}
-use Rattle.layout.specs.Words.{ControlFits}
-use Rattle.status.specs.declared.Status.{Status}
 use Rattle.status.specs.declared.Status.the-variants as status
-use Rattle.checks.specs.declared.Checked.{Checked}
 use Rattle.checks.specs.declared.Checked.the-variants.{Refused, Passed}
 use Rattle.checks.specs.declared.Registers.{Registers}
 use Rattle.checks.specs.declared.View.{View}
-use Rattle.checks.specs.View.{viewOf, goodShape, goodWork, properRegisters}
-use Rattle.checks.specs.Refusals.{tested, memoryRows, registerRows, runningRows, memoriesChecked, runningChecked}
+use Rattle.checks.specs.View.{goodShape, goodWork, properRegisters}
+use Rattle.checks.specs.Refusals.{tested, registerRows, memoriesChecked}
 use Rattle.checks.specs.Contracts.{Viewed}
-use Rattle.checks.specs.Laws.{refused-first, passed-first, passed-view}
 
 -- 1 and 2
 module _ (board work : List ℕ) where
@@ -46,24 +41,3 @@ module _ (v : View) (r : Registers) (t : Bool) (test : t ≡ properRegisters v r
 
   pub registers-passed : not t ≡ false → Passed v ≡ tested (registerRows v r) v
   registers-passed h = rw (← test, not-false t h)
-
-module _ (board work : List ℕ) (r : Registers) (k : Checked) (is : k ≡ memoriesChecked board work) where
-  pub running-refused : (s : Status) → k ≡ Refused s → Refused s ≡ runningChecked board work r
-  unfolding runningChecked memoriesChecked
-  running-refused s e =
-      refused-first (memoryRows board work) (registerRows (viewOf board work) r) (viewOf board work) s (sym e ∙ is)
-
-  module _ (v : View) (e : k ≡ Passed v) where
-    same : v ≡ viewOf board work
-    unfolding memoriesChecked
-    same = passed-view (memoryRows board work) (viewOf board work) v (sym e ∙ is)
-
-    pub running-fits : ControlFits (v .control)
-    unfolding viewOf
-    running-fits = rw same (decoded-fits-control _)
-
-    pub running-passed : (k′ : Checked) → k′ ≡ tested (registerRows v r) v → k′ ≡ runningChecked board work r
-    unfolding runningChecked memoriesChecked
-    running-passed k′ x =
-        rw same at x
-        ∙ sym (passed-first (memoryRows board work) (registerRows (viewOf board work) r) (viewOf board work) v (sym e ∙ is))

@@ -1,10 +1,10 @@
 -- The rows behind 1, 2 and 4: one law for each way out of a function.
 use Prim.Native.Nat.{ℕ, _+_, _-_, _*_, _<_, _≤_}
-use mathlib.Core.Path.{_≡_, refl, sym, ap, _∙_}
-use mathlib.Core.Bool.{Bool, true, false, not, cond}
-use mathlib.Core.List.{List, [], _∷_, _++_}
+use mathlib.Core.Path.{_≡_, sym, _∙_}
+use mathlib.Core.Bool.{Bool, true, false, not}
+use mathlib.Core.List.{List, [], _∷_}
 use native.Mathlib.Omega.{arith}
-use borrow.Author.Tests.{lt-ltb, le-ltb, le-leb, lt-leb, eq-eqb, ne-eqb, not-true, not-false}
+use borrow.Author.Tests.{lt-ltb, le-ltb, le-leb, lt-leb, not-true, not-false}
 use lib.ListN.{length, take, drop}
 use Rattle.base.specs.Parts.{rest-lent}
 use Rattle.layout.specs.Memory.{bufferWords}
@@ -13,6 +13,7 @@ use Rattle.status.specs.declared.Status.the-variants as status
 use Rattle.undo.specs.Log.{bufferProper}
 use Rattle.cache.specs.declared.Bounds.{Bounds}
 use Rattle.cache.specs.declared.Spot.{Spot}
+use Rattle.cache.specs.Contracts.{SlotsReady, SpotReady}
 use Rattle.cache.specs.Laws.{spot-below}
 use Rattle.cache.specs.Slots.{properAt, properFor, spotOf}
 use Rattle.cache.specs.Effects.{undoDue}
@@ -20,11 +21,10 @@ use Rattle.checks.specs.declared.Checked.{Checked}
 use Rattle.checks.specs.declared.Checked.the-variants.{Refused, Passed}
 use Rattle.checks.specs.declared.Registers.{Registers}
 use Rattle.checks.specs.declared.View.{View}
-use Rattle.checks.specs.View.{viewOf, boundsOf, goodBuffer}
-use Rattle.checks.specs.Refusals.{Row, tested, runningRows, bufferRow, lineRows, roomRows, commitRows, epochRows, cursorRows, waitingRows}
-use Rattle.checks.specs.Refusals.{scanRows, runningChecked, lineChecked, storeChecked, commitChecked, scanChecked}
-use Rattle.checks.specs.Contracts.{Running, RowsReady}
-use Rattle.checks.specs.Laws.{refused-first, passed-first, running-view, running, line-view, line-running}
+use Rattle.checks.specs.View.{boundsOf, goodBuffer}
+use Rattle.checks.specs.Refusals.{tested, bufferRow, lineRows, roomRows, commitRows, epochRows, cursorRows, waitingRows, scanRows}
+use Rattle.checks.specs.Contracts.{RowsReady}
+use Rattle.checks.specs.Laws.{refused-first, passed-first}
 
 -- 7
 module _ (v : View) (work : List ℕ) (r : Registers) (t : Bool)
@@ -108,79 +108,14 @@ module _ (v : View) (work : List ℕ) (r : Registers) where
       cursor-passed h = rw (lt-ltb (r .cursor) (v .slots) within, ← bounds, ← slot, not-false t h)
 
 -- behind 1, 2 and 4
-pub bounds-slots : (v : View) (r : Registers) (b : Bounds) (work : List ℕ) → b ≡ boundsOf v r → RowsReady work r v → 0 < b .slots
-bounds-slots v r b work e h = rw e (h .slots-some)
+module _ (v : View) (r : Registers) (b : Bounds) (work : List ℕ) (e : b ≡ boundsOf v r) (h : RowsReady work r v) where
+  pub bounds-slots : SlotsReady (b .slots)
+  bounds-slots = rw e record { some = h .slots-some; most = h .slots-most }
 
-pub bounds-words : (v : View) (r : Registers) (b : Bounds) (work : List ℕ) → b ≡ boundsOf v r → RowsReady work r v → 2 * b .slots ≤ length work
-bounds-words v r b work e h = rw e (omega (arith, h .work-words))
-
-ready-of : (board work : List ℕ) (r : Registers) (v : View) → Running board work r v → RowsReady work r v
-ready-of board work r v h =
-    record {
-      lines-some = h .shaped .lines-some;
-      lines-most = h .shaped .lines-most;
-      slots-some = h .shaped .slots-some;
-      work-words = h .shaped .work-words;
-      buffered = h .buffered;
-      ahead = h .ahead;
-      epoch-most = h .epoch-most;
-      room = h .room;
-      entries-most = h .shaped .entries-most;
-    }
-
-module _ (board work : List ℕ) (r : Registers) (k : Checked) (is : k ≡ runningChecked board work r) where
-  module _ (s : Status) (e : k ≡ Refused s) where
-    pub line-first : (address : ℕ) → Refused s ≡ lineChecked board work r address
-    unfolding lineChecked runningChecked
-    line-first address =
-        refused-first (runningRows board work r) (lineRows (viewOf board work) work r address) (viewOf board work) s (sym e ∙ is)
-
-    pub commit-first : Refused s ≡ commitChecked board work r
-    unfolding commitChecked runningChecked
-    commit-first = refused-first (runningRows board work r) (commitRows (viewOf board work) work r) (viewOf board work) s (sym e ∙ is)
-
-    pub scan-first : Refused s ≡ scanChecked board work r
-    unfolding scanChecked runningChecked
-    scan-first = refused-first (runningRows board work r) (scanRows (viewOf board work) work r) (viewOf board work) s (sym e ∙ is)
-
-  module _ (v : View) (e : k ≡ Passed v) where
-    pub running-ready : RowsReady work r v
-    running-ready = ready-of board work r v (running board work r v (sym e ∙ is))
-
-    same : v ≡ viewOf board work
-    same = running-view board work r v (sym e ∙ is)
-
-    pub line-then : (address : ℕ) (k′ : Checked) → k′ ≡ tested (lineRows v work r address) v → k′ ≡ lineChecked board work r address
-    unfolding lineChecked runningChecked
-    line-then address k′ x =
-        rw same at x
-        ∙ sym (passed-first (runningRows board work r) (lineRows (viewOf board work) work r address) (viewOf board work) v (sym e ∙ is))
-
-    pub commit-then : (k′ : Checked) → k′ ≡ tested (commitRows v work r) v → k′ ≡ commitChecked board work r
-    unfolding commitChecked runningChecked
-    commit-then k′ x =
-        rw same at x ∙ sym (passed-first (runningRows board work r) (commitRows (viewOf board work) work r) (viewOf board work) v (sym e ∙ is))
-
-    pub scan-then : (k′ : Checked) → k′ ≡ tested (scanRows v work r) v → k′ ≡ scanChecked board work r
-    unfolding scanChecked runningChecked
-    scan-then k′ x =
-        rw same at x ∙ sym (passed-first (runningRows board work r) (scanRows (viewOf board work) work r) (viewOf board work) v (sym e ∙ is))
-
-module _ (board work : List ℕ) (r : Registers) (address : ℕ) (k : Checked) (is : k ≡ lineChecked board work r address) where
-  pub store-first : (s : Status) → k ≡ Refused s → Refused s ≡ storeChecked board work r address
-  unfolding storeChecked lineChecked
-  store-first s e =
-      refused-first (runningRows board work r ++ lineRows (viewOf board work) work r address) (roomRows (viewOf board work) work r address)
-      (viewOf board work) s (sym e ∙ is)
-
-  module _ (v : View) (e : k ≡ Passed v) where
-    pub line-ready : RowsReady work r v
-    line-ready = ready-of board work r v (line-running board work r address v (sym e ∙ is))
-
-    pub store-then : (k′ : Checked) → k′ ≡ tested (roomRows v work r address) v → k′ ≡ storeChecked board work r address
-    unfolding storeChecked lineChecked
-    store-then k′ x =
-        rw (line-view board work r address v (sym e ∙ is)) at x
-        ∙ sym
-        (passed-first (runningRows board work r ++ lineRows (viewOf board work) work r address) (roomRows (viewOf board work) work r address)
-        (viewOf board work) v (sym e ∙ is))
+  pub bounds-spot : (address : ℕ) → address < v .shape .lines → SpotReady work (b .slots) address
+  bounds-spot address named =
+      record {
+        slots-ready = bounds-slots;
+        words = rw e (omega (arith, h .work-words));
+        fits = omega (arith, named, h .lines-most);
+      }

@@ -1,9 +1,10 @@
 -- The tests that call other tests: one law for each way out.
-use Prim.Native.Nat.{ℕ, _+_, _*_, _<_, _≤_}
-use mathlib.Core.Path.{_≡_, refl, sym, ap, _∙_, subst}
+use Prim.Native.Nat.{ℕ, _%_, _<_, _≤_}
+use mathlib.Core.Path.{_≡_, refl, sym, _∙_}
 use mathlib.Core.Bool.{Bool, true, false, not, _&&_}
 use mathlib.Core.List.{List}
-use borrow.Author.Tests.{lt-ltb, le-ltb, le-leb, lt-leb, eq-eqb, ne-eqb, not-true, not-false}
+use native.Mathlib.Omega.{arith}
+use borrow.Author.Tests.{le-leb, lt-leb, eq-eqb, ne-eqb, leb-true, eqb-true, eqb-false, not-true, not-false}
 use lib.Dec.{leb, eqb}
 use lib.ListN.{length, getD}
 use Rattle.layout.specs.declared.Control.{Control}
@@ -34,19 +35,27 @@ module _ (words : ℕ) (v : View) (long : logAt ≤ words) (t : Bool) (sizes : t
   unfolding goodShape
   shape-both u h a = a ∙ sym (rw (le-leb logAt words long, ← sizes, not-false t h))
 
-module _ (words slots : ℕ) (is : slots ≡ slotsOf words) where
-  pub work-none : slots < 1 → false ≡ goodWork words
+module _ (words : ℕ) where
+  pub work-short : words < workWords 1 → false ≡ goodWork words
   unfolding goodWork
-  work-none h = rw (← is, lt-leb 1 slots h)
+  work-short h = rw (lt-leb 1 (slotsOf words) (omega arith))
 
-  module _ (some : 1 ≤ slots) where
-    pub work-many : mostSlots < slots → false ≡ goodWork words
-    unfolding goodWork
-    work-many h = rw (← is, le-leb 1 slots some, lt-leb slots mostSlots h)
+  pub work-long : workWords mostSlots < words → false ≡ goodWork words
+  unfolding goodWork
+  work-long h = rw (le-leb 1 (slotsOf words) (omega arith)) (beyond (leb (slotsOf words) mostSlots) refl)
+    where
+      beyond : (t : Bool) → leb (slotsOf words) mostSlots ≡ t → false ≡ t && eqb words (workWords (slotsOf words))
+      beyond true e = let s = leb-true (slotsOf words) mostSlots e in sym (ne-eqb words (workWords (slotsOf words)) (λ x. omega arith))
+      beyond false e = refl
 
-    pub work-words : slots ≤ mostSlots → eqb words (workWords slots) ≡ goodWork words
-    unfolding goodWork
-    work-words h = rw (← is, le-leb 1 slots some, le-leb slots mostSlots h)
+  -- the buffer takes an even number of words
+  pub work-even : workWords 1 ≤ words → words ≤ workWords mostSlots → eqb (words % 2) 0 ≡ goodWork words
+  unfolding goodWork
+  work-even h g = rw (le-leb 1 (slotsOf words) (omega arith), le-leb (slotsOf words) mostSlots (omega arith)) (even (eqb (words % 2) 0) refl)
+    where
+      even : (t : Bool) → eqb (words % 2) 0 ≡ t → t ≡ eqb words (workWords (slotsOf words))
+      even true e = let z = eqb-true (words % 2) 0 e in sym (eq-eqb words (workWords (slotsOf words)) (omega arith))
+      even false e = let z = eqb-false (words % 2) 0 e in sym (ne-eqb words (workWords (slotsOf words)) (λ x. z (omega arith)))
 
 pub read-view : (board work : List ℕ) (c : Control) (s : Shape) (slots : ℕ) → Decoded ControlFits (decodeControl (getD board controlAt 0)) c
     → Decoded ShapeFits (decodeShape (getD board shapeAt 0)) s → slots ≡ slotsOf (length work)

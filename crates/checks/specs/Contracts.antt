@@ -44,6 +44,7 @@ pub record RowsReady (work : List ℕ) (r : Registers) (v : View) : Type 0 where
   pub lines-some : 1 ≤ v .shape .lines
   pub lines-most : v .shape .lines ≤ mostLines
   pub slots-some : 1 ≤ v .slots
+  pub slots-most : v .slots ≤ mostSlots
   pub work-words : length work ≡ workWords (v .slots)
   pub buffered : r .buffered < bufferPlaces
   pub ahead : v .control .persisted < r .epoch

@@ -3,3 +3,4 @@ pub mod View
 pub mod Refusals
 pub mod Contracts
 pub mod Laws
+pub mod Stages

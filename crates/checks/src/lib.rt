@@ -24,12 +24,14 @@ use layout::MOST_ENTRIES;
 use layout::MOST_LINES;
 use layout::MOST_SLOTS;
 use layout::SHAPE_AT;
+use layout::SLOT_WORDS;
 use layout::Shape;
 pub use refusals::check_commit;
 pub use refusals::check_line;
 pub use refusals::check_memories;
+pub use refusals::check_registers;
+pub use refusals::check_room;
 pub use refusals::check_scan;
-pub use refusals::check_store;
 use status::Status;
 use undo::Undo;
 
@@ -153,6 +155,11 @@ pub struct View {
     pub slots: usize,
 }
 
+// The words of a work memory with one slot, and with the most.
+const LEAST_WORK: usize = SLOT_WORDS + BUFFER_WORDS;
+
+const MOST_WORK: usize = SLOT_WORDS * MOST_SLOTS + BUFFER_WORDS;
+
 // The number of slots of a work memory of so many words.
 pub fn slots_of(words: usize) -> usize
     ensures { λ r. ⌜ r ≡ slotsOf words ⌝ }
@@ -160,7 +167,7 @@ pub fn slots_of(words: usize) -> usize
     if words < BUFFER_WORDS {
         return 0;
     }
-    (words - BUFFER_WORDS) / 2
+    (words - BUFFER_WORDS) / SLOT_WORDS
 }
 
 impl View {
@@ -249,14 +256,13 @@ impl View {
 pub fn is_good_work(words: usize) -> bool
     ensures { λ r. ⌜ r ≡ goodWork words ⌝ }
 {
-    let slots = slots_of(words);
-    if slots < 1 {
+    if words < LEAST_WORK {
         return false;
     }
-    if slots > MOST_SLOTS {
+    if words > MOST_WORK {
         return false;
     }
-    words == 2 * slots + BUFFER_WORDS
+    words % SLOT_WORDS == 0
 }
 
 // What came of a call's tests.

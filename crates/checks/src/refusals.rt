@@ -1,12 +1,12 @@
-// The paper's table of refusals: each call's rows, lowest number first.
+// The paper's table of refusals. A call makes its tests in stages, lowest number first: check_memories, then check_registers, then the
+// rows of its own. Each stage requires what the stages before it told.
 ghost use Prim.Native.Nat.{_<_};
 ghost use lib.ListN.{length};
 ghost use mathlib.Core.List.{[], _∷_};
 ghost use mathlib.Core.Path.{_≡_};
 ghost use Rattle.layout.specs.Words.{ControlFits};
 ghost use Rattle.checks.specs.Refusals.{tested, registerRows, bufferRow, lineRows, roomRows, commitRows, epochRows};
-ghost use Rattle.checks.specs.Refusals.{cursorRows, waitingRows, scanRows, memoriesChecked, runningChecked};
-ghost use Rattle.checks.specs.Refusals.{lineChecked, storeChecked, commitChecked, scanChecked};
+ghost use Rattle.checks.specs.Refusals.{cursorRows, waitingRows, scanRows, memoriesChecked};
 ghost use Rattle.checks.specs.Contracts.{RowsReady};
 use crate::Checked;
 use crate::Registers;
@@ -35,7 +35,8 @@ pub fn check_memories(board: &[u64], work: &[u64]) -> Checked
     Checked::Passed(view)
 }
 
-fn check_registers(view: View, registers: Registers) -> Checked
+// 4.
+pub fn check_registers(view: View, registers: Registers) -> Checked
     requires { ⌜ ControlFits (view .control) ⌝ }
     ensures { λ r. ⌜ r ≡ tested (registerRows view registers) view ⌝ }
 {
@@ -43,17 +44,6 @@ fn check_registers(view: View, registers: Registers) -> Checked
         return Checked::Refused(Status::Regs);
     }
     Checked::Passed(view)
-}
-
-// 1, 2 and 4.
-fn check_running(board: &[u64], work: &[u64], registers: Registers) -> Checked
-    ensures { λ r. ⌜ r ≡ runningChecked (now (board .entry)) (now (work .entry)) registers ⌝ }
-{
-    let memories = check_memories(board, work);
-    match memories {
-        Checked::Refused(status) => Checked::Refused(status),
-        Checked::Passed(view) => check_registers(view, registers),
-    }
 }
 
 // 7.
@@ -73,8 +63,8 @@ fn check_buffer(view: View, work: &[u64], registers: Registers) -> Checked
     Checked::Passed(view)
 }
 
-// 5, 6 and 7.
-fn line_rows(view: View, work: &[u64], registers: Registers, address: u64) -> Checked
+// 5, 6 and 7 of load, store and evict.
+pub fn check_line(view: View, work: &[u64], registers: Registers, address: u64) -> Checked
     requires { ⌜ RowsReady (now work) registers view ⌝ }
     ensures { λ r. ⌜ r ≡ tested (lineRows view (now (work .entry)) registers address) view ⌝ }
 {
@@ -87,20 +77,10 @@ fn line_rows(view: View, work: &[u64], registers: Registers, address: u64) -> Ch
     check_buffer(view, work, registers)
 }
 
-// The refusals of load and evict.
-pub fn check_line(board: &[u64], work: &[u64], registers: Registers, address: u64) -> Checked
-    ensures { λ r. ⌜ r ≡ lineChecked (now (board .entry)) (now (work .entry)) registers address ⌝ }
-{
-    let running = check_running(board, work, registers);
-    match running {
-        Checked::Refused(status) => Checked::Refused(status),
-        Checked::Passed(view) => line_rows(view, work, registers, address),
-    }
-}
-
-// 8.
-fn room_rows(view: View, work: &[u64], registers: Registers, address: u64) -> Checked
+// 8 of store.
+pub fn check_room(view: View, work: &[u64], registers: Registers, address: u64) -> Checked
     requires { ⌜ RowsReady (now work) registers view ⌝ }
+    requires { ⌜ address < view .shape .lines ⌝ }
     ensures { λ r. ⌜ r ≡ tested (roomRows view (now (work .entry)) registers address) view ⌝ }
 {
     let spot = cache::find(work, view.slots, address);
@@ -113,19 +93,8 @@ fn room_rows(view: View, work: &[u64], registers: Registers, address: u64) -> Ch
     Checked::Passed(view)
 }
 
-// The refusals of store.
-pub fn check_store(board: &[u64], work: &[u64], registers: Registers, address: u64) -> Checked
-    ensures { λ r. ⌜ r ≡ storeChecked (now (board .entry)) (now (work .entry)) registers address ⌝ }
-{
-    let line = check_line(board, work, registers, address);
-    match line {
-        Checked::Refused(status) => Checked::Refused(status),
-        Checked::Passed(view) => room_rows(view, work, registers, address),
-    }
-}
-
-// 7, 9 and 10.
-fn commit_rows(view: View, work: &[u64], registers: Registers) -> Checked
+// 7, 9 and 10 of commit.
+pub fn check_commit(view: View, work: &[u64], registers: Registers) -> Checked
     requires { ⌜ RowsReady (now work) registers view ⌝ }
     ensures { λ r. ⌜ r ≡ tested (commitRows view (now (work .entry)) registers) view ⌝ }
 {
@@ -147,17 +116,6 @@ fn check_commit_epoch(view: View, registers: Registers) -> Checked
         return Checked::Refused(Status::Last);
     }
     Checked::Passed(view)
-}
-
-// The refusals of commit.
-pub fn check_commit(board: &[u64], work: &[u64], registers: Registers) -> Checked
-    ensures { λ r. ⌜ r ≡ commitChecked (now (board .entry)) (now (work .entry)) registers ⌝ }
-{
-    let running = check_running(board, work, registers);
-    match running {
-        Checked::Refused(status) => Checked::Refused(status),
-        Checked::Passed(view) => commit_rows(view, work, registers),
-    }
 }
 
 // 6 of scan: the slot at the cursor, while there is one.
@@ -185,8 +143,8 @@ fn check_waiting(view: View, registers: Registers) -> Checked
     Checked::Passed(view)
 }
 
-// 7 and 11.
-fn scan_end_rows(view: View, work: &[u64], registers: Registers) -> Checked
+// 7 and 11 of scan.
+fn check_scan_end(view: View, work: &[u64], registers: Registers) -> Checked
     requires { ⌜ RowsReady (now work) registers view ⌝ }
     ensures { λ r. ⌜ r ≡ tested (bufferRow view (now (work .entry)) registers ∷ waitingRows view registers) view ⌝ }
 {
@@ -197,25 +155,14 @@ fn scan_end_rows(view: View, work: &[u64], registers: Registers) -> Checked
     }
 }
 
-// 6, 7 and 11.
-fn scan_rows(view: View, work: &[u64], registers: Registers) -> Checked
+// 6, 7 and 11 of scan.
+pub fn check_scan(view: View, work: &[u64], registers: Registers) -> Checked
     requires { ⌜ RowsReady (now work) registers view ⌝ }
     ensures { λ r. ⌜ r ≡ tested (scanRows view (now (work .entry)) registers) view ⌝ }
 {
     let cursor = check_cursor(view, work, registers);
     match cursor {
         Checked::Refused(status) => Checked::Refused(status),
-        Checked::Passed(_) => scan_end_rows(view, work, registers),
-    }
-}
-
-// The refusals of scan.
-pub fn check_scan(board: &[u64], work: &[u64], registers: Registers) -> Checked
-    ensures { λ r. ⌜ r ≡ scanChecked (now (board .entry)) (now (work .entry)) registers ⌝ }
-{
-    let running = check_running(board, work, registers);
-    match running {
-        Checked::Refused(status) => Checked::Refused(status),
-        Checked::Passed(view) => scan_rows(view, work, registers),
+        Checked::Passed(_) => check_scan_end(view, work, registers),
     }
 }

@@ -1,7 +1,6 @@
 -- The calls: one law for each way out of a function.
 use Prim.Native.Nat.{ℕ, _+_, _*_, _<_, _≤_}
-use mathlib.Core.Path.{_≡_, refl, sym, ap, _∙_}
-use mathlib.Core.Bool.{Bool, true, false, not}
+use mathlib.Core.Path.{_≡_, refl, ap}
 use mathlib.Core.List.{List}
 use borrow.Author.Tests.{lt-ltb, le-ltb}
 use lib.ListN.{length, getD}
@@ -22,17 +21,27 @@ use Rattle.checks.specs.declared.Checked.{Checked}
 use Rattle.checks.specs.declared.Checked.the-variants.{Refused, Passed}
 use Rattle.checks.specs.declared.Registers.{Registers}
 use Rattle.checks.specs.declared.View.{View}
-use Rattle.checks.specs.Laws.{line-running, line-named, line-proper, store-line, store-room, commit-running}
+use Rattle.checks.specs.Laws.{line-running, line-named, line-proper, store-line, store-room, running}
 use Rattle.checks.specs.Laws.{scan-running, scan-proper, scan-waiting}
-use Rattle.checks.specs.Refusals.{lineChecked, storeChecked, commitChecked, scanChecked}
+use Rattle.checks.specs.Refusals.{tested, commitRows, runningChecked, lineChecked, storeChecked, commitChecked, scanChecked}
 use Rattle.checks.specs.Registers.{buffering, committed, stepped, restarted}
+use Rattle.checks.specs.Stages.{commit-passed}
 use Rattle.checks.specs.View.{undoOf}
 use Rattle.picl.specs.declared.Answer.{Answer}
-use Rattle.picl.specs.Answers.{due, refusal}
-use Rattle.picl.specs.Calls.{loadAt, loadOutcome, loadVerdict, storeAt, storeOutcome, storeVerdict, evictAt, evictOutcome, evictVerdict}
-use Rattle.picl.specs.Calls.{carried, commitOutcome, commitVerdict, scanOutcome, scanVerdict}
+use Rattle.picl.specs.Answers.{Outcome, due, refusal}
+use Rattle.picl.specs.Calls.{loadAt, loadOutcome, storeAt, storeOutcome, evictAt, evictOutcome}
+use Rattle.picl.specs.Calls.{judged, carried, commitOutcome, commitVerdict, scanOutcome}
 use Rattle.picl.specs.Contracts.{Answers, Finishes, LinePassed, StorePassed, ScanPassed}
 use Rattle.picl.proofs.Finishing.{answers-refused, answers-nothing, acted, carries-answers}
+
+-- a call's verdict, once its check has come to a result
+module _ (allowance : ℕ) (board work : List ℕ) (r : Registers) (k : Checked) (outcome : View → Outcome) where
+  pub judged-refused : (s : Status) (a : Answer) → Refused s ≡ k → a ≡ refusal s 0 r → Answers allowance r board work (judged k outcome) board work a
+  judged-refused s a e x = rw (← e) (answers-refused allowance r board work s 0 a x)
+
+  pub judged-passed : (v : View) (board′ work′ : List ℕ) (a : Answer) → Passed v ≡ k
+      → Answers allowance r board work (due (outcome v)) board′ work′ a → Answers allowance r board work (judged k outcome) board′ work′ a
+  judged-passed v board′ work′ a e x = rw (← e) x
 
 -- load
 pub load-done : (allowance : ℕ) (board work : List ℕ) (r : Registers) (u : Undo) (address : ℕ) (spot : Spot) (m : Meter) (p : Progress)
@@ -53,39 +62,15 @@ pub load-found : (allowance : ℕ) (board work : List ℕ) (r : Registers) (addr
 unfolding loadOutcome
 load-found allowance board work r address v spot u board′ work′ a at is x = rw (at, is) at x
 
--- the checks of load and evict
-module _ (board work : List ℕ) (r : Registers) (address : ℕ) (k : Checked) (is : k ≡ lineChecked board work r address) where
-  pub line-passed : (v : View) → k ≡ Passed v → LinePassed board work r address v
-  line-passed v e =
-      let p = sym e ∙ is in
-      record {
-        running = line-running board work r address v p;
-        named = line-named board work r address v p;
-        slot = line-proper board work r address v p;
-      }
-
-  module _ (allowance : ℕ) where
-    pub load-refused : (s : Status) (a : Answer) → k ≡ Refused s → a ≡ refusal s 0 r
-        → Answers allowance r board work (loadVerdict board work r address) board work a
-    unfolding loadVerdict
-    load-refused s a e x = rw (← is, e) (answers-refused allowance r board work s 0 a x)
-
-    pub load-answered : (v : View) (board′ work′ : List ℕ) (a : Answer) → k ≡ Passed v
-        → Answers allowance r board work (due (loadOutcome board work r address v)) board′ work′ a
-        → Answers allowance r board work (loadVerdict board work r address) board′ work′ a
-    unfolding loadVerdict
-    load-answered v board′ work′ a e x = rw (← is, e) x
-
-    pub evict-refused : (s : Status) (a : Answer) → k ≡ Refused s → a ≡ refusal s 0 r
-        → Answers allowance r board work (evictVerdict board work r address) board work a
-    unfolding evictVerdict
-    evict-refused s a e x = rw (← is, e) (answers-refused allowance r board work s 0 a x)
-
-    pub evict-answered : (v : View) (board′ work′ : List ℕ) (a : Answer) → k ≡ Passed v
-        → Answers allowance r board work (due (evictOutcome work r address v)) board′ work′ a
-        → Answers allowance r board work (evictVerdict board work r address) board′ work′ a
-    unfolding evictVerdict
-    evict-answered v board′ work′ a e x = rw (← is, e) x
+-- what load and evict require of their tests
+pub line-told : (board work : List ℕ) (r : Registers) (address : ℕ) (v : View) → Passed v ≡ lineChecked board work r address
+    → LinePassed board work r address v
+line-told board work r address v p =
+    record {
+      running = line-running board work r address v p;
+      named = line-named board work r address v p;
+      slot = line-proper board work r address v p;
+    }
 
 -- evict
 pub evict-done : (allowance : ℕ) (board work : List ℕ) (r : Registers) (u : Undo) (spot : Spot) (m : Meter) (p : Progress)
@@ -123,41 +108,25 @@ pub store-found : (allowance : ℕ) (board work : List ℕ) (r : Registers) (add
 unfolding storeOutcome
 store-found allowance board work r address value v spot u board′ work′ a at is x = rw (at, is) at x
 
-module _ (board work : List ℕ) (r : Registers) (address : ℕ) (k : Checked) (is : k ≡ storeChecked board work r address) where
-  pub store-passed : (v : View) → k ≡ Passed v → StorePassed board work r address v
-  store-passed v e =
-      let p = sym e ∙ is in
-      record {
-        line = line-passed board work r address (Passed v) (store-line board work r address v p) v refl;
-        room = store-room board work r address v p;
-      }
-
-  module _ (allowance value : ℕ) where
-    pub store-refused : (s : Status) (a : Answer) → k ≡ Refused s → a ≡ refusal s 0 r
-        → Answers allowance r board work (storeVerdict board work r address value) board work a
-    unfolding storeVerdict
-    store-refused s a e x = rw (← is, e) (answers-refused allowance r board work s 0 a x)
-
-    pub store-answered : (v : View) (board′ work′ : List ℕ) (a : Answer) → k ≡ Passed v
-        → Answers allowance r board work (due (storeOutcome board work r address value v)) board′ work′ a
-        → Answers allowance r board work (storeVerdict board work r address value) board′ work′ a
-    unfolding storeVerdict
-    store-answered v board′ work′ a e x = rw (← is, e) x
+pub store-told : (board work : List ℕ) (r : Registers) (address : ℕ) (v : View) → Passed v ≡ storeChecked board work r address
+    → StorePassed board work r address v
+store-told board work r address v p =
+    record {
+      line = line-told board work r address v (store-line board work r address v p);
+      room = store-room board work r address v p;
+    }
 
 -- commit
-module _ (allowance : ℕ) (board work : List ℕ) (r : Registers) (k : Checked) (is : k ≡ commitChecked board work r) where
-  pub commit-within : (v : View) → k ≡ Passed v → r .epoch ≤ lastEpoch
-  commit-within v e = commit-running board work r v (sym e ∙ is) .epoch-most
+pub commit-within : (board work : List ℕ) (r : Registers) (v : View) → Passed v ≡ runningChecked board work r → r .epoch ≤ lastEpoch
+commit-within board work r v p = running board work r v p .epoch-most
 
-  pub commit-refused : (s : Status) (a : Answer) → k ≡ Refused s → a ≡ refusal s 0 r
-      → Answers allowance r board work (commitVerdict board work r) board work a
-  unfolding commitVerdict
-  commit-refused s a e x = rw (← is, e) (answers-refused allowance r board work s 0 a x)
-
-  pub commit-answered : (v : View) (a : Answer) → k ≡ Passed v → a ≡ refusal status.Ok 0 (committed r)
-      → Answers allowance r board work (commitVerdict board work r) board work a
-  unfolding commitVerdict commitOutcome
-  commit-answered v a e x = rw (← is, e) (answers-nothing allowance r board work (committed r) a x)
+pub commit-answered : (allowance : ℕ) (board work : List ℕ) (r : Registers) (v w : View) (k : Checked) (a : Answer)
+    → Passed v ≡ runningChecked board work r → k ≡ tested (commitRows v work r) v → k ≡ Passed w → a ≡ refusal status.Ok 0 (committed r)
+    → Answers allowance r board work (commitVerdict board work r) board work a
+unfolding commitVerdict commitOutcome
+commit-answered allowance board work r v w k a run is e x =
+    judged-passed allowance board work r (commitChecked board work r) (λ u. commitOutcome work r) v board work a
+    (commit-passed board work r v run k is w e) (answers-nothing allowance r board work (committed r) a x)
 
 -- scan
 module _ (allowance : ℕ) (board work : List ℕ) (r next after : Registers) (u : Undo) (target : ℕ) (m : Meter) (p : Progress)
@@ -188,24 +157,10 @@ module _ (allowance : ℕ) (board work : List ℕ) (r next : Registers) (v : Vie
   unfolding scanOutcome
   scan-persists h n x = rw (le-ltb (r .cursor) (v .slots) h) (rw (n, is) at x)
 
-module _ (board work : List ℕ) (r : Registers) (k : Checked) (is : k ≡ scanChecked board work r) where
-  pub scan-passed : (v : View) → k ≡ Passed v → ScanPassed board work r v
-  scan-passed v e =
-      let p = sym e ∙ is in
-      record {
-        running = scan-running board work r v p;
-        slot = scan-proper board work r v p;
-        waiting = scan-waiting board work r v p;
-      }
-
-  module _ (allowance : ℕ) where
-    pub scan-refused : (s : Status) (a : Answer) → k ≡ Refused s → a ≡ refusal s 0 r
-        → Answers allowance r board work (scanVerdict board work r) board work a
-    unfolding scanVerdict
-    scan-refused s a e x = rw (← is, e) (answers-refused allowance r board work s 0 a x)
-
-    pub scan-answered : (v : View) (board′ work′ : List ℕ) (a : Answer) → k ≡ Passed v
-        → Answers allowance r board work (due (scanOutcome board work r v)) board′ work′ a
-        → Answers allowance r board work (scanVerdict board work r) board′ work′ a
-    unfolding scanVerdict
-    scan-answered v board′ work′ a e x = rw (← is, e) x
+pub scan-told : (board work : List ℕ) (r : Registers) (v : View) → Passed v ≡ scanChecked board work r → ScanPassed board work r v
+scan-told board work r v p =
+    record {
+      running = scan-running board work r v p;
+      slot = scan-proper board work r v p;
+      waiting = scan-waiting board work r v p;
+    }

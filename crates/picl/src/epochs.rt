@@ -1,9 +1,11 @@
-// Commit and scan, and power-up: the calls that end, persist and restore epochs.
+// Commit and scan, and power-up: the calls that end, persist and restore epochs. Commit and scan test in stages, as the calls of lines do.
 ghost use Prim.Native.Nat.{_+_, _<_, _≤_};
 ghost use lib.ListN.{length};
 ghost use mathlib.Core.Path.{_≡_};
 ghost use Rattle.cache.specs.Contracts.{SlotReady, PersistReady};
 ghost use Rattle.cache.specs.Effects.{visiting, persisting};
+ghost use Rattle.checks.specs.declared.Checked.the-variants.{Passed};
+ghost use Rattle.checks.specs.Refusals.{memoriesChecked, runningChecked};
 ghost use Rattle.checks.specs.Registers.{zero, committed};
 ghost use Rattle.checks.specs.Contracts.{Shaped};
 ghost use Rattle.layout.specs.Limits.{lastEpoch};
@@ -31,14 +33,48 @@ fn commit_passed(registers: Registers) -> Answer
     refusal(Status::Ok, 0, registers.committed())
 }
 
+fn commit_running(
+    board: &[u64],
+    work: &[u64],
+    registers: Registers,
+    view: View,
+    allowance: u32,
+) -> Answer
+    requires { ⌜ Passed view ≡ runningChecked (now board) (now work) registers ⌝ }
+    ensures { λ r. ⌜ Answers allowance registers (now (board .entry)) (now (work .entry)) (commitVerdict (now (board .entry)) (now (work .entry)) registers) (now (board .entry)) (now (work .entry)) r ⌝ }
+{
+    let checked = checks::check_commit(view, work, registers);
+    match checked {
+        Checked::Refused(status) => refusal(status, 0, registers),
+        Checked::Passed(_) => commit_passed(registers),
+    }
+}
+
+fn commit_shaped(
+    board: &[u64],
+    work: &[u64],
+    registers: Registers,
+    view: View,
+    allowance: u32,
+) -> Answer
+    requires { ⌜ Passed view ≡ memoriesChecked (now board) (now work) ⌝ }
+    ensures { λ r. ⌜ Answers allowance registers (now (board .entry)) (now (work .entry)) (commitVerdict (now (board .entry)) (now (work .entry)) registers) (now (board .entry)) (now (work .entry)) r ⌝ }
+{
+    let checked = checks::check_registers(view, registers);
+    match checked {
+        Checked::Refused(status) => refusal(status, 0, registers),
+        Checked::Passed(_) => commit_running(board, work, registers, view, allowance),
+    }
+}
+
 // The end of the running epoch. It makes no store, so no allowance is too small, and it cannot write either memory.
 pub fn commit(board: &[u64], work: &[u64], registers: Registers, allowance: u32) -> Answer
     ensures { λ r. ⌜ Answers allowance registers (now (board .entry)) (now (work .entry)) (commitVerdict (now (board .entry)) (now (work .entry)) registers) (now (board .entry)) (now (work .entry)) r ⌝ }
 {
-    let checked = checks::check_commit(board, work, registers);
+    let checked = checks::check_memories(board, work);
     match checked {
         Checked::Refused(status) => refusal(status, 0, registers),
-        Checked::Passed(_) => commit_passed(registers),
+        Checked::Passed(view) => commit_shaped(board, work, registers, view, allowance),
     }
 }
 
@@ -120,14 +156,48 @@ fn scan_passed(
     )
 }
 
+fn scan_running(
+    board: &mut [u64],
+    work: &mut [u64],
+    registers: Registers,
+    view: View,
+    allowance: u32,
+) -> Answer
+    requires { ⌜ Passed view ≡ runningChecked (now board) (now work) registers ⌝ }
+    ensures { λ r. ⌜ Answers allowance registers (now (board .entry)) (now (work .entry)) (scanVerdict (now (board .entry)) (now (work .entry)) registers) (now (board .exit)) (now (work .exit)) r ⌝ }
+{
+    let checked = checks::check_scan(view, work, registers);
+    match checked {
+        Checked::Refused(status) => refusal(status, 0, registers),
+        Checked::Passed(_) => scan_passed(board, work, registers, view, allowance),
+    }
+}
+
+fn scan_shaped(
+    board: &mut [u64],
+    work: &mut [u64],
+    registers: Registers,
+    view: View,
+    allowance: u32,
+) -> Answer
+    requires { ⌜ Passed view ≡ memoriesChecked (now board) (now work) ⌝ }
+    ensures { λ r. ⌜ Answers allowance registers (now (board .entry)) (now (work .entry)) (scanVerdict (now (board .entry)) (now (work .entry)) registers) (now (board .exit)) (now (work .exit)) r ⌝ }
+{
+    let checked = checks::check_registers(view, registers);
+    match checked {
+        Checked::Refused(status) => refusal(status, 0, registers),
+        Checked::Passed(_) => scan_running(board, work, registers, view, allowance),
+    }
+}
+
 // One step of persisting the oldest epoch that waits.
 pub fn scan(board: &mut [u64], work: &mut [u64], registers: Registers, allowance: u32) -> Answer
     ensures { λ r. ⌜ Answers allowance registers (now (board .entry)) (now (work .entry)) (scanVerdict (now (board .entry)) (now (work .entry)) registers) (now (board .exit)) (now (work .exit)) r ⌝ }
 {
-    let checked = checks::check_scan(board, work, registers);
+    let checked = checks::check_memories(board, work);
     match checked {
         Checked::Refused(status) => refusal(status, 0, registers),
-        Checked::Passed(view) => scan_passed(board, work, registers, view, allowance),
+        Checked::Passed(view) => scan_shaped(board, work, registers, view, allowance),
     }
 }
 

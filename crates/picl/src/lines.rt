@@ -1,7 +1,12 @@
 // Load, store and evict: the calls that name a line.
+//
+// A call tests in stages. Each stage is a function with one caller, so that compilers join them, and its name tells what passed before it:
+// shaped, rows 1 and 2 of the paper's table; running, 4 as well; named, store's 5 to 7 as well; passed, all rows.
 ghost use Prim.Native.Nat.{_+_, _*_};
+ghost use mathlib.Core.Path.{_≡_};
 ghost use Rattle.cache.specs.Contracts.{FillReady, SlotReady, StoreReady};
-ghost use Rattle.status.specs.declared.Status.the-variants as status;
+ghost use Rattle.checks.specs.declared.Checked.the-variants.{Passed};
+ghost use Rattle.checks.specs.Refusals.{memoriesChecked, runningChecked, lineChecked};
 ghost use Rattle.picl.specs.Answers.{due};
 ghost use Rattle.picl.specs.Calls.{loadAt, storeAt, evictAt, loadOutcome, storeOutcome, evictOutcome};
 ghost use Rattle.picl.specs.Calls.{loadVerdict, storeVerdict, evictVerdict};
@@ -58,6 +63,42 @@ fn load_passed(
     load_at(board, work, registers, undo, address, spot, allowance)
 }
 
+fn load_running(
+    board: &mut [u64],
+    work: &mut [u64],
+    registers: Registers,
+    address: u64,
+    view: View,
+    allowance: u32,
+) -> Answer
+    requires { ⌜ Passed view ≡ runningChecked (now board) (now work) registers ⌝ }
+    ensures { λ r. ⌜ Answers allowance registers (now (board .entry)) (now (work .entry)) (loadVerdict (now (board .entry)) (now (work .entry)) registers address) (now (board .exit)) (now (work .exit)) r ⌝ }
+{
+    let checked = checks::check_line(view, work, registers, address);
+    match checked {
+        Checked::Refused(status) => refusal(status, 0, registers),
+        Checked::Passed(_) => load_passed(board, work, registers, address, view, allowance),
+    }
+}
+
+fn load_shaped(
+    board: &mut [u64],
+    work: &mut [u64],
+    registers: Registers,
+    address: u64,
+    view: View,
+    allowance: u32,
+) -> Answer
+    requires { ⌜ Passed view ≡ memoriesChecked (now board) (now work) ⌝ }
+    ensures { λ r. ⌜ Answers allowance registers (now (board .entry)) (now (work .entry)) (loadVerdict (now (board .entry)) (now (work .entry)) registers address) (now (board .exit)) (now (work .exit)) r ⌝ }
+{
+    let checked = checks::check_registers(view, registers);
+    match checked {
+        Checked::Refused(status) => refusal(status, 0, registers),
+        Checked::Passed(_) => load_running(board, work, registers, address, view, allowance),
+    }
+}
+
 // The data of a line.
 pub fn load(
     board: &mut [u64],
@@ -68,10 +109,10 @@ pub fn load(
 ) -> Answer
     ensures { λ r. ⌜ Answers allowance registers (now (board .entry)) (now (work .entry)) (loadVerdict (now (board .entry)) (now (work .entry)) registers address) (now (board .exit)) (now (work .exit)) r ⌝ }
 {
-    let checked = checks::check_line(board, work, registers, address);
+    let checked = checks::check_memories(board, work);
     match checked {
         Checked::Refused(status) => refusal(status, 0, registers),
-        Checked::Passed(view) => load_passed(board, work, registers, address, view, allowance),
+        Checked::Passed(view) => load_shaped(board, work, registers, address, view, allowance),
     }
 }
 
@@ -135,6 +176,71 @@ fn store_passed(
     )
 }
 
+fn store_named(
+    board: &mut [u64],
+    work: &mut [u64],
+    registers: Registers,
+    address: u64,
+    value: u64,
+    view: View,
+    allowance: u32,
+) -> Answer
+    requires { ⌜ Passed view ≡ lineChecked (now board) (now work) registers address ⌝ }
+    ensures { λ r. ⌜ Answers allowance registers (now (board .entry)) (now (work .entry)) (storeVerdict (now (board .entry)) (now (work .entry)) registers address value) (now (board .exit)) (now (work .exit)) r ⌝ }
+{
+    let checked = checks::check_room(view, work, registers, address);
+    match checked {
+        Checked::Refused(status) => refusal(status, 0, registers),
+        Checked::Passed(_) => store_passed(board, work, registers, address, value, view, allowance),
+    }
+}
+
+fn store_running(
+    board: &mut [u64],
+    work: &mut [u64],
+    registers: Registers,
+    address: u64,
+    value: u64,
+    view: View,
+    allowance: u32,
+) -> Answer
+    requires { ⌜ Passed view ≡ runningChecked (now board) (now work) registers ⌝ }
+    ensures { λ r. ⌜ Answers allowance registers (now (board .entry)) (now (work .entry)) (storeVerdict (now (board .entry)) (now (work .entry)) registers address value) (now (board .exit)) (now (work .exit)) r ⌝ }
+{
+    let checked = checks::check_line(view, work, registers, address);
+    match checked {
+        Checked::Refused(status) => refusal(status, 0, registers),
+        Checked::Passed(_) => store_named(board, work, registers, address, value, view, allowance),
+    }
+}
+
+fn store_shaped(
+    board: &mut [u64],
+    work: &mut [u64],
+    registers: Registers,
+    address: u64,
+    value: u64,
+    view: View,
+    allowance: u32,
+) -> Answer
+    requires { ⌜ Passed view ≡ memoriesChecked (now board) (now work) ⌝ }
+    ensures { λ r. ⌜ Answers allowance registers (now (board .entry)) (now (work .entry)) (storeVerdict (now (board .entry)) (now (work .entry)) registers address value) (now (board .exit)) (now (work .exit)) r ⌝ }
+{
+    let checked = checks::check_registers(view, registers);
+    match checked {
+        Checked::Refused(status) => refusal(status, 0, registers),
+        Checked::Passed(_) => store_running(
+            board,
+            work,
+            registers,
+            address,
+            value,
+            view,
+            allowance,
+        ),
+    }
+}
+
 // A store to a line.
 pub fn store(
     board: &mut [u64],
@@ -146,10 +252,10 @@ pub fn store(
 ) -> Answer
     ensures { λ r. ⌜ Answers allowance registers (now (board .entry)) (now (work .entry)) (storeVerdict (now (board .entry)) (now (work .entry)) registers address value) (now (board .exit)) (now (work .exit)) r ⌝ }
 {
-    let checked = checks::check_store(board, work, registers, address);
+    let checked = checks::check_memories(board, work);
     match checked {
         Checked::Refused(status) => refusal(status, 0, registers),
-        Checked::Passed(view) => store_passed(
+        Checked::Passed(view) => store_shaped(
             board,
             work,
             registers,
@@ -200,6 +306,42 @@ fn evict_passed(
     evict_at(board, work, registers, undo, spot, allowance)
 }
 
+fn evict_running(
+    board: &mut [u64],
+    work: &mut [u64],
+    registers: Registers,
+    address: u64,
+    view: View,
+    allowance: u32,
+) -> Answer
+    requires { ⌜ Passed view ≡ runningChecked (now board) (now work) registers ⌝ }
+    ensures { λ r. ⌜ Answers allowance registers (now (board .entry)) (now (work .entry)) (evictVerdict (now (board .entry)) (now (work .entry)) registers address) (now (board .exit)) (now (work .exit)) r ⌝ }
+{
+    let checked = checks::check_line(view, work, registers, address);
+    match checked {
+        Checked::Refused(status) => refusal(status, 0, registers),
+        Checked::Passed(_) => evict_passed(board, work, registers, address, view, allowance),
+    }
+}
+
+fn evict_shaped(
+    board: &mut [u64],
+    work: &mut [u64],
+    registers: Registers,
+    address: u64,
+    view: View,
+    allowance: u32,
+) -> Answer
+    requires { ⌜ Passed view ≡ memoriesChecked (now board) (now work) ⌝ }
+    ensures { λ r. ⌜ Answers allowance registers (now (board .entry)) (now (work .entry)) (evictVerdict (now (board .entry)) (now (work .entry)) registers address) (now (board .exit)) (now (work .exit)) r ⌝ }
+{
+    let checked = checks::check_registers(view, registers);
+    match checked {
+        Checked::Refused(status) => refusal(status, 0, registers),
+        Checked::Passed(_) => evict_running(board, work, registers, address, view, allowance),
+    }
+}
+
 // A line out of the cache.
 pub fn evict(
     board: &mut [u64],
@@ -210,9 +352,9 @@ pub fn evict(
 ) -> Answer
     ensures { λ r. ⌜ Answers allowance registers (now (board .entry)) (now (work .entry)) (evictVerdict (now (board .entry)) (now (work .entry)) registers address) (now (board .exit)) (now (work .exit)) r ⌝ }
 {
-    let checked = checks::check_line(board, work, registers, address);
+    let checked = checks::check_memories(board, work);
     match checked {
         Checked::Refused(status) => refusal(status, 0, registers),
-        Checked::Passed(view) => evict_passed(board, work, registers, address, view, allowance),
+        Checked::Passed(view) => evict_shaped(board, work, registers, address, view, allowance),
     }
 }

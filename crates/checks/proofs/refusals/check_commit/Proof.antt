@@ -1,33 +1,33 @@
-use Rattle.checks.proofs.Rows.{commit-first, commit-then, running-ready}
+use Rattle.checks.proofs.Rows.{commit-buffer, commit-epoch}
 use borrow.Author.Needs.{needs}
 use Rattle.checks.proofs.refusals.check_commit.Statement.{statement}
 use Rattle.checks.proofs.refusals.check_commit.Tie as tie
 
-check-running-requires : tie.Need-check-running-requires
-check-running-requires c κs = search needs
+check-buffer-requires : tie.Need-check-buffer-requires
+check-buffer-requires c κs = search needs
 
-enum-known-running : tie.Need-enum-known-running
-enum-known-running c = search needs
+enum-known-buffer : tie.Need-enum-known-buffer
+enum-known-buffer c = search needs
 
-enum-known-running-2 : tie.Need-enum-known-running-2
-enum-known-running-2 c = search needs
+enum-told : tie.Need-enum-told
+enum-told c = search needs
 
-commit-rows-requires : tie.Need-commit-rows-requires
-commit-rows-requires c κs = search (running-ready)
+check-commit-epoch-requires : tie.Need-check-commit-epoch-requires
+check-commit-epoch-requires c κs = search needs
 
 returns : tie.Need-returns
-returns c = search (commit-first)
+returns c = search (commit-buffer)
 
 returns-2 : tie.Need-returns-2
-returns-2 c = search (commit-then)
+returns-2 c = search (commit-epoch)
 
 pub check-commit-spec : {M : Type 1} → statement M
 check-commit-spec =
     tie.close
     (tie.spec
-    check-running-requires
-    enum-known-running
-    enum-known-running-2
-    commit-rows-requires
+    check-buffer-requires
+    enum-known-buffer
+    enum-told
+    check-commit-epoch-requires
     returns
     returns-2)

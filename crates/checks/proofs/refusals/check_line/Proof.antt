@@ -1,33 +1,33 @@
-use Rattle.checks.proofs.Rows.{line-first, line-then, running-ready}
+use Rattle.checks.proofs.Rows.{line-outside, line-slot, line-buffer, bounds-spot}
 use borrow.Author.Needs.{needs}
 use Rattle.checks.proofs.refusals.check_line.Statement.{statement}
 use Rattle.checks.proofs.refusals.check_line.Tie as tie
 
-check-running-requires : tie.Need-check-running-requires
-check-running-requires c κs = search needs
-
-enum-known-running : tie.Need-enum-known-running
-enum-known-running c = search needs
-
-enum-known-running-2 : tie.Need-enum-known-running-2
-enum-known-running-2 c = search needs
-
-line-rows-requires : tie.Need-line-rows-requires
-line-rows-requires c κs = search (running-ready)
-
 returns : tie.Need-returns
-returns c = search (line-first)
+returns c = search (line-outside)
+
+bounds-requires : tie.Need-bounds-requires
+bounds-requires c κs = search needs
+
+is-proper-for-requires : tie.Need-is-proper-for-requires
+is-proper-for-requires c κs = search (bounds-spot)
 
 returns-2 : tie.Need-returns-2
-returns-2 c = search (line-then)
+returns-2 c = search (line-slot)
+
+check-buffer-requires : tie.Need-check-buffer-requires
+check-buffer-requires c κs = search needs
+
+returns-3 : tie.Need-returns-3
+returns-3 c = search (line-buffer)
 
 pub check-line-spec : {M : Type 1} → statement M
 check-line-spec =
     tie.close
     (tie.spec
-    check-running-requires
-    enum-known-running
-    enum-known-running-2
-    line-rows-requires
     returns
-    returns-2)
+    bounds-requires
+    is-proper-for-requires
+    returns-2
+    check-buffer-requires
+    returns-3)

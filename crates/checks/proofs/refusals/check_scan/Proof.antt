@@ -1,33 +1,33 @@
-use Rattle.checks.proofs.Rows.{scan-first, scan-then, running-ready}
+use Rattle.checks.proofs.Rows.{scan-cursor, scan-rest}
 use borrow.Author.Needs.{needs}
 use Rattle.checks.proofs.refusals.check_scan.Statement.{statement}
 use Rattle.checks.proofs.refusals.check_scan.Tie as tie
 
-check-running-requires : tie.Need-check-running-requires
-check-running-requires c κs = search needs
+check-cursor-requires : tie.Need-check-cursor-requires
+check-cursor-requires c κs = search needs
 
-enum-known-running : tie.Need-enum-known-running
-enum-known-running c = search needs
+enum-known-cursor : tie.Need-enum-known-cursor
+enum-known-cursor c = search needs
 
-enum-known-running-2 : tie.Need-enum-known-running-2
-enum-known-running-2 c = search needs
+enum-told : tie.Need-enum-told
+enum-told c = search needs
 
-scan-rows-requires : tie.Need-scan-rows-requires
-scan-rows-requires c κs = search (running-ready)
+check-scan-end-requires : tie.Need-check-scan-end-requires
+check-scan-end-requires c κs = search needs
 
 returns : tie.Need-returns
-returns c = search (scan-first)
+returns c = search (scan-cursor)
 
 returns-2 : tie.Need-returns-2
-returns-2 c = search (scan-then)
+returns-2 c = search (scan-rest)
 
 pub check-scan-spec : {M : Type 1} → statement M
 check-scan-spec =
     tie.close
     (tie.spec
-    check-running-requires
-    enum-known-running
-    enum-known-running-2
-    scan-rows-requires
+    check-cursor-requires
+    enum-known-cursor
+    enum-told
+    check-scan-end-requires
     returns
     returns-2)

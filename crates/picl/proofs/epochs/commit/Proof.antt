@@ -1,10 +1,12 @@
-use Rattle.picl.proofs.Calling.{commit-within, commit-refused, commit-answered}
+use Rattle.checks.specs.Stages.{memories-passed, commit-first, memories-refused}
+use Rattle.picl.specs.Calls.{commitVerdict}
+use Rattle.picl.proofs.Calling.{judged-refused}
 use borrow.Author.Needs.{needs}
 use Rattle.picl.proofs.epochs.commit.Statement.{statement}
 use Rattle.picl.proofs.epochs.commit.Tie as tie
 
-check-commit-requires : tie.Need-check-commit-requires
-check-commit-requires c κs = search needs
+check-memories-requires : tie.Need-check-memories-requires
+check-memories-requires c κs = search needs
 
 enum-known-checked : tie.Need-enum-known-checked
 enum-known-checked c = search needs
@@ -12,26 +14,27 @@ enum-known-checked c = search needs
 refusal-requires : tie.Need-refusal-requires
 refusal-requires c κs = search needs
 
-enum-told : tie.Need-enum-told
-enum-told c = search needs
+enum-known-checked-2 : tie.Need-enum-known-checked-2
+enum-known-checked-2 c = search needs
 
-commit-passed-requires : tie.Need-commit-passed-requires
-commit-passed-requires c κs = search (commit-within)
+commit-shaped-requires : tie.Need-commit-shaped-requires
+commit-shaped-requires c κs = search (memories-passed)
 
 returns : tie.Need-returns
-returns c = search (commit-refused)
+unfolding commitVerdict
+returns c = search (judged-refused, commit-first, memories-refused)
 
 returns-2 : tie.Need-returns-2
-returns-2 c = search (commit-answered)
+returns-2 c = search needs
 
 pub commit-spec : {M : Type 1} → statement M
 commit-spec =
     tie.close
     (tie.spec
-    check-commit-requires
+    check-memories-requires
     enum-known-checked
     refusal-requires
-    enum-told
-    commit-passed-requires
+    enum-known-checked-2
+    commit-shaped-requires
     returns
     returns-2)

@@ -1,10 +1,12 @@
-use Rattle.picl.proofs.Calling.{scan-passed, scan-refused, scan-answered}
+use Rattle.checks.specs.Stages.{memories-passed, scan-first, memories-refused}
+use Rattle.picl.specs.Calls.{scanVerdict}
+use Rattle.picl.proofs.Calling.{judged-refused}
 use borrow.Author.Needs.{needs}
 use Rattle.picl.proofs.epochs.scan.Statement.{statement}
 use Rattle.picl.proofs.epochs.scan.Tie as tie
 
-check-scan-requires : tie.Need-check-scan-requires
-check-scan-requires c κs = search needs
+check-memories-requires : tie.Need-check-memories-requires
+check-memories-requires c κs = search needs
 
 enum-known-checked : tie.Need-enum-known-checked
 enum-known-checked c = search needs
@@ -15,8 +17,8 @@ refusal-requires c κs = search needs
 enum-known-checked-2 : tie.Need-enum-known-checked-2
 enum-known-checked-2 c = search needs
 
-scan-passed-requires : tie.Need-scan-passed-requires
-scan-passed-requires c κs = search (scan-passed)
+scan-shaped-requires : tie.Need-scan-shaped-requires
+scan-shaped-requires c κs = search (memories-passed)
 
 same-length : tie.Need-same-length
 same-length c = search needs
@@ -25,7 +27,8 @@ same-length-2 : tie.Need-same-length-2
 same-length-2 c = search needs
 
 returns : tie.Need-returns
-returns c = search (scan-refused)
+unfolding scanVerdict
+returns c = search (judged-refused, scan-first, memories-refused)
 
 same-length-3 : tie.Need-same-length-3
 same-length-3 c = search needs
@@ -34,17 +37,17 @@ same-length-4 : tie.Need-same-length-4
 same-length-4 c = search needs
 
 returns-2 : tie.Need-returns-2
-returns-2 c = search (scan-answered)
+returns-2 c = search needs
 
 pub scan-spec : {M : Type 1} → statement M
 scan-spec =
     tie.close
     (tie.spec
-    check-scan-requires
+    check-memories-requires
     enum-known-checked
     refusal-requires
     enum-known-checked-2
-    scan-passed-requires
+    scan-shaped-requires
     same-length
     same-length-2
     returns

@@ -1,10 +1,12 @@
-use Rattle.picl.proofs.Calling.{line-passed, evict-refused, evict-answered}
+use Rattle.checks.specs.Stages.{memories-passed, line-first, memories-refused}
+use Rattle.picl.specs.Calls.{evictVerdict}
+use Rattle.picl.proofs.Calling.{judged-refused}
 use borrow.Author.Needs.{needs}
 use Rattle.picl.proofs.lines.evict.Statement.{statement}
 use Rattle.picl.proofs.lines.evict.Tie as tie
 
-check-line-requires : tie.Need-check-line-requires
-check-line-requires c κs = search needs
+check-memories-requires : tie.Need-check-memories-requires
+check-memories-requires c κs = search needs
 
 enum-known-checked : tie.Need-enum-known-checked
 enum-known-checked c = search needs
@@ -15,8 +17,8 @@ refusal-requires c κs = search needs
 enum-known-checked-2 : tie.Need-enum-known-checked-2
 enum-known-checked-2 c = search needs
 
-evict-passed-requires : tie.Need-evict-passed-requires
-evict-passed-requires c κs = search (line-passed)
+evict-shaped-requires : tie.Need-evict-shaped-requires
+evict-shaped-requires c κs = search (memories-passed)
 
 same-length : tie.Need-same-length
 same-length c = search needs
@@ -25,7 +27,8 @@ same-length-2 : tie.Need-same-length-2
 same-length-2 c = search needs
 
 returns : tie.Need-returns
-returns c = search (evict-refused)
+unfolding evictVerdict
+returns c = search (judged-refused, line-first, memories-refused)
 
 same-length-3 : tie.Need-same-length-3
 same-length-3 c = search needs
@@ -34,17 +37,17 @@ same-length-4 : tie.Need-same-length-4
 same-length-4 c = search needs
 
 returns-2 : tie.Need-returns-2
-returns-2 c = search (evict-answered)
+returns-2 c = search needs
 
 pub evict-spec : {M : Type 1} → statement M
 evict-spec =
     tie.close
     (tie.spec
-    check-line-requires
+    check-memories-requires
     enum-known-checked
     refusal-requires
     enum-known-checked-2
-    evict-passed-requires
+    evict-shaped-requires
     same-length
     same-length-2
     returns

@@ -1,10 +1,12 @@
-use Rattle.picl.proofs.Calling.{store-passed, store-refused, store-answered}
+use Rattle.checks.specs.Stages.{memories-passed, store-first, line-first, memories-refused}
+use Rattle.picl.specs.Calls.{storeVerdict}
+use Rattle.picl.proofs.Calling.{judged-refused}
 use borrow.Author.Needs.{needs}
 use Rattle.picl.proofs.lines.store.Statement.{statement}
 use Rattle.picl.proofs.lines.store.Tie as tie
 
-check-store-requires : tie.Need-check-store-requires
-check-store-requires c κs = search needs
+check-memories-requires : tie.Need-check-memories-requires
+check-memories-requires c κs = search needs
 
 enum-known-checked : tie.Need-enum-known-checked
 enum-known-checked c = search needs
@@ -15,8 +17,8 @@ refusal-requires c κs = search needs
 enum-known-checked-2 : tie.Need-enum-known-checked-2
 enum-known-checked-2 c = search needs
 
-store-passed-requires : tie.Need-store-passed-requires
-store-passed-requires c κs = search (store-passed)
+store-shaped-requires : tie.Need-store-shaped-requires
+store-shaped-requires c κs = search (memories-passed)
 
 same-length : tie.Need-same-length
 same-length c = search needs
@@ -25,7 +27,8 @@ same-length-2 : tie.Need-same-length-2
 same-length-2 c = search needs
 
 returns : tie.Need-returns
-returns c = search (store-refused)
+unfolding storeVerdict
+returns c = search (judged-refused, store-first, line-first, memories-refused)
 
 same-length-3 : tie.Need-same-length-3
 same-length-3 c = search needs
@@ -34,17 +37,17 @@ same-length-4 : tie.Need-same-length-4
 same-length-4 c = search needs
 
 returns-2 : tie.Need-returns-2
-returns-2 c = search (store-answered)
+returns-2 c = search needs
 
 pub store-spec : {M : Type 1} → statement M
 store-spec =
     tie.close
     (tie.spec
-    check-store-requires
+    check-memories-requires
     enum-known-checked
     refusal-requires
     enum-known-checked-2
-    store-passed-requires
+    store-shaped-requires
     same-length
     same-length-2
     returns

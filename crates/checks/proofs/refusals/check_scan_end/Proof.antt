@@ -1,7 +1,7 @@
 use Rattle.checks.proofs.Rows.{scan-buffer, scan-waiting}
 use borrow.Author.Needs.{needs}
-use Rattle.checks.proofs.refusals.scan_end_rows.Statement.{statement}
-use Rattle.checks.proofs.refusals.scan_end_rows.Tie as tie
+use Rattle.checks.proofs.refusals.check_scan_end.Statement.{statement}
+use Rattle.checks.proofs.refusals.check_scan_end.Tie as tie
 
 check-buffer-requires : tie.Need-check-buffer-requires
 check-buffer-requires c κs = search needs
@@ -21,8 +21,8 @@ returns c = search (scan-buffer)
 returns-2 : tie.Need-returns-2
 returns-2 c = search (scan-waiting)
 
-pub scan-end-rows-spec : {M : Type 1} → statement M
-scan-end-rows-spec =
+pub check-scan-end-spec : {M : Type 1} → statement M
+check-scan-end-spec =
     tie.close
     (tie.spec
     check-buffer-requires

@@ -1,7 +1,7 @@
 use Rattle.checks.proofs.Rows.{room-spared, room-refused, room-found, room-spot}
 use borrow.Author.Needs.{needs}
-use Rattle.checks.proofs.refusals.room_rows.Statement.{statement}
-use Rattle.checks.proofs.refusals.room_rows.Tie as tie
+use Rattle.checks.proofs.refusals.check_room.Statement.{statement}
+use Rattle.checks.proofs.refusals.check_room.Tie as tie
 
 find-requires : tie.Need-find-requires
 find-requires c κs = search needs
@@ -24,7 +24,7 @@ returns-2 c = search (room-refused)
 returns-3 : tie.Need-returns-3
 returns-3 c = search (room-found)
 
-pub room-rows-spec : {M : Type 1} → statement M
-room-rows-spec =
+pub check-room-spec : {M : Type 1} → statement M
+check-room-spec =
     tie.close
     (tie.spec find-requires is-undo-due-requires returns add-if2 add-if2-2 returns-2 returns-3)
