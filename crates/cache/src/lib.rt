@@ -11,6 +11,7 @@ ghost use Rattle.cache.specs.Effects.{flushingIf, writingOut, clearing, 
 ghost use Rattle.cache.specs.Contracts.{SlotsReady, SpotReady, Acts, Ready, LineReady, SlotReady, PlaceReady};
 use board::Meter;
 use layout::BUFFER_WORDS;
+use layout::SLOT_WORDS;
 use layout::Slot;
 use undo::Progress;
 use undo::Undo;
@@ -86,7 +87,7 @@ pub fn is_proper_at(work: &[u64], bounds: Bounds, k: usize) -> bool
     requires { ⌜ 2 * k < length (now work) ⌝ }
     ensures { λ r. ⌜ r ≡ properAt bounds (now (work .entry)) k ⌝ }
 {
-    is_proper(work[2 * k], bounds, k)
+    is_proper(work[SLOT_WORDS * k], bounds, k)
 }
 
 // Whether the slot that an address belongs in is proper.
@@ -101,7 +102,7 @@ pub fn slot_at(work: &[u64], k: usize) -> Slot
     requires { ⌜ 2 * k + 2 ≤ length (now work) ⌝ }
     ensures { λ r. ⌜ Decoded SlotFits (slotIn (now (work .entry)) k) r ⌝ }
 {
-    Slot::decode(work[2 * k])
+    Slot::decode(work[SLOT_WORDS * k])
 }
 
 fn is_holding(work: &[u64], k: usize, address: u64) -> bool
@@ -178,7 +179,7 @@ pub fn leave(board: &mut [u64], work: &mut [u64], undo: Undo, k: usize, meter: M
     if !slot.dirty {
         return Progress { undo, meter };
     }
-    let value = work[2 * k + 1];
+    let value = work[SLOT_WORDS * k + 1];
     write_out(board, work, undo, slot.address, value, meter)
 }
 
@@ -188,7 +189,7 @@ pub fn empty(board: &mut [u64], work: &mut [u64], undo: Undo, k: usize, meter: M
     ensures { λ r. ⌜ Acts (now (board .entry)) meter (emptying undo (now (work .entry)) k) (now (board .exit)) (now (work .exit)) r ⌝ }
 {
     let left = leave(board, work, undo, k, meter);
-    base::set_pair(work, 2 * k, 0, 0);
+    base::set_pair(work, SLOT_WORDS * k, 0, 0);
     left
 }
 
@@ -212,5 +213,5 @@ pub fn fill(board: &[u64], work: &mut [u64], undo: Undo, k: usize, address: u64)
     ensures { λ _. ⌜ now (work .exit) ≡ filled (now (work .entry)) k address (lineIn (now (board .entry)) undo address) ⌝ }
 {
     let at = layout::lines_at(undo.entries) + address as usize;
-    base::set_pair(work, 2 * k, clean_word(address), board[at]);
+    base::set_pair(work, SLOT_WORDS * k, clean_word(address), board[at]);
 }

@@ -17,6 +17,7 @@ use layout::BUFFER_PLACES;
 use layout::BUFFER_WORDS;
 use layout::CONTROL_AT;
 use layout::Control;
+use layout::ENTRY_WORDS;
 use layout::LAST_EPOCH;
 use layout::LOG_AT;
 use layout::MOST_AHEAD;
@@ -202,7 +203,7 @@ impl View {
         if self.shape.entries > MOST_ENTRIES {
             return false;
         }
-        words as u64 == LOG_AT as u64 + 2 * self.shape.entries + self.shape.lines
+        words as u64 == LOG_AT as u64 + ENTRY_WORDS as u64 * self.shape.entries + self.shape.lines
     }
 
     fn is_good_control(self) -> bool

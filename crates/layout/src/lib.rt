@@ -62,6 +62,7 @@ pub const SHAPE_AT: usize = 1;
 
 pub const LOG_AT: usize = 2;
 
+// An undo entry, on the board and in the buffer: its packed word, then the old data.
 pub const ENTRY_WORDS: usize = 2;
 
 // Where the lines of a board begin whose log has place for so many entries.
@@ -69,14 +70,14 @@ pub fn lines_at(entries: u64) -> usize
     requires { ⌜ entries ≤ mostEntries ⌝ }
     ensures { λ r. ⌜ r ≡ linesAt entries ⌝ }
 {
-    LOG_AT + 2 * entries as usize
+    LOG_AT + ENTRY_WORDS * entries as usize
 }
 
 // A slot of the work memory: its slot word, then the line's data.
 pub const SLOT_WORDS: usize = 2;
 
 // The words of the buffer, which is the end of the work memory.
-pub const BUFFER_WORDS: usize = 2 * BUFFER_PLACES;
+pub const BUFFER_WORDS: usize = ENTRY_WORDS * BUFFER_PLACES;
 
 // The control word: the persisted epoch, and where in the ring the log starts and how many entries it has.
 pub struct Control {

@@ -19,6 +19,7 @@ use cache::Spot;
 use checks::Checked;
 use checks::Registers;
 use checks::View;
+use layout::SLOT_WORDS;
 use undo::Undo;
 
 fn load_at(
@@ -33,7 +34,7 @@ fn load_at(
     requires { ⌜ FillReady (now board) (now work) undo (spot .slot) address ⌝ }
     ensures { λ r. ⌜ Answers allowance registers (now (board .entry)) (now (work .entry)) (due (loadAt (now (board .entry)) (now (work .entry)) registers undo address spot)) (now (board .exit)) (now (work .exit)) r ⌝ }
 {
-    let at = 2 * spot.slot + 1;
+    let at = SLOT_WORDS * spot.slot + 1;
     let done = steps::load(board, work, undo, address, spot, Meter::new(allowance));
     let after = done.undo;
     let meter = done.meter;

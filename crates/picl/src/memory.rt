@@ -8,6 +8,7 @@ ghost use Rattle.picl.specs.Calls.{goodFormat, report as reported, dirty
 ghost use Rattle.picl.specs.Contracts.{Formats, CountsDirty};
 use crate::Report;
 use layout::BOARD_VERSION;
+use layout::ENTRY_WORDS;
 use layout::LOG_AT;
 use layout::MOST_ENTRIES;
 use layout::MOST_LINES;
@@ -31,7 +32,7 @@ fn is_good_format(words: usize, lines: u64, entries: u64) -> bool
     if entries > MOST_ENTRIES {
         return false;
     }
-    words as u64 == LOG_AT as u64 + 2 * entries + lines
+    words as u64 == LOG_AT as u64 + ENTRY_WORDS as u64 * entries + lines
 }
 
 fn reporting(status: Status, value: u64) -> Report

@@ -9,6 +9,7 @@ use checks::Registers;
 use layout::BUFFER_WORDS;
 use layout::CONTROL_AT;
 use layout::Control;
+use layout::SLOT_WORDS;
 use picl::Answer;
 use script::Command;
 use status::Status;
@@ -261,7 +262,7 @@ fn start(board: &mut [u64], work: &mut [u64], lines: u64, entries: u64, slots: u
     ensures { λ r. ⌜ Performs (starting lines entries slots (now (board .entry)) (now (work .entry))) (now (board .exit)) (now (work .exit)) r ⌝ }
 {
     let words = layout::lines_at(entries) + lines as usize;
-    let work_words = 2 * slots as usize + BUFFER_WORDS;
+    let work_words = SLOT_WORDS * slots as usize + BUFFER_WORDS;
     let answer = wake(
         &mut board[0..words],
         &mut work[0..work_words],

@@ -15,6 +15,7 @@ use cache::Spot;
 use layout::BUFFER_PLACES;
 use layout::BUFFER_WORDS;
 use layout::Entry;
+use layout::SLOT_WORDS;
 use layout::Slot;
 use undo::Progress;
 use undo::Undo;
@@ -82,10 +83,10 @@ fn log_store(
     requires { ⌜ LogStoreReady (now work) undo k slot address epoch ⌝ }
     ensures { λ r. ⌜ LogsStore (now (work .entry)) undo k slot address epoch value (now (work .exit)) r ⌝ }
 {
-    let old = work[2 * k + 1];
+    let old = work[SLOT_WORDS * k + 1];
     let entry = entry_for(slot, undo.control.persisted, epoch, address);
     let counted = log(work, undo, entry, old);
-    base::set_pair(work, 2 * k, dirty_word(address, epoch), value);
+    base::set_pair(work, SLOT_WORDS * k, dirty_word(address, epoch), value);
     counted
 }
 
@@ -105,7 +106,7 @@ pub fn mark(
 {
     let slot = cache::slot_at(work, k);
     if !is_entry_due(slot, epoch) {
-        base::set_pair(work, 2 * k, dirty_word(address, epoch), value);
+        base::set_pair(work, SLOT_WORDS * k, dirty_word(address, epoch), value);
         return Progress { undo, meter };
     }
     let counted = log_store(work, undo, k, slot, address, epoch, value);
@@ -140,7 +141,7 @@ fn enter(
         till: epoch,
     };
     let counted = log(work, undo, entry, old);
-    base::set_pair(work, 2 * k, dirty_word(address, epoch), value);
+    base::set_pair(work, SLOT_WORDS * k, dirty_word(address, epoch), value);
     cache::flush_if(
         counted.buffered == BUFFER_PLACES as u64,
         board,
@@ -164,7 +165,7 @@ fn sweep(
     requires { ⌜ address < 2 ^ addressBits ⌝ }
     ensures { λ r. ⌜ Acts (now (board .entry)) meter (sweeping undo (now (work .entry)) k) (now (board .exit)) (now (work .exit)) r ⌝ }
 {
-    let at = 2 * k;
+    let at = SLOT_WORDS * k;
     let value = work[at + 1];
     let done = cache::write_out(board, work, undo, address, value, meter);
     work[at] = cache::clean_word(address);

@@ -184,7 +184,7 @@ fn is_buffered_proper(buffer: &[u64], lines: u64, epoch: u64, i: usize) -> bool
     requires { ⌜ epoch < 2 ^ epochBits ⌝ }
     ensures { λ r. ⌜ r ≡ bufferedProper (now (buffer .entry)) lines epoch i ⌝ }
 {
-    let word = buffer[2 * i];
+    let word = buffer[ENTRY_WORDS * i];
     if !layout::is_address_below(word, lines) {
         return false;
     }
@@ -216,7 +216,7 @@ fn is_elsewhere(buffer: &[u64], address: u64, i: usize) -> bool
     requires { ⌜ 2 * i < length (now buffer) ⌝ }
     ensures { λ r. ⌜ r ≡ elsewhere (now (buffer .entry)) address i ⌝ }
 {
-    let entry = Entry::decode(buffer[2 * i]);
+    let entry = Entry::decode(buffer[ENTRY_WORDS * i]);
     entry.address != address
 }
 
@@ -240,7 +240,7 @@ pub fn push(buffer: &mut [u64], undo: Undo, entry: Entry, old: u64) -> Undo
     requires { ⌜ PushReady (now buffer) undo entry ⌝ }
     ensures { λ r. ⌜ Pushes (now (buffer .entry)) undo entry old (now (buffer .exit)) r ⌝ }
 {
-    let at = 2 * undo.buffered as usize;
+    let at = ENTRY_WORDS * undo.buffered as usize;
     base::set_pair(buffer, at, entry.encode(), old);
     undo.counted()
 }
