@@ -9,7 +9,7 @@ use lib.Dec.{leb, eqb}
 use lib.ListN.{length, getD}
 use Rattle.layout.specs.declared.Control.{Control}
 use Rattle.layout.specs.declared.Shape.{Shape}
-use Rattle.layout.specs.Limits.{mostSlots}
+use Rattle.layout.specs.Limits.{boardVersion, mostSlots}
 use Rattle.layout.specs.Memory.{logAt, controlAt, shapeAt, slotsOf, workWords}
 use Rattle.layout.specs.Words.{Decoded, ControlFits, ShapeFits, decodeControl, decodeShape}
 use Rattle.checks.specs.declared.Registers.{Registers}
@@ -26,14 +26,19 @@ module _ (v : View) (r : Registers) (t : Bool) (epoch : t ≡ properEpoch v r) w
   unfolding properRegisters
   proper-both u h a = a ∙ sym (rw (← epoch, not-false t h))
 
-module _ (words : ℕ) (v : View) (long : logAt ≤ words) (t : Bool) (sizes : t ≡ goodSizes words v) where
-  pub shape-not : not t ≡ true → false ≡ goodShape words v
+module _ (words : ℕ) (v : View) (long : logAt ≤ words) where
+  pub shape-other : (v .shape .version ≡ boardVersion → ⊥) → false ≡ goodShape words v
   unfolding goodShape
-  shape-not h = rw (le-leb logAt words long, ← sizes, not-true t h)
+  shape-other h = rw (le-leb logAt words long, ne-eqb (v .shape .version) boardVersion h)
 
-  pub shape-both : (u : Bool) → not t ≡ false → u ≡ goodControl v → u ≡ goodShape words v
-  unfolding goodShape
-  shape-both u h a = a ∙ sym (rw (le-leb logAt words long, ← sizes, not-false t h))
+  module _ (version : v .shape .version ≡ boardVersion) (t : Bool) (sizes : t ≡ goodSizes words (v .shape .lines) (v .shape .entries)) where
+    pub shape-not : not t ≡ true → false ≡ goodShape words v
+    unfolding goodShape
+    shape-not h = rw (le-leb logAt words long, eq-eqb (v .shape .version) boardVersion version, ← sizes, not-true t h)
+
+    pub shape-both : (u : Bool) → not t ≡ false → u ≡ goodControl v → u ≡ goodShape words v
+    unfolding goodShape
+    shape-both u h a = a ∙ sym (rw (le-leb logAt words long, eq-eqb (v .shape .version) boardVersion version, ← sizes, not-false t h))
 
 module _ (words : ℕ) where
   pub work-short : words < workWords 1 → false ≡ goodWork words

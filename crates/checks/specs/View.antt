@@ -15,16 +15,10 @@ use Rattle.checks.specs.declared.View.{View}
 unfoldable pub viewOf : List ℕ → List ℕ → View
 viewOf board work = record { control = controlIn board; shape = shapeIn board; slots = slotsOf (length work) }
 
--- "1 shape: fewer than 2 board words; 24 bits not zero; N or L out of range; wrong word count; P = 2^24 − 1; start ≥ L;
--- length > L"
-unfoldable pub goodSizes : (words : ℕ) → View → Bool
-goodSizes words v =
-    eqb (v .shape .version) boardVersion
-    && leb 1 (v .shape .lines)
-    && leb (v .shape .lines) mostLines
-    && leb 1 (v .shape .entries)
-    && leb (v .shape .entries) mostEntries
-    && eqb words (boardWords (v .shape .lines) (v .shape .entries))
+-- "N or L out of range; wrong word count", which format asks too
+unfoldable pub goodSizes : (words lines entries : ℕ) → Bool
+goodSizes words lines entries =
+    leb 1 lines && leb lines mostLines && leb 1 entries && leb entries mostEntries && eqb words (boardWords lines entries)
 
 unfoldable pub goodControl : View → Bool
 goodControl v =
@@ -32,8 +26,11 @@ goodControl v =
     && ltb (v .control .start) (v .shape .entries)
     && leb (v .control .length) (v .shape .entries)
 
+-- "1 shape: fewer than 2 board words; 24 bits not zero; N or L out of range; wrong word count; P = 2^24 − 1; start ≥ L;
+-- length > L"
 unfoldable pub goodShape : (words : ℕ) → View → Bool
-goodShape words v = leb logAt words && goodSizes words v && goodControl v
+goodShape words v =
+    leb logAt words && eqb (v .shape .version) boardVersion && goodSizes words (v .shape .lines) (v .shape .entries) && goodControl v
 
 -- "2 work: work memory is not 2S + 64 words, S 1 to 256"
 unfoldable pub goodWork : (words : ℕ) → Bool

@@ -185,27 +185,6 @@ impl View {
         }
     }
 
-    fn is_good_sizes(self, words: usize) -> bool
-        ensures { λ r. ⌜ r ≡ goodSizes words self ⌝ }
-    {
-        if self.shape.version != BOARD_VERSION {
-            return false;
-        }
-        if self.shape.lines < 1 {
-            return false;
-        }
-        if self.shape.lines > MOST_LINES {
-            return false;
-        }
-        if self.shape.entries < 1 {
-            return false;
-        }
-        if self.shape.entries > MOST_ENTRIES {
-            return false;
-        }
-        words as u64 == LOG_AT as u64 + ENTRY_WORDS as u64 * self.shape.entries + self.shape.lines
-    }
-
     fn is_good_control(self) -> bool
         ensures { λ r. ⌜ r ≡ goodControl self ⌝ }
     {
@@ -222,7 +201,10 @@ impl View {
         requires { ⌜ logAt ≤ words ⌝ }
         ensures { λ r. ⌜ r ≡ goodShape words self ⌝ }
     {
-        if !self.is_good_sizes(words) {
+        if self.shape.version != BOARD_VERSION {
+            return false;
+        }
+        if !is_good_sizes(words, self.shape.lines, self.shape.entries) {
             return false;
         }
         self.is_good_control()
@@ -251,6 +233,25 @@ impl View {
             buffered: registers.buffered,
         }
     }
+}
+
+// Of 1: N, L and the word count.
+pub fn is_good_sizes(words: usize, lines: u64, entries: u64) -> bool
+    ensures { λ r. ⌜ r ≡ goodSizes words lines entries ⌝ }
+{
+    if lines < 1 {
+        return false;
+    }
+    if lines > MOST_LINES {
+        return false;
+    }
+    if entries < 1 {
+        return false;
+    }
+    if entries > MOST_ENTRIES {
+        return false;
+    }
+    words as u64 == LOG_AT as u64 + ENTRY_WORDS as u64 * entries + lines
 }
 
 // 2.

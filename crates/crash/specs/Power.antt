@@ -53,11 +53,10 @@ shape-good {N} {L} {board} s work =
     let c = s .control in
     rw (s .shape)
     (and-true _ _
-    (and-true _ _ (le-leb logAt (length board) (omega (arith, s .words)))
+    (and-true _ _ (and-true _ _ (le-leb logAt (length board) (omega (arith, s .words))) refl)
     (and-true _ _
     (and-true _ _
-    (and-true _ _
-    (and-true _ _ (and-true _ _ refl (le-leb 1 N (s .some-lines))) (le-leb N mostLines (s .most-lines))) (le-leb 1 L (s .some-entries)))
+    (and-true _ _ (and-true _ _ (le-leb 1 N (s .some-lines)) (le-leb N mostLines (s .most-lines))) (le-leb 1 L (s .some-entries)))
     (le-leb L mostEntries (s .most-entries)))
     (eq-eqb (length board) (boardWords N L) (s .words))))
     (and-true _ _

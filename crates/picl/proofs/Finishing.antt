@@ -1,11 +1,10 @@
 -- From the meter at the end of a call to its answer.
-use Prim.Native.Nat.{ℕ, _+_, _-_, _*_, _<_, _≤_}
+use Prim.Native.Nat.{ℕ, _+_, _-_, _<_, _≤_}
 use mathlib.Core.Path.{_≡_, refl, sym, ap, _∙_}
-use mathlib.Core.Bool.{Bool, true, false, cond}
+use mathlib.Core.Bool.{Bool, true, false}
 use mathlib.Core.List.{List, []}
 use native.Mathlib.Omega.{arith}
 use borrow.Author.Tests.{le-leb, lt-leb}
-use lib.Dec.{leb}
 use lib.ListN.{length, replicate}
 use lib.Seq.{take-nil}
 use Rattle.board.specs.declared.Meter.{Meter}
@@ -20,7 +19,7 @@ use Rattle.cache.specs.Contracts.{Acts, Carries}
 use Rattle.checks.specs.declared.Registers.{Registers}
 use Rattle.checks.specs.Registers.{zero, buffering}
 use Rattle.picl.specs.declared.Answer.{Answer}
-use Rattle.picl.specs.Answers.{Outcome, Verdict, refused, due, refusal, cutOff, answerOf, boardAfter, workAfter}
+use Rattle.picl.specs.Answers.{Outcome, refused, due, refusal, answerOf, boardAfter, workAfter}
 use Rattle.picl.specs.Calls.{carried}
 use Rattle.picl.specs.Contracts.{Answers, Finishes}
 

@@ -1,13 +1,9 @@
 -- What a call's passed tests give its steps.
-use Prim.Native.Nat.{ℕ, _+_, _*_, _<_, _≤_}
-use mathlib.Core.Path.{_≡_, refl, sym, ap, _∙_}
-use mathlib.Core.Bool.{true, false}
+use Prim.Native.Nat.{ℕ, _+_, _<_}
+use mathlib.Core.Path.{_≡_}
 use mathlib.Core.List.{List}
 use native.Mathlib.Omega.{arith}
-use lib.ListN.{length}
-use Rattle.layout.specs.Memory.{slotIn}
 use Rattle.undo.specs.declared.Undo.{Undo}
-use Rattle.undo.specs.Log.{Sound}
 use Rattle.cache.specs.declared.Spot.{Spot}
 use Rattle.cache.specs.Contracts.{Ready, SlotReady, FillReady, StoreReady, PersistReady}
 use Rattle.cache.specs.Laws.{spot-below, spot-named, proper-named}

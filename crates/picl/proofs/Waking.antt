@@ -1,12 +1,11 @@
 -- Power-up, format and tally: one law for each way out of a function.
 use Prim.Native.Nat.{ℕ, _+_, _-_, _*_, _<_, _≤_}
 use mathlib.Core.Path.{_≡_, refl, sym, ap, _∙_}
-use mathlib.Core.Bool.{Bool, true, false, not, cond, _&&_}
+use mathlib.Core.Bool.{Bool, true, false, not, _&&_}
 use mathlib.Core.List.{List}
 use native.Mathlib.Numerals.{add-one}
 use native.Mathlib.Omega.{arith}
-use borrow.Author.Tests.{lt-ltb, le-ltb, ltb-true, not-true, not-false}
-use lib.Dec.{ltb}
+use borrow.Author.Tests.{lt-ltb, le-ltb, not-true, not-false}
 use lib.ListN.{length, getD, set, replicate, length-replicate}
 use Rattle.base.specs.Tests.{held}
 use Rattle.base.specs.Walk.{first, first-all}
@@ -29,11 +28,11 @@ use Rattle.checks.specs.Contracts.{Shaped}
 use Rattle.checks.specs.Laws.{memories-shaped}
 use Rattle.checks.specs.Refusals.{memoriesChecked}
 use Rattle.checks.specs.Registers as registers
-use Rattle.checks.specs.View.{goodWork, undoOf}
+use Rattle.checks.specs.View.{goodSizes, goodWork, undoOf}
 use Rattle.picl.specs.declared.Answer.{Answer}
 use Rattle.picl.specs.declared.Report.{Report}
-use Rattle.picl.specs.Answers.{Verdict, due, refusal}
-use Rattle.picl.specs.Calls.{wakeAt, wakeVerdict, powerUpVerdict, goodFormat, formatted, shapeOf, report, formatReport, formatAfter}
+use Rattle.picl.specs.Answers.{due, refusal}
+use Rattle.picl.specs.Calls.{wakeAt, wakeVerdict, powerUpVerdict, formatted, shapeOf, report, formatReport, formatAfter}
 use Rattle.picl.specs.Calls.{dirtySlots, tallyReport}
 use Rattle.picl.specs.Contracts.{Answers, Formats, Finishes, CountsDirty}
 use Rattle.picl.proofs.Finishing.{answers-refused, answers-due}
@@ -107,24 +106,24 @@ module _ (allowance : ℕ) (board work : List ℕ) (k : Checked) (is : k ≡ mem
     power-up-answered board′ work′ a x = rw (← is, e) x
 
 -- format
-fits-of : (words lines entries : ℕ) → goodFormat words lines entries ≡ true → ShapeFits (shapeOf lines entries)
-unfolding goodFormat
+fits-of : (words lines entries : ℕ) → goodSizes words lines entries ≡ true → ShapeFits (shapeOf lines entries)
+unfolding goodSizes
 fits-of words lines entries h =
     let a : lines ≤ mostLines = search held depth 12 in
     let b : entries ≤ mostEntries = search held depth 12 in
     omega arith
 
-words-of : (board : List ℕ) (lines entries : ℕ) → goodFormat (length board) lines entries ≡ true → length board ≡ boardWords lines entries
-unfolding goodFormat
+words-of : (board : List ℕ) (lines entries : ℕ) → goodSizes (length board) lines entries ≡ true → length board ≡ boardWords lines entries
+unfolding goodSizes
 words-of board lines entries h = search held depth 12
 
-module _ (board : List ℕ) (lines entries : ℕ) (t : Bool) (test : t ≡ goodFormat (length board) lines entries) where
+module _ (board : List ℕ) (lines entries : ℕ) (t : Bool) (test : t ≡ goodSizes (length board) lines entries) where
   pub format-refused : (r : Report) → not t ≡ true → r ≡ report status.Shape 0 → Formats board lines entries board r
   unfolding formatReport formatAfter
   format-refused r h x = record { report = rw (← test, not-true t h) x; board-left = rw (← test, not-true t h) }
 
   module _ (good : not t ≡ false) where
-    sizes : goodFormat (length board) lines entries ≡ true
+    sizes : goodSizes (length board) lines entries ≡ true
     sizes = sym test ∙ not-false t good
 
     pub format-fits : ShapeFits (shapeOf lines entries)

@@ -1,11 +1,11 @@
 -- The eight calls: what each comes to on any memories, registers and arguments.
 use Prim.Native.Nat.{ℕ, zero, suc, _+_}
-use mathlib.Core.Bool.{Bool, cond, _&&_}
+use mathlib.Core.Bool.{cond, _&&_}
 use mathlib.Core.List.{List, []}
-use lib.Dec.{ltb, leb, eqb}
+use lib.Dec.{ltb}
 use lib.ListN.{length, set, replicate}
 use Rattle.layout.specs.declared.Shape.{Shape}
-use Rattle.layout.specs.Limits.{boardVersion, mostLines, mostEntries}
+use Rattle.layout.specs.Limits.{boardVersion}
 use Rattle.layout.specs.Memory.{shapeAt, boardWords, slotsOf, slotIn, dataIn}
 use Rattle.layout.specs.Words.{bit, encodeShape}
 use Rattle.status.specs.declared.Status.{Status}
@@ -20,7 +20,7 @@ use Rattle.checks.specs.declared.Checked.the-variants.{Refused, Passed}
 use Rattle.checks.specs.declared.Registers.{Registers}
 use Rattle.checks.specs.declared.View.{View}
 use Rattle.checks.specs.Registers as registers
-use Rattle.checks.specs.View.{goodWork, undoOf}
+use Rattle.checks.specs.View.{goodSizes, goodWork, undoOf}
 use Rattle.checks.specs.Refusals.{memoriesChecked, lineChecked, storeChecked, commitChecked, scanChecked}
 use Rattle.picl.specs.declared.Report.{Report}
 use Rattle.picl.specs.Answers.{Outcome, Verdict, refused, due}
@@ -114,10 +114,6 @@ powerUpVerdict board work = woken board work (memoriesChecked board work)
 
 -- "Format (N, L): every board word zero, but for the shape word. .. reports 0 stores." "Format's shape test reads its arguments and
 -- the word count only."
-unfoldable pub goodFormat : (words lines entries : ℕ) → Bool
-goodFormat words lines entries =
-    leb 1 lines && leb lines mostLines && leb 1 entries && leb entries mostEntries && eqb words (boardWords lines entries)
-
 abbrev pub shapeOf : (lines entries : ℕ) → Shape
 shapeOf lines entries = record { version = boardVersion; lines = lines; entries = entries }
 
@@ -128,10 +124,10 @@ abbrev pub report : Status → (value : ℕ) → Report
 report why value = record { status = why; value = value; stores = 0 }
 
 unfoldable pub formatReport : (board : List ℕ) → (lines entries : ℕ) → Report
-formatReport board lines entries = report (cond (goodFormat (length board) lines entries) status.Ok status.Shape) 0
+formatReport board lines entries = report (cond (goodSizes (length board) lines entries) status.Ok status.Shape) 0
 
 unfoldable pub formatAfter : (board : List ℕ) → (lines entries : ℕ) → List ℕ
-formatAfter board lines entries = cond (goodFormat (length board) lines entries) (formatted lines entries) board
+formatAfter board lines entries = cond (goodSizes (length board) lines entries) (formatted lines entries) board
 
 -- "Tally: the number of slot words whose valid and dirty bits are both 1, whatever else they hold."
 unfoldable pub dirtySlots : List ℕ → ℕ → ℕ

@@ -4,36 +4,14 @@ ghost use lib.ListN.{length};
 ghost use mathlib.Core.Path.{_≡_};
 ghost use Rattle.checks.specs.Registers.{zero};
 ghost use Rattle.status.specs.declared.Status.the-variants as status;
-ghost use Rattle.picl.specs.Calls.{goodFormat, report as reported, dirtySlots, tallyReport};
+ghost use Rattle.picl.specs.Calls.{report as reported, dirtySlots, tallyReport};
 ghost use Rattle.picl.specs.Contracts.{Formats, CountsDirty};
 use crate::Report;
 use layout::BOARD_VERSION;
-use layout::ENTRY_WORDS;
-use layout::LOG_AT;
-use layout::MOST_ENTRIES;
-use layout::MOST_LINES;
 use layout::SHAPE_AT;
 use layout::SLOT_WORDS;
 use layout::Shape;
 use status::Status;
-
-fn is_good_format(words: usize, lines: u64, entries: u64) -> bool
-    ensures { λ r. ⌜ r ≡ goodFormat words lines entries ⌝ }
-{
-    if lines < 1 {
-        return false;
-    }
-    if lines > MOST_LINES {
-        return false;
-    }
-    if entries < 1 {
-        return false;
-    }
-    if entries > MOST_ENTRIES {
-        return false;
-    }
-    words as u64 == LOG_AT as u64 + ENTRY_WORDS as u64 * entries + lines
-}
 
 fn reporting(status: Status, value: u64) -> Report
     ensures { λ r. ⌜ r ≡ reported status value ⌝ }
@@ -49,7 +27,7 @@ fn reporting(status: Status, value: u64) -> Report
 pub fn format(board: &mut [u64], lines: u64, entries: u64) -> Report
     ensures { λ r. ⌜ Formats (now (board .entry)) lines entries (now (board .exit)) r ⌝ }
 {
-    if !is_good_format(board.len(), lines, entries) {
+    if !checks::is_good_sizes(board.len(), lines, entries) {
         return reporting(Status::Shape, 0);
     }
     base::clear(board);

@@ -1,28 +1,26 @@
 -- Making a held line dirty: the undo entry of a store, and where it goes.
-use Prim.Native.Nat.{ℕ, _+_, _-_, _*_, _^_, _<_, _≤_}
-use mathlib.Core.Path.{_≡_, refl, sym, ap, _∙_}
+use Prim.Native.Nat.{ℕ, _+_, _-_, _*_, _^_, _<_}
+use mathlib.Core.Path.{_≡_, refl, sym, _∙_}
 use mathlib.Core.Bool.{Bool, true, false, not, cond}
-use mathlib.Core.List.{List, [], _++_}
+use mathlib.Core.List.{List, _++_}
 use native.Mathlib.Omega.{arith}
 use borrow.Author.Tests.{not-true, not-false}
 use lib.Dec.{eqb}
-use lib.ListN.{length, getD, take, drop}
+use lib.ListN.{length, take, drop}
 use Rattle.base.specs.Parts.{setPair, rest-lent, rest-back}
 use Rattle.board.specs.declared.Meter.{Meter}
 use Rattle.board.specs.Laws.{ran-none}
 use Rattle.layout.specs.declared.Entry.{Entry}
 use Rattle.layout.specs.declared.Slot.{Slot}
-use Rattle.layout.specs.Limits.{addressBits, epochBits, bufferPlaces}
+use Rattle.layout.specs.Limits.{epochBits, bufferPlaces}
 use Rattle.layout.specs.Memory.{bufferWords, slotIn, dataIn}
-use Rattle.layout.specs.Words.{Decoded, SlotFits, EntryFits, encodeSlot}
+use Rattle.layout.specs.Words.{Decoded, SlotFits, encodeSlot}
 use Rattle.undo.specs.declared.Undo.{Undo}
 use Rattle.undo.specs.declared.Progress.{Progress}
-use Rattle.undo.specs.Log.{counted}
 use Rattle.undo.specs.Contracts.{Pushes}
 use Rattle.undo.specs.Laws.{sound-counted}
-use Rattle.cache.specs.declared.Spot.{Spot}
 use Rattle.cache.specs.Slots.{dirtySlot, dirtied}
-use Rattle.cache.specs.Effects.{withBuffer, flushingIf, entryDue, entryFor, undoDue, logged, marking}
+use Rattle.cache.specs.Effects.{withBuffer, flushingIf, entryDue, entryFor, logged, marking}
 use Rattle.cache.specs.Contracts.{Acts, Logs, LogReady, LogsStore, LogStoreReady, Ready, MarkReady}
 
 -- the undo entry of a store
@@ -103,15 +101,3 @@ module _ (board work : List ℕ) (u : Undo) (k address epoch value : ℕ) (m : M
         → Acts board m (marking u work k address epoch value) board′ work″ r
     unfolding marking
     mark-logged board′ work″ r y = rw (← due, not-false t made, ← read .is, ← log .memory) (rw (log .undo) at y)
-
-pub mark-log-ready : (board work : List ℕ) (u : Undo) (k address epoch : ℕ) (s : Slot) → Decoded SlotFits (slotIn work k) s
-    → MarkReady board work u k address epoch → LogStoreReady work u k s address epoch
-mark-log-ready board work u k address epoch s read ready =
-    record {
-      within = ready .within;
-      place = ready .place;
-      persisted = ready .ready .sound .persisted;
-      tag = read .fits .tag;
-      address-fits = ready .address-fits;
-      epoch-fits = ready .epoch-fits;
-    }

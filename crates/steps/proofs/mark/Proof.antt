@@ -1,4 +1,4 @@
-use Rattle.steps.proofs.Marking.{mark-again, mark-log-ready, mark-flush-ready, mark-logged}
+use Rattle.steps.proofs.Marking.{mark-again, mark-flush-ready, mark-logged}
 use borrow.Author.Needs.{needs}
 use Rattle.steps.proofs.mark.Statement.{statement}
 use Rattle.steps.proofs.mark.Tie as tie

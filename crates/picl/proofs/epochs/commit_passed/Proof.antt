@@ -1,5 +1,3 @@
-use mathlib.Core.Path.{ap, _∙_}
-use Rattle.checks.specs.declared.Registers.{Registers}
 use Rattle.status.specs.declared.Status.the-variants as status
 use Rattle.picl.specs.Answers.{refusal}
 use borrow.Author.Needs.{needs}

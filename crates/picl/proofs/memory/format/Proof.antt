@@ -3,8 +3,8 @@ use borrow.Author.Needs.{needs}
 use Rattle.picl.proofs.memory.format.Statement.{statement}
 use Rattle.picl.proofs.memory.format.Tie as tie
 
-is-good-format-requires : tie.Need-is-good-format-requires
-is-good-format-requires c κs = search needs
+is-good-sizes-requires : tie.Need-is-good-sizes-requires
+is-good-sizes-requires c κs = search needs
 
 reporting-requires : tie.Need-reporting-requires
 reporting-requires c κs = search needs
@@ -34,7 +34,7 @@ pub format-spec : {M : Type 1} → statement M
 format-spec =
     tie.close
     (tie.spec
-    is-good-format-requires
+    is-good-sizes-requires
     reporting-requires
     returns
     clear-requires

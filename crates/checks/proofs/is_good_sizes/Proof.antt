@@ -1,23 +1,23 @@
 use Rattle.base.specs.Tests.{tests}
-use Rattle.picl.specs.Calls.{goodFormat}
+use Rattle.checks.specs.View.{goodSizes}
 use borrow.Author.Needs.{needs}
-use Rattle.picl.proofs.memory.is_good_format.Statement.{statement}
-use Rattle.picl.proofs.memory.is_good_format.Tie as tie
+use Rattle.checks.proofs.is_good_sizes.Statement.{statement}
+use Rattle.checks.proofs.is_good_sizes.Tie as tie
 
 returns : tie.Need-returns
-unfolding goodFormat
+unfolding goodSizes
 returns c = search tests
 
 returns-2 : tie.Need-returns-2
-unfolding goodFormat
+unfolding goodSizes
 returns-2 c = search tests
 
 returns-3 : tie.Need-returns-3
-unfolding goodFormat
+unfolding goodSizes
 returns-3 c = search tests
 
 returns-4 : tie.Need-returns-4
-unfolding goodFormat
+unfolding goodSizes
 returns-4 c = search tests
 
 mul-result : tie.Need-mul-result
@@ -30,10 +30,10 @@ add-result-2 : tie.Need-add-result-2
 add-result-2 c = search needs
 
 returns-5 : tie.Need-returns-5
-unfolding goodFormat
+unfolding goodSizes
 returns-5 c = search tests
 
-pub is-good-format-spec : {M : Type 1} → statement M
-is-good-format-spec =
+pub is-good-sizes-spec : {M : Type 1} → statement M
+is-good-sizes-spec =
     tie.close
     (tie.spec returns returns-2 returns-3 returns-4 mul-result add-result add-result-2 returns-5)
