@@ -7,6 +7,7 @@ mod handwritten;
 mod interface;
 mod library;
 mod loom;
+mod order;
 mod random;
 
 use std::process::ExitCode;
@@ -21,7 +22,11 @@ picl-bench bench --row NAME --side library|handwritten --repeat COUNT
 picl-bench rows
     the names of the rows
 picl-bench loom
-    what the loom's work asks of a board";
+    what the loom's work asks of a board
+picl-bench order play
+    play a history, for a tool that records stores; prints where board and mark are
+picl-bench order check PLACES RECORD
+    hold its record to the stores that were due";
 
 fn main() -> ExitCode {
     let words: Vec<String> = std::env::args().skip(1).collect();
@@ -44,6 +49,7 @@ fn run(words: &[String]) -> Result<(), String> {
             Ok(())
         }
         "loom" => loom::print_figures(),
+        "order" => run_order(flags),
         _ => Err(USAGE.to_string()),
     }
 }
@@ -77,6 +83,17 @@ fn run_benchmark(flags: &[String]) -> Result<(), String> {
         _ => return Err(USAGE.to_string()),
     }
     Ok(())
+}
+
+fn run_order(flags: &[String]) -> Result<(), String> {
+    match flags {
+        [play] if play == "play" => {
+            order::play();
+            Ok(())
+        }
+        [check, places, record] if check == "check" => order::check(places, record),
+        _ => Err(USAGE.to_string()),
+    }
 }
 
 fn number(text: &str) -> Result<u64, String> {
