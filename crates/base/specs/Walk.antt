@@ -80,3 +80,12 @@ all-from f (suc k) i j e h g = go (all-from f k (suc i) j) (f i) refl e
 
 pub first-all : (f : ℕ → Bool) (n : ℕ) → n ≤ first f n → (j : ℕ) → j < n → f j ≡ true
 first-all f n h j g = all-from f n 0 j (omega arith) (omega arith) (omega arith)
+
+-- and where every test holds, the walk comes to the end
+module _ (f : ℕ → Bool) (n : ℕ) (all : (i : ℕ) → i < n → f i ≡ true) where
+  walked : (i : ℕ) → i ≤ n → Walked f n i
+  walked zero h = walk-start f n
+  walked (suc i) h = rw add-one at (walk-pass (walked i (omega arith)) h (all i h))
+
+  pub all-first : leb n (first f n) ≡ true
+  all-first = sym (walk-all (walked n (omega arith)) (omega arith))

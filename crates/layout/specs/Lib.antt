@@ -3,3 +3,4 @@ pub mod Fields
 pub mod Words
 pub mod Memory
 pub mod Laws
+pub mod ZeroWord

@@ -23,7 +23,7 @@ use Rattle.volatile.specs.Proper.{AtHome, is-clean, is-dirty, ProperSlot, is-em
 use Rattle.volatile.specs.Slotted.{slot-kind}
 use Rattle.volatile.specs.Stores.{Stored, zeroed-empty, zeroed-held}
 use Rattle.volatile.specs.Swept.{swept-stored, clean-after}
-use Rattle.volatile.specs.ZeroWord.{emptySlot}
+use Rattle.layout.specs.ZeroWord.{emptySlot}
 use Rattle.volatile.specs.View.{volatileOf, withLines}
 use Rattle.refine.specs.State.{Ok}
 use Rattle.refine.specs.Along.{along-none}

@@ -10,7 +10,7 @@ use borrow.Author.Tests.{ltb-false, eqb-false, not-true, lt-ltb, le-leb}
 use lib.Dec.{eqb}
 use lib.ListN.{length, getD, set, length-set, length-drop, replicate, length-replicate}
 use lib.Seq.{getD-set-same, getD-set-other}
-use Rattle.base.specs.Walk.{first, first-all}
+use Rattle.base.specs.Walk.{first, first-all, all-first}
 use Rattle.layout.specs.declared.Entry as layout
 use Rattle.layout.specs.Laws.{decode-encode-entry}
 use Rattle.layout.specs.Limits.{bufferPlaces}
@@ -25,7 +25,6 @@ use Rattle.history.specs.Machine.{Entry, Silent}
 use Rattle.history.specs.Recall.{here-or-there, silent-away}
 use Rattle.durable.specs.Listed.{listed, listed-same, listed-append, every-listed}
 use Rattle.durable.specs.View.{entryWith, bufferedAt, bufferOf}
-use Rattle.volatile.specs.Walk.{all-first}
 
 pub buffer-none : (buffer : List ℕ) → bufferOf buffer 0 ≡ []
 unfolding listed

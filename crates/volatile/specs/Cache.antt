@@ -15,7 +15,7 @@ use Rattle.layout.specs.Words.{SlotFits}
 use Rattle.cache.specs.Slots.{homeOf, holds, spotOf, cleanSlot, dirtySlot}
 use Rattle.history.specs.Machine.{Line, absent, clean, dirty, update}
 use Rattle.history.specs.Recall.{here-or-there, update-same, update-other}
-use Rattle.volatile.specs.ZeroWord.{emptySlot}
+use Rattle.layout.specs.ZeroWord.{emptySlot}
 use Rattle.volatile.specs.Parts.{slotPut, put-slot, put-value, put-other-word, put-other-value}
 use Rattle.volatile.specs.Held.{heldBy, heldIn, held-absent, empty-held, clean-held, dirty-held}
 

@@ -10,7 +10,7 @@ use Rattle.layout.specs.declared.Slot.{Slot}
 use Rattle.layout.specs.Memory.{slotIn, dataIn}
 use Rattle.cache.specs.Slots.{holds, cleanSlot, dirtySlot}
 use Rattle.history.specs.Machine.{Line, absent, clean, dirty}
-use Rattle.volatile.specs.ZeroWord.{emptySlot}
+use Rattle.layout.specs.ZeroWord.{emptySlot}
 
 unfoldable pub heldBy : Slot → (value address : ℕ) → Line
 heldBy s value address =

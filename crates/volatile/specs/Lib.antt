@@ -1,9 +1,6 @@
 -- The work memory as history's volatile state. To be believed: `Belongs` and `cacheOf` in Cache, `bufferOf` in durable's View,
 -- `volatileOf` in View. To be cited: Proper and Slotted for the cases of a slot, Stores for a store to a slot, Buffer for the
 -- tests of the buffer, View for what a step makes of the volatile state, Swept for the scan.
--- ZeroWord and Walk have laws that belong in lower crates.
-pub mod ZeroWord
-pub mod Walk
 pub mod Parts
 pub mod Held
 pub mod Cache

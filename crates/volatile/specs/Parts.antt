@@ -13,7 +13,7 @@ use Rattle.layout.specs.Laws.{decode-encode-slot}
 use Rattle.base.specs.Parts.{setPair}
 use Rattle.cache.specs.Slots.{cleanSlot, dirtySlot, zeroed, filled, dirtied, cleaned}
 use Rattle.cache.specs.Effects.{withBuffer}
-use Rattle.volatile.specs.ZeroWord.{emptySlot, encode-empty}
+use Rattle.layout.specs.ZeroWord.{emptySlot, encode-empty}
 
 -- ---- another slot in place of slot k
 

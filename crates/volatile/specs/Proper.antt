@@ -15,7 +15,7 @@ use Rattle.layout.specs.Memory.{slotIn}
 use Rattle.layout.specs.Words.{encodeSlot, decodeSlot, SlotFits}
 use Rattle.cache.specs.declared.Bounds.{Bounds}
 use Rattle.cache.specs.Slots.{properTag, properFull, properSlot, properAt, holds, cleanSlot, dirtySlot}
-use Rattle.volatile.specs.ZeroWord.{emptySlot, encode-empty, decode-zero}
+use Rattle.layout.specs.ZeroWord.{emptySlot, encode-empty, decode-zero}
 use Rattle.volatile.specs.Cache.{Belongs}
 
 -- The board has the line at an address, and it may stand in slot k.

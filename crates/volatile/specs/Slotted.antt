@@ -12,7 +12,7 @@ use Rattle.cache.specs.declared.Bounds.{Bounds}
 use Rattle.cache.specs.Slots.{properSlot, properAt, holds}
 use Rattle.cache.specs.Effects.{withBuffer}
 use Rattle.history.specs.Machine.{absent}
-use Rattle.volatile.specs.ZeroWord.{decode-zero}
+use Rattle.layout.specs.ZeroWord.{decode-zero}
 use Rattle.volatile.specs.Parts.{with-length, with-word}
 use Rattle.volatile.specs.Cache.{cacheOf, cache-same, cache-empty}
 use Rattle.volatile.specs.Proper.{AtHome, FullSlot, ProperSlot, proper-slot, held-home, held-full}

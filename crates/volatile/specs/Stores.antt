@@ -13,7 +13,7 @@ use Rattle.cache.specs.declared.Bounds.{Bounds}
 use Rattle.cache.specs.Slots.{properAt, holds, cleanSlot, dirtySlot, zeroed, filled, dirtied, cleaned}
 use Rattle.history.specs.Machine.{Line, absent, clean, dirty, update}
 use Rattle.history.specs.Recall.{here-or-there}
-use Rattle.volatile.specs.ZeroWord.{emptySlot, empty-fits}
+use Rattle.layout.specs.ZeroWord.{emptySlot, empty-fits}
 use Rattle.volatile.specs.Parts.{slotPut, zeroed-put, filled-put, dirtied-put, cleaned-put}
 use Rattle.volatile.specs.Parts.{put-length, put-word, put-slot, put-value, put-other-word, put-buffer}
 use Rattle.volatile.specs.Held.{heldBy, heldIn, other-held, empty-held, clean-held, dirty-held}

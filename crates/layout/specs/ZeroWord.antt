@@ -1,11 +1,11 @@
--- The slot word 0: an empty slot. Laws of a packed word, that belong beside layout's.
+-- The slot word 0: an empty slot.
 use mathlib.Core.Path.{_≡_, refl, sym, ap, _∙_}
 use mathlib.Core.Bool.{false}
 use native.Mathlib.Omega.{arith}
 use Rattle.layout.specs.declared.Slot.{Slot}
 use Rattle.layout.specs.Fields.{pack, width}
 use Rattle.layout.specs.Laws.{decode-encode-slot}
 use Rattle.layout.specs.Words.{encodeSlot, decodeSlot, SlotFits}
 
 abbrev pub emptySlot : Slot
 emptySlot = record { valid = false; dirty = false; address = 0; tag = 0; spare = 0 }
