@@ -39,6 +39,11 @@ enum {
     FIRST_CARD = 8,
     CARDS = 48,
 
+    /* The beam's tension, as a function of the pick. */
+    LEAST_TENSION = 1000,
+    TENSION_STEP = 7,
+    TENSION_SPAN = 50,
+
     PICKS_AN_EPOCH = 20,
     EPOCHS = 40,
     MOST_CUTS = 1000 /* with fewer stores between two cuts than an epoch takes, the loom never gets on */
@@ -70,7 +75,7 @@ static void fail(const char *what, uint64_t number)
 /* A weaver's hand: when the mains is on again, after how many board stores it goes off. */
 static void turn_on(void)
 {
-    static uint64_t hand = 1;
+    static uint64_t hand = 1; /* Knuth's MMIX generator */
     hand = hand * 6364136223846793005u + 1442695040888963407u;
     stores_left = (uint32_t)(hand >> 33) % MOST_STORES_BETWEEN_CUTS;
 }
@@ -160,7 +165,7 @@ static uint64_t store(uint64_t address, uint64_t value)
 
 static uint64_t tension_at(uint64_t pick)
 {
-    return 1000 + pick * 7 % 50;
+    return LEAST_TENSION + pick * TENSION_STEP % TENSION_SPAN;
 }
 
 static uint64_t card_at(uint64_t pick)

@@ -11,7 +11,7 @@ use crate::handwritten::layout::MOST_ENTRIES;
 
 const SLOTS: [usize; 2] = [64, 256];
 
-/// Scan calls an epoch, as parts of the S + 1 that persist one.
+/// Scan calls an epoch, as multiples of the S + 1 that persist one.
 const SCAN_RATES: [usize; 2] = [1, 2];
 
 pub fn print_figures() -> Result<(), String> {

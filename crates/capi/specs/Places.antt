@@ -6,6 +6,7 @@ use mathlib.Core.List.{List}
 use lib.Dec.{leb}
 use lib.ListN.{length, getD, set}
 use Rattle.checks.specs.declared.Registers.{Registers}
+use Rattle.checks.specs.Registers.{given}
 
 abbrev pub epochAt : ℕ
 epochAt = 0
@@ -35,8 +36,7 @@ unfoldable pub hasPlaces : (registers answer : List ℕ) → Bool
 hasPlaces registers answer = leb registerWords (length registers) && hasAnswer answer
 
 unfoldable pub readRegisters : List ℕ → Registers
-readRegisters words =
-    record { epoch = getD words epochAt 0; buffered = getD words bufferedAt 0; cursor = getD words cursorAt 0 }
+readRegisters words = given (getD words epochAt 0) (getD words bufferedAt 0) (getD words cursorAt 0)
 
 abbrev pub writeRegisters : List ℕ → Registers → List ℕ
 writeRegisters words r = set (set (set words epochAt (r .epoch)) bufferedAt (r .buffered)) cursorAt (r .cursor)

@@ -45,11 +45,11 @@ pub fn read_registers(registers: &[u64]) -> Registers
     requires { ⌜ registerWords ≤ length (now registers) ⌝ }
     ensures { λ r. ⌜ r ≡ readRegisters (now (registers .entry)) ⌝ }
 {
-    Registers {
-        epoch: registers[EPOCH_AT],
-        buffered: registers[BUFFERED_AT],
-        cursor: registers[CURSOR_AT],
-    }
+    Registers::given(
+        registers[EPOCH_AT],
+        registers[BUFFERED_AT],
+        registers[CURSOR_AT],
+    )
 }
 
 fn write_registers(registers: &mut [u64], new: Registers)

@@ -6,6 +6,10 @@ use Rattle.checks.specs.declared.Registers.{Registers}
 abbrev pub zero : Registers
 zero = record { epoch = 0; buffered = 0; cursor = 0 }
 
+-- as a caller hands them in: any words
+abbrev pub given : (epoch buffered cursor : ℕ) → Registers
+given epoch buffered cursor = record { epoch = epoch; buffered = buffered; cursor = cursor }
+
 -- "s = P + 1, b = 0, c = 0"
 abbrev pub woken : (persisted : ℕ) → Registers
 woken persisted = record { epoch = persisted + 1; buffered = 0; cursor = 0 }

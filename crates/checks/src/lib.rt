@@ -7,7 +7,7 @@ ghost use mathlib.Core.Path.{_≡_};
 ghost use Rattle.layout.specs.Limits.{lastEpoch, mostSlots};
 ghost use Rattle.layout.specs.Memory.{logAt, slotsOf};
 ghost use Rattle.layout.specs.Words.{ControlFits};
-ghost use Rattle.checks.specs.Registers.{zero, woken, committed, stepped, restarted, buffering};
+ghost use Rattle.checks.specs.Registers.{zero, given, woken, committed, stepped, restarted, buffering};
 ghost use Rattle.checks.specs.View.{goodSizes, goodControl, goodShape, goodWork, properEpoch, properCounts, properRegisters};
 ghost use Rattle.checks.specs.View.{boundsOf, undoOf};
 ghost use Rattle.checks.specs.Contracts.{Viewed};
@@ -51,6 +51,17 @@ impl Registers {
             epoch: 0,
             buffered: 0,
             cursor: 0,
+        }
+    }
+
+    // As a caller hands them in: any words.
+    pub fn given(epoch: u64, buffered: u64, cursor: u64) -> Registers
+        ensures { λ r. ⌜ r ≡ given epoch buffered cursor ⌝ }
+    {
+        Registers {
+            epoch,
+            buffered,
+            cursor,
         }
     }
 

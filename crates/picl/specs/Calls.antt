@@ -112,8 +112,7 @@ woken board work (Passed v) = wakeVerdict board work v
 unfoldable pub powerUpVerdict : (board work : List ℕ) → Verdict
 powerUpVerdict board work = woken board work (memoriesChecked board work)
 
--- "Format (N, L): every board word zero, but for the shape word. .. reports 0 stores." "Format's shape test reads its arguments and
--- the word count only."
+-- "Format (N, L): every board word zero, but for the shape word. .. reports 0 stores."
 abbrev pub shapeOf : (lines entries : ℕ) → Shape
 shapeOf lines entries = record { version = boardVersion; lines = lines; entries = entries }
 
@@ -123,6 +122,7 @@ formatted lines entries = set (replicate (boardWords lines entries) 0) shapeAt (
 abbrev pub report : Status → (value : ℕ) → Report
 report why value = record { status = why; value = value; stores = 0 }
 
+-- "Format's shape test reads its arguments and the word count only."
 unfoldable pub formatReport : (board : List ℕ) → (lines entries : ℕ) → Report
 formatReport board lines entries = report (cond (goodSizes (length board) lines entries) status.Ok status.Shape) 0
 

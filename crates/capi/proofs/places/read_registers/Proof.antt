@@ -3,14 +3,17 @@ use borrow.Author.Needs.{needs}
 use Rattle.capi.proofs.places.read_registers.Statement.{statement}
 use Rattle.capi.proofs.places.read_registers.Tie as tie
 
-shared-slice-read-t3 : tie.Need-shared-slice-read-t3
-shared-slice-read-t3 c = search needs
+shared-slice-read-given : tie.Need-shared-slice-read-given
+shared-slice-read-given c = search needs
 
-shared-slice-read-t5 : tie.Need-shared-slice-read-t5
-shared-slice-read-t5 c = search needs
+shared-slice-read-given-2 : tie.Need-shared-slice-read-given-2
+shared-slice-read-given-2 c = search needs
 
-shared-slice-read-t7 : tie.Need-shared-slice-read-t7
-shared-slice-read-t7 c = search needs
+shared-slice-read-given-3 : tie.Need-shared-slice-read-given-3
+shared-slice-read-given-3 c = search needs
+
+given-requires : tie.Need-given-requires
+given-requires c κs = search needs
 
 returns : tie.Need-returns
 unfolding readRegisters
@@ -18,4 +21,10 @@ returns c = search needs
 
 pub read-registers-spec : {M : Type 1} → statement M
 read-registers-spec =
-    tie.close (tie.spec shared-slice-read-t3 shared-slice-read-t5 shared-slice-read-t7 returns)
+    tie.close
+    (tie.spec
+    shared-slice-read-given
+    shared-slice-read-given-2
+    shared-slice-read-given-3
+    given-requires
+    returns)
