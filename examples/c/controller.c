@@ -2,9 +2,12 @@
  * A loom controller's loop over the PiCL cache log, with a mains switch that a weaver turns off every now and then.
  *
  * The loom weaves picks. After pick n its lines hold what only n decides: the pick count, the card's position, the beam's
- * tension, and for each card the last pick that it was used for. An epoch is PICKS_AN_EPOCH picks long and ends with a
- * commit, so at the end of epoch e the pick count is e * PICKS_AN_EPOCH, and every other line follows from it. That is how the
- * controller sees, whenever it wakes, that ALL lines came back as of ONE epoch.
+ * tension, and for each card the last pick that it was used for. In mid-pick these lines do not agree, so an epoch is some
+ * whole picks and then a commit. The pick count at each commit is noted outside of the controller, and every other line
+ * follows from it. That is how the controller sees, whenever it wakes, that ALL lines came back as of ONE epoch.
+ *
+ * At first an epoch has PICKS_AN_EPOCH picks. If one needs more undo entries than the log has, the controller gives it up and
+ * from then on weaves epochs of half as many picks. How often it has halved them is a line too.
  *
  *     controller SCRIPT TRANSCRIPT
  *
@@ -31,11 +34,13 @@
 enum {
     LINES = 64,
     SLOTS = 16,
+    SHAPE_WORD = 1, /* of the board; zero until format */
 
     /* The loom's lines. */
     PICK_COUNT = 0,
     CARD_POSITION = 1,
     BEAM_TENSION = 2,
+    HALVINGS = 3, /* how often the picks of an epoch have been halved */
     FIRST_CARD = 8,
     CARDS = 48,
 
@@ -66,6 +71,16 @@ static uint64_t answer[PICL_ANSWER_WORDS];
 static uint32_t stores_left;
 static unsigned cuts;
 
+/* Epochs that needed more entries than the log has. */
+static unsigned given_up;
+
+/* The weaver's notebook, which no cut reaches: how far the loom was when an epoch was committed. It judges what the controller
+ * finds when it wakes; nothing that the controller stores depends on it. */
+static struct {
+    uint64_t picks;
+    uint64_t halvings;
+} noted[EPOCHS + 1];
+
 static void fail(const char *what, uint64_t number)
 {
     fprintf(stderr, "controller: %s: %llu\n", what, (unsigned long long)number);
@@ -94,7 +109,6 @@ static uint64_t answered(const char *call, uint64_t number)
 
 static uint64_t power_up(void)
 {
-    turn_on();
     record_call(stores_left, "p");
     return answered("power-up", picl_power_up(LENT_BOARD, LENT_WORK, LENT_REGISTERS, stores_left, LENT_ANSWER));
 }
@@ -148,8 +162,9 @@ static uint64_t store_once(uint64_t address, uint64_t value)
                     picl_store(LENT_BOARD, LENT_WORK, LENT_REGISTERS, address, value, stores_left, LENT_ANSWER));
 }
 
-/* Where the log is full, an epoch has to be persisted first, whose entries then go. If none waits, the running epoch alone
- * fills the log: the board was made with too small a log, and no call can help. */
+/* Where the log is full, the oldest epoch that waits has to be persisted first: its entries then go. It may have had none, so
+ * that the store is refused again and the next epoch has to be persisted. PICL_ROOM is the answer only where no epoch waits
+ * any more: then the entries of the running epoch fill the log, and one more is due. */
 static uint64_t store(uint64_t address, uint64_t value)
 {
     uint64_t number = store_once(address, value);
@@ -191,12 +206,30 @@ static uint64_t weave(void)
     return number == PICL_NONE ? PICL_OK : number; /* that no epoch waits is no fault */
 }
 
+static uint64_t picks_an_epoch(uint64_t halvings)
+{
+    return (uint64_t)PICKS_AN_EPOCH >> halvings;
+}
+
+/* Commits the running epoch, in which so many picks were woven. */
+static uint64_t end_epoch(uint64_t picks, uint64_t halvings)
+{
+    uint64_t number = commit();
+    if (number == PICL_OK) {
+        uint64_t committed = registers[PICL_EPOCH] - 1;
+        noted[committed].picks = noted[committed - 1].picks + picks;
+        noted[committed].halvings = halvings;
+    }
+    return number;
+}
+
 static uint64_t weave_epoch(void)
 {
-    uint64_t number = PICL_OK;
-    for (int i = 0; number == PICL_OK && i < PICKS_AN_EPOCH; i++)
+    uint64_t halvings, number = load(HALVINGS, &halvings);
+    uint64_t picks = picks_an_epoch(halvings);
+    for (uint64_t i = 0; number == PICL_OK && i < picks; i++)
         number = weave();
-    return number == PICL_OK ? commit() : number;
+    return number == PICL_OK ? end_epoch(picks, halvings) : number;
 }
 
 /* What a line holds after so many picks. */
@@ -214,17 +247,56 @@ static uint64_t line_after(uint64_t picks, uint64_t address)
     return since < picks ? picks - since : 0;
 }
 
-/* Every line against what the persisted epoch's pick count says of it. */
-static uint64_t check_lines(uint64_t persisted)
+/* What a line held when an epoch was committed. */
+static uint64_t line_of(uint64_t epoch, uint64_t address)
 {
-    uint64_t number = PICL_OK;
+    return address == HALVINGS ? noted[epoch].halvings : line_after(noted[epoch].picks, address);
+}
+
+/* After every accepted power-up: each line against what it held when the persisted epoch was committed. */
+static uint64_t check_lines(void)
+{
+    uint64_t number = PICL_OK, persisted = registers[PICL_EPOCH] - 1;
     for (uint64_t address = 0; number == PICL_OK && address < LINES; address++) {
         uint64_t value;
         number = load(address, &value);
-        if (number == PICL_OK && value != line_after(persisted * PICKS_AN_EPOCH, address))
+        if (number == PICL_OK && value != line_of(persisted, address))
             fail("a line is not of the persisted epoch", address);
     }
+    if (number == PICL_OK)
+        printf("awake: every line is of epoch %llu, pick %llu\n", (unsigned long long)persisted,
+               (unsigned long long)noted[persisted].picks);
     return number;
+}
+
+/* Half as many picks an epoch, from now on. The line that says so is an epoch of its own, and persisted at once: otherwise the
+ * next cut, or the next epoch that is given up, would undo it. */
+static uint64_t halve_epochs(void)
+{
+    uint64_t halvings, number = load(HALVINGS, &halvings);
+    if (number != PICL_OK)
+        return number;
+    halvings++;
+    if (picks_an_epoch(halvings) == 0)
+        fail("one pick needs more undo entries than the log has", LOG_ENTRIES);
+    printf("from now on: picks an epoch %llu\n", (unsigned long long)picks_an_epoch(halvings));
+    number = store(HALVINGS, halvings);
+    if (number == PICL_OK)
+        number = end_epoch(0, halvings);
+    return number == PICL_OK ? persist() : number;
+}
+
+/* The way back from an epoch that needs more undo entries than the log has. A commit would persist a half-made pick. A power-up
+ * with the current on undoes the running epoch, and that alone, since no other waits. The same picks would need as many entries
+ * again, so the epochs have to become smaller. */
+static uint64_t give_up_epoch(void)
+{
+    given_up++;
+    printf("epoch %llu needs more entries than the log has: given up\n", (unsigned long long)registers[PICL_EPOCH]);
+    uint64_t number = power_up();
+    if (number == PICL_OK)
+        number = check_lines();
+    return number == PICL_OK ? halve_epochs() : number;
 }
 
 static void format_new_board(void)
@@ -240,30 +312,27 @@ static void format_new_board(void)
 static uint64_t start(void)
 {
     uint64_t number;
-    if (board[1] == 0) {
+    if (board[SHAPE_WORD] == 0) {
         format_new_board();
         stores_left = PICL_NO_CUT;
         number = answered("power-up", picl_power_up(LENT_BOARD, LENT_WORK, LENT_REGISTERS, PICL_NO_CUT, LENT_ANSWER));
         turn_on();
     } else {
+        turn_on();
         number = power_up();
     }
-    if (number != PICL_OK)
-        return number;
-    uint64_t persisted = registers[PICL_EPOCH] - 1;
-    number = check_lines(persisted);
-    if (number == PICL_OK)
-        printf("awake: every line is of epoch %llu, pick %llu\n", (unsigned long long)persisted,
-               (unsigned long long)line_after(persisted * PICKS_AN_EPOCH, PICK_COUNT));
-    return number;
+    return number == PICL_OK ? check_lines() : number;
 }
 
 /* From mains on to mains off, or to the last epoch. */
 static uint64_t run(void)
 {
     uint64_t number = start();
-    while (number == PICL_OK && registers[PICL_EPOCH] <= EPOCHS)
+    while (number == PICL_OK && registers[PICL_EPOCH] <= EPOCHS) {
         number = weave_epoch();
+        if (number == PICL_ROOM)
+            number = give_up_epoch();
+    }
     return number;
 }
 
@@ -278,6 +347,6 @@ int main(int count, char **words)
     if (number != PICL_OK)
         fail("the last call answered", number);
     close_records();
-    printf("wove %d epochs through %u cuts\n", EPOCHS, cuts);
+    printf("wove %d epochs through %u cuts, gave up %u\n", EPOCHS, cuts, given_up);
     return 0;
 }
