@@ -8,7 +8,10 @@
  * It has no state of its own and allocates nothing: the caller lends it all memory, for the time of a call. Every
  * function answers every input: whatever words the memories hold, whatever the registers and arguments are, the answer
  * and all lent memory afterwards are fixed by what went in, and proved to be what the definitions in
- * crates/picl/specs/Calls.antt and crates/capi/specs/Crossing.antt give. A refusal leaves all memory as it was.
+ * crates/picl/specs/Calls.antt and crates/capi/specs/Crossing.antt give.
+ *
+ * A refusal (1 to 11) leaves board and work memory as they were. The registers too stay as they were, but a refused
+ * power-up leaves them zero. The answer is filled, refused or not. Only PICL_TOO_SHORT (255) touches nothing at all.
  *
  *
  * THE BOARD MEMORY outlives the current. PICL_BOARD_WORDS(N, L) words of 64 bits, fields most significant bit first:
@@ -28,8 +31,8 @@
  *
  * Line a belongs in slot a mod S.
  *
- * THE REGISTERS are PICL_REGISTER_WORDS words, lost with the current too. Power-up fills them. Each later call reads them,
- * and leaves the new ones in their place:
+ * THE REGISTERS are PICL_REGISTER_WORDS words, lost with the current too. Power-up fills them. Each later call that takes
+ * them reads them, and leaves the new ones in their place:
  *
  *     word 0                s         the running epoch
  *     word 1                b         how many undo entries are buffered, 0 to 31
@@ -37,30 +40,49 @@
  *
  * THE ANSWER is PICL_ANSWER_WORDS words that each call fills, and the number that it returns:
  *
- *     word 0                value     what the call gives back, 0 where its description names nothing
- *     word 1                stores    how many board stores the call has made
+ *     word 0                value     what the call gives back, 0 where its description and its number name nothing
+ *     word 1                stores    how many board stores the call has made; 0 from format, which does not count its own
  *
- * Each array may be longer than it must be; the words behind are not touched.
+ * Registers and answer may be longer than that; the words behind are not touched. The two memories may not: a board that
+ * is one word longer is refused (PICL_SHAPE), and a work memory that is two words longer has one slot more. Format fixes N
+ * and L. Power-up fixes S: until the next power-up, each call gets a work memory of the same length.
  *
  *
- * THE CALLER'S DUTIES. C cannot test these, so the library cannot either:
+ * THE CALLER'S DUTIES. The library cannot test these:
  *
  *  - Each pointer is aligned for 64 bits, is not null, and has as many words behind it as the length that follows it says.
  *    The arrays of one call do not overlap.
  *  - One task makes all calls, one after the other; nothing else writes the board memory, the work memory or the registers.
  *  - Each call gets board, work memory and registers as the call before returned and left them. Only power-up may be
  *    given any work memory and any registers.
+ *  - A commit is made only at a moment when the lines agree with each other (pattern card, pick count, beam tension). It
+ *    makes the lines, as they stand, a state in which the loom may wake.
  *  - The hardware makes 64-bit stores to the board in the order in which the program makes them, each wholly or not at
  *    all. Where a cache or a write buffer of the processor stands before the board's memory, map it write-through and in
  *    order (uncached, or as device memory).
- *  - A board is formatted once, when it is new. A cut in mid-format leaves a board that has to be formatted again.
+ *  - A board is formatted once, when it is new. A cut in mid-format leaves a board that has to be formatted again, and that
+ *    a power-up may accept all the same: the board is formatted once format has returned, and not before.
+ *
+ *
+ * WHAT TO DO AFTER A CUT, AND AFTER A REFUSAL AT WORK:
+ *
  *  - After a cut: power up, and go on with the registers that it answers. The lines are those of epoch P; what was
  *    stored later is gone, and so are all of work memory and the registers. A cut in mid-power-up does no harm: power up again.
- *  - After PICL_ROOM (8): nothing was stored. Call picl_scan until it answers a value other than 0 (S + 1 calls at most),
- *    which drops what the log no longer needs, and store again. If it answers PICL_NONE (11), only the running epoch is
- *    in the log: commit first, then scan.
- *  - After PICL_WAITING (9): nothing was committed, 15 epochs wait. Call picl_scan until it answers a value other than 0,
- *    and commit again.
+ *  - A power-up with the current on does the same: it gives up the running epoch and every committed one that still waits.
+ *  - After PICL_ROOM (8): nothing was stored. Call picl_scan as long as it answers PICL_OK with value 0 (S + 1 calls at
+ *    most). A value other than 0 says that an epoch is persisted, and that its entries are no longer in the log. Store
+ *    again. If that epoch had no entries, the store is refused again. So repeat both, scan calls and store, until the store
+ *    is accepted or picl_scan answers PICL_NONE (11).
+ *  - After PICL_ROOM and then PICL_NONE: the log holds the running epoch alone, and this epoch needs more entries than L. It
+ *    cannot be brought to its end. Do not commit in mid-epoch: that persists lines that do not agree. Give the epoch up: call
+ *    picl_power_up, with the current on. All lines are then as of the last commit. What was stored since is gone, as after
+ *    a cut. No other epoch is lost, since none waits. The same loads, stores and evictions would be refused again at the
+ *    same store: from then on make the epochs smaller, or L larger, which takes a newly formatted board. More on this in
+ *    docs/INTEGRATION.md; examples/c/controller.c does it (give_up_epoch).
+ *  - After PICL_WAITING (9): nothing was committed, 15 epochs wait. Call picl_scan as long as it answers PICL_OK with value
+ *    0. When its value is not 0, commit again.
+ *  - After PICL_LAST (10): nothing was committed, and the running epoch never can be. The lines have to go to another board:
+ *    docs/INTEGRATION.md says how.
  */
 #ifndef PICL_H
 #define PICL_H
@@ -96,10 +118,10 @@ extern "C" {
 /* The allowance of a call that the current is not to leave. */
 #define PICL_NO_CUT UINT32_MAX
 
-/* The numbers that a call returns. The lowest that applies is returned. */
+/* The numbers that a call returns. PICL_TOO_SHORT comes before all others; of those, the lowest that applies is returned. */
 enum {
     PICL_OK = 0,
-    PICL_SHAPE = 1,      /* the board's first two words or its length are not those of a board */
+    PICL_SHAPE = 1,      /* the board's first two words or its length are not those of a board; format: N, L or the length */
     PICL_WORK = 2,       /* the work memory's length is not PICL_WORK_WORDS(S), S from 1 to 256 */
     PICL_ENTRY = 3,      /* power-up: a log entry is not proper; value says which, the oldest counted 0 */
     PICL_REGS = 4,       /* the registers are not proper for this board and work memory */
@@ -119,15 +141,15 @@ enum {
  * mains switch on a test bench; a controller passes PICL_NO_CUT. At a cut the first stores, as many as allowed, are on the
  * board, and the work memory and the registers are zero.
  *
- * No call but format and power-up makes more than 66 board stores; power-up makes at most one more than the log has entries.
+ * No call but format and power-up makes more than 66 board stores; power-up makes at most one more than the log's length.
  */
 
-/* A board of N lines, all zero, with an empty log of L entries. It is not protected against a cut. */
+/* A board of N lines, all zero, with an empty log of L entries. It is not protected against a cut, and answers 0 stores. */
 uint64_t picl_format(uint64_t *board, size_t board_words, uint64_t lines, uint64_t entries, uint64_t *answer,
                      size_t answer_words);
 
-/* The board as of its persisted epoch P, an empty cache, and registers with running epoch P + 1. A refusal leaves the
- * registers zero. */
+/* The board as of its persisted epoch P, an empty cache, and registers with running epoch P + 1. The epochs behind P are
+ * given up: those that wait, and the running one. A refusal leaves the registers zero. */
 uint64_t picl_power_up(uint64_t *board, size_t board_words, uint64_t *work, size_t work_words, uint64_t *registers,
                        size_t register_words, uint32_t allowance, uint64_t *answer, size_t answer_words);
 
@@ -144,13 +166,14 @@ uint64_t picl_store(uint64_t *board, size_t board_words, uint64_t *work, size_t 
 uint64_t picl_evict(uint64_t *board, size_t board_words, uint64_t *work, size_t work_words, uint64_t *registers,
                     size_t register_words, uint64_t address, uint32_t allowance, uint64_t *answer, size_t answer_words);
 
-/* The end of the running epoch, which from now on waits to be persisted. It makes no board store. */
+/* The end of the running epoch, which from now on waits to be persisted. It makes no board store, so it never answers
+ * PICL_CUT. */
 uint64_t picl_commit(const uint64_t *board, size_t board_words, const uint64_t *work, size_t work_words,
                      uint64_t *registers, size_t register_words, uint32_t allowance, uint64_t *answer,
                      size_t answer_words);
 
-/* One step of persisting the oldest epoch that waits: S + 1 accepted calls persist it. Value is the epoch that this call
- * has persisted, or 0. */
+/* One step of persisting the oldest epoch that waits: S + 1 accepted calls, with no cut or power-up between them, persist it.
+ * Value is the epoch that this call has persisted, or 0. */
 uint64_t picl_scan(uint64_t *board, size_t board_words, uint64_t *work, size_t work_words, uint64_t *registers,
                    size_t register_words, uint32_t allowance, uint64_t *answer, size_t answer_words);
 
