@@ -148,7 +148,7 @@ enum {
 uint64_t picl_format(uint64_t *board, size_t board_words, uint64_t lines, uint64_t entries, uint64_t *answer,
                      size_t answer_words);
 
-/* The board as of its persisted epoch P, an empty cache, and registers with running epoch P + 1. The epochs behind P are
+/* The board as of its persisted epoch P, an empty cache, and registers with running epoch P + 1. The epochs after P are
  * given up: those that wait, and the running one. A refusal leaves the registers zero. */
 uint64_t picl_power_up(uint64_t *board, size_t board_words, uint64_t *work, size_t work_words, uint64_t *registers,
                        size_t register_words, uint32_t allowance, uint64_t *answer, size_t answer_words);
