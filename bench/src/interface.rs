@@ -8,6 +8,32 @@ pub struct Answer {
     pub stores: u64,
 }
 
+/// The paper's numbers and their names.
+pub const NAMES: [(u64, &str); 13] = [
+    (OK, "ok"),
+    (1, "shape"),
+    (2, "work"),
+    (3, "entry"),
+    (4, "regs"),
+    (5, "address"),
+    (6, "slot"),
+    (7, "buffer"),
+    (8, "room"),
+    (9, "waiting"),
+    (10, "last"),
+    (11, "none"),
+    (12, "cut"),
+];
+
+pub const OK: u64 = 0;
+
+pub fn name_of(number: u64) -> &'static str {
+    NAMES
+        .iter()
+        .find(|&&(known, _)| known == number)
+        .map_or("(no such number)", |&(_, name)| name)
+}
+
 /// The words of the registers as they stand in an array: s, b, c.
 pub type RegisterWords = [u64; 3];
 

@@ -9,6 +9,7 @@ mod library;
 mod loom;
 mod order;
 mod random;
+mod sizes;
 
 use std::process::ExitCode;
 

@@ -2,18 +2,11 @@
 
 use super::player::{Outcome, Player};
 use crate::call::{Call, NO_CUT};
-use crate::handwritten::layout::BUFFER_WORDS;
 use crate::random::Random;
+use crate::sizes::Sizes;
 
 /// No call but power-up makes more stores; allowances are drawn up to a few more.
 const MOST_STORES: u64 = 66;
-
-#[derive(Clone, Copy, Debug)]
-pub struct Sizes {
-    pub lines: u64,
-    pub entries: u64,
-    pub slots: u64,
-}
 
 impl Sizes {
     /// Mostly few lines, slots and entries, so that they meet; sometimes so many that a buffer fills up.
@@ -55,21 +48,6 @@ impl Sizes {
             lines: random.between(1, 20),
             entries: random.between(1, 40),
             slots: random.between(1, 8),
-        }
-    }
-
-    pub fn board_words(self) -> usize {
-        (2 + 2 * self.entries + self.lines) as usize
-    }
-
-    pub fn work_words(self) -> usize {
-        2 * self.slots as usize + BUFFER_WORDS
-    }
-
-    pub fn format(self) -> Call {
-        Call::Format {
-            lines: self.lines,
-            entries: self.entries,
         }
     }
 }

@@ -3,31 +3,23 @@
 use super::sides::Lent;
 use crate::call::{Call, Kind};
 use crate::handwritten::layout::{Control, Shape};
+use crate::interface::{name_of, NAMES};
 use crate::library::TOO_SHORT;
 
+/// The column behind those of the paper's numbers.
+const SHORT: (u64, &str) = (TOO_SHORT, "short");
+const COLUMNS: usize = NAMES.len() + 1;
+
 /// The numbers in the order of the columns, with their names.
-pub const NUMBERS: [(u64, &str); 14] = [
-    (0, "ok"),
-    (1, "shape"),
-    (2, "work"),
-    (3, "entry"),
-    (4, "regs"),
-    (5, "address"),
-    (6, "slot"),
-    (7, "buffer"),
-    (8, "room"),
-    (9, "waiting"),
-    (10, "last"),
-    (11, "none"),
-    (12, "cut"),
-    (TOO_SHORT, "short"),
-];
+fn columns() -> impl Iterator<Item = (u64, &'static str)> {
+    NAMES.into_iter().chain([SHORT])
+}
 
 pub fn number_name(number: u64) -> &'static str {
-    NUMBERS
-        .iter()
-        .find(|&&(known, _)| known == number)
-        .map_or("(no such number)", |&(_, name)| name)
+    match number {
+        TOO_SHORT => SHORT.1,
+        _ => name_of(number),
+    }
 }
 
 /// The numbers that the paper lets a call answer. A commit makes no store, so it is never cut.
@@ -91,15 +83,14 @@ struct Seen {
 
 #[derive(Clone, Default)]
 pub struct Occurrences {
-    numbers: [[u64; NUMBERS.len()]; Kind::ALL.len()],
+    numbers: [[u64; COLUMNS]; Kind::ALL.len()],
     turns: [u64; TURNS.len()],
 }
 
 impl Occurrences {
     pub fn count(&mut self, call: Call, number: u64, before: &Lent, after: &Lent) {
-        let column = NUMBERS
-            .iter()
-            .position(|&(known, _)| known == number)
+        let column = columns()
+            .position(|(known, _)| known == number)
             .expect("the hand-written side answers no other number");
         self.numbers[call.kind() as usize][column] += 1;
         if number == 0 {
@@ -137,14 +128,13 @@ impl Occurrences {
     }
 
     pub fn header() -> String {
-        let columns = NUMBERS.map(|(number, name)| format!("{:>11}", format!("{number} {name}")));
-        format!("{:<16}{:>10}{}", "", "calls", columns.concat())
+        let columns = columns().map(|(number, name)| format!("{:>11}", format!("{number} {name}")));
+        format!("{:<16}{:>10}{}", "", "calls", columns.collect::<String>())
     }
 
     /// One line for all calls together.
     pub fn line(&self, name: &str) -> String {
-        let columns: [u64; NUMBERS.len()] =
-            std::array::from_fn(|column| self.numbers.iter().map(|row| row[column]).sum());
+        let columns: [u64; COLUMNS] = std::array::from_fn(|column| self.numbers.iter().map(|row| row[column]).sum());
         count_line(name, &columns)
     }
 
@@ -162,7 +152,7 @@ impl Occurrences {
     pub fn missing(&self) -> Vec<String> {
         let mut missing = Vec::new();
         for kind in Kind::ALL {
-            for (column, (number, name)) in NUMBERS.into_iter().enumerate() {
+            for (column, (number, name)) in columns().enumerate() {
                 if possible(kind).contains(&number) && self.numbers[kind as usize][column] == 0 {
                     missing.push(format!("{} answered {number} {name}", kind.name()));
                 }

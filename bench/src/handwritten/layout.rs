@@ -10,6 +10,11 @@ pub const LAST_EPOCH: u64 = ones(EPOCH_BITS);
 /// The most by which the running epoch is ahead of the persisted one.
 pub const MOST_AHEAD: u64 = 16;
 
+/// The words of a work memory with so many slots.
+pub const fn work_words(slots: usize) -> usize {
+    2 * slots + BUFFER_WORDS
+}
+
 const EPOCH_BITS: u32 = 24;
 const COUNT_BITS: u32 = 20;
 const ADDRESS_BITS: u32 = 16;

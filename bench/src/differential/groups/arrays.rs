@@ -1,8 +1,9 @@
 //! Arrays for registers and answer that are too short, or longer than they must be.
 
-use crate::differential::habit::{begin, next_call, Habit, Sizes};
+use crate::differential::habit::{begin, next_call, Habit};
 use crate::differential::player::{Outcome, Player};
 use crate::random::Random;
+use crate::sizes::Sizes;
 
 const MOST_WORDS: usize = 6;
 

@@ -1,8 +1,9 @@
 //! Histories that are damaged again and again: a few calls on the damaged state, then on from the state before.
 
 use crate::differential::damage::damage;
-use crate::differential::habit::{begin, go_on, next_call, Habit, Sizes};
+use crate::differential::habit::{begin, go_on, next_call, Habit};
 use crate::differential::player::{Outcome, Player};
+use crate::sizes::Sizes;
 
 pub fn history(player: &mut Player) -> Outcome {
     let sizes = if player.random.one_in(4) {

@@ -1,7 +1,8 @@
 //! Histories of a board from its format on, with cuts and power-ups, as demand 3 speaks of them.
 
-use crate::differential::habit::{begin, go_on, Habit, Sizes};
+use crate::differential::habit::{begin, go_on, Habit};
 use crate::differential::player::{Outcome, Player};
+use crate::sizes::Sizes;
 
 pub fn history(player: &mut Player) -> Outcome {
     let sizes = Sizes::draw(&mut player.random);

@@ -1,9 +1,10 @@
 //! Boards and caches at the upper limits.
 
 use crate::call::{Call, NO_CUT};
-use crate::differential::habit::{begin, go_on, Habit, Sizes};
+use crate::differential::habit::{begin, go_on, Habit};
 use crate::differential::player::{Outcome, Player};
 use crate::handwritten::layout::{Control, Range, MOST_ENTRIES, MOST_LINES, MOST_SLOTS};
+use crate::sizes::Sizes;
 
 pub fn history(player: &mut Player) -> Outcome {
     let (lines, entries) = player.random.pick(&[

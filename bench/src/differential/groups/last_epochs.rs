@@ -1,9 +1,10 @@
 //! Histories whose epochs come to their end.
 
 use crate::call::{Call, NO_CUT};
-use crate::differential::habit::{begin, go_on, Habit, Sizes};
+use crate::differential::habit::{begin, go_on, Habit};
 use crate::differential::player::{Outcome, Player};
 use crate::handwritten::layout::{Control, LAST_EPOCH};
+use crate::sizes::Sizes;
 
 pub fn history(player: &mut Player) -> Outcome {
     let sizes = Sizes::draw_small(&mut player.random);

@@ -1,10 +1,11 @@
 //! Logs whose entries stand at the edges: of being proper, of covering the persisted epoch, of being dropped.
 
 use crate::call::{Call, NO_CUT};
-use crate::differential::habit::{go_on, Habit, Sizes};
+use crate::differential::habit::{go_on, Habit};
 use crate::differential::player::{Outcome, Player};
 use crate::handwritten::layout::{Control, Range, Shape, LAST_EPOCH, MOST_AHEAD};
 use crate::random::Random;
+use crate::sizes::Sizes;
 
 pub fn history(player: &mut Player) -> Outcome {
     let sizes = Sizes::draw_small(&mut player.random);

@@ -1,12 +1,12 @@
 //! Memories and arguments that no history leads to.
 
 use crate::call::{Call, NO_CUT};
-use crate::differential::habit::Sizes;
 use crate::differential::player::{Outcome, Player};
 use crate::handwritten::layout::{
     Control, Range, Shape, SlotWord, BUFFER_ENTRIES, LAST_EPOCH, MOST_AHEAD, MOST_ENTRIES, MOST_LINES,
 };
 use crate::random::Random;
+use crate::sizes::Sizes;
 
 pub fn history(player: &mut Player) -> Outcome {
     match player.random.below(8) {
