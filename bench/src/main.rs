@@ -9,6 +9,7 @@ mod library;
 mod loom;
 mod order;
 mod random;
+mod replay;
 mod sizes;
 
 use std::process::ExitCode;
@@ -24,6 +25,10 @@ picl-bench rows
     the names of the rows
 picl-bench loom
     what the loom's work asks of a board
+picl-bench scripts
+    replay every script of the repository over the hand-written Rust and compare with its expected output
+picl-bench expected SCRIPT
+    what the replay of one script prints
 picl-bench order play
     play a history, for a tool that records stores; prints where board and mark are
 picl-bench order check PLACES RECORD
@@ -51,6 +56,8 @@ fn run(words: &[String]) -> Result<(), String> {
         }
         "loom" => loom::print_figures(),
         "order" => run_order(flags),
+        "scripts" => replay::compare_with_stored(),
+        "expected" => run_expected(flags),
         _ => Err(USAGE.to_string()),
     }
 }
@@ -93,6 +100,13 @@ fn run_order(flags: &[String]) -> Result<(), String> {
             Ok(())
         }
         [check, places, record] if check == "check" => order::check(places, record),
+        _ => Err(USAGE.to_string()),
+    }
+}
+
+fn run_expected(flags: &[String]) -> Result<(), String> {
+    match flags {
+        [script] => replay::print_output(script),
         _ => Err(USAGE.to_string()),
     }
 }

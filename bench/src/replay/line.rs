@@ -1,0 +1,122 @@
+//! What a line of a script says.
+
+use crate::call::Call;
+use crate::sizes::Sizes;
+
+/// The sizes that the replay has memories for.
+const MOST: Sizes = Sizes {
+    lines: 2_048,
+    entries: 1_024,
+    slots: 64,
+};
+
+#[derive(Clone, Copy, Debug, PartialEq, Eq)]
+pub enum Command {
+    /// `n N L S`: format and power-up.
+    Start(Sizes),
+    /// `k count`: the allowance of the next call.
+    Allow(u32),
+    Make(Call),
+}
+
+/// The lines of a script, without their line feeds. What stands behind the last line feed is a line if it has a byte.
+pub fn lines_of(script: &[u8]) -> impl Iterator<Item = &[u8]> {
+    script
+        .split_inclusive(|&byte| byte == b'\n')
+        .map(|line| line.strip_suffix(b"\n").unwrap_or(line))
+}
+
+/// Reads a line; a call that it makes has the allowance given. None where the line is no command.
+pub fn read(line: &[u8], allowance: u32) -> Option<Command> {
+    let words: Vec<&[u8]> = line.split(|&byte| byte == b' ').collect();
+    let (letter, numbers) = words.split_first()?;
+    let numbers: Vec<u64> = numbers.iter().map(|word| number(word)).collect::<Option<_>>()?;
+    let call = match (*letter, &numbers[..]) {
+        (b"n", &[lines, entries, slots]) => return start(Sizes { lines, entries, slots }),
+        (b"k", &[count]) => return u32::try_from(count).ok().map(Command::Allow),
+        (b"s", &[address, data]) => Call::Store {
+            address,
+            data,
+            allowance,
+        },
+        (b"l", &[address]) => Call::Load { address, allowance },
+        (b"e", &[address]) => Call::Evict { address, allowance },
+        (b"c", []) => Call::Commit { allowance },
+        (b"a", []) => Call::Scan { allowance },
+        (b"p", []) => Call::PowerUp { allowance },
+        _ => return None,
+    };
+    Some(Command::Make(call))
+}
+
+/// One decimal digit or more, of any number, with a value below 2^64.
+fn number(word: &[u8]) -> Option<u64> {
+    if word.is_empty() {
+        return None;
+    }
+    word.iter().try_fold(0u64, |value, byte| {
+        let digit = char::from(*byte).to_digit(10)?;
+        value.checked_mul(10)?.checked_add(u64::from(digit))
+    })
+}
+
+fn start(sizes: Sizes) -> Option<Command> {
+    let has_memories = sizes.lines <= MOST.lines && sizes.entries <= MOST.entries && sizes.slots <= MOST.slots;
+    has_memories.then_some(Command::Start(sizes))
+}
+
+#[cfg(test)]
+mod tests {
+    use super::*;
+
+    fn lines(script: &[u8]) -> Vec<&[u8]> {
+        lines_of(script).collect()
+    }
+
+    #[test]
+    fn a_last_line_needs_a_line_feed_or_a_byte() {
+        assert_eq!(lines(b""), [b""; 0]);
+        assert_eq!(lines(b"\n"), [b""]);
+        assert_eq!(lines(b"c\na"), [b"c", b"a"]);
+        assert_eq!(lines(b"c\na\n"), [b"c", b"a"]);
+    }
+
+    #[test]
+    fn a_number_is_bounded_by_its_value_alone() {
+        let zeros_and_seven = [vec![b'0'; 1000], vec![b'7']].concat();
+        assert_eq!(number(&zeros_and_seven), Some(7));
+        assert_eq!(number(&[b'9'; 1000]), None);
+        assert_eq!(number(b"18446744073709551615"), Some(u64::MAX));
+        assert_eq!(number(b"18446744073709551616"), None);
+    }
+
+    #[test]
+    fn other_lines_are_no_commands() {
+        let others: [&[u8]; 13] = [
+            b"",
+            b" ",
+            b"c ",
+            b" c",
+            b"s 1  2",
+            b"s 1",
+            b"s 1 2 3",
+            b"l +1",
+            b"l 0x1",
+            b"l 1\r",
+            b"l\t1",
+            b"C",
+            b"k 4294967296",
+        ];
+        for line in others {
+            assert_eq!(read(line, 0), None, "{}", line.escape_ascii());
+        }
+    }
+
+    #[test]
+    fn sizes_end_at_what_the_replay_has_memories_for() {
+        assert_eq!(read(b"n 2048 1024 64", 0), Some(Command::Start(MOST)));
+        for line in [&b"n 2049 1 1"[..], b"n 1 1025 1", b"n 1 1 65"] {
+            assert_eq!(read(line, 0), None);
+        }
+    }
+}
