@@ -279,11 +279,8 @@ pub fn powered_up(m: Machine) -> Machine {
     };
     let slots = [empty_slot(); MOST_SLOTS];
     let buffer = [empty_entry(); BUFFER_ENTRIES];
-    let registers = Registers {
-        epoch: sum(persisted, 1),
-        buffered: 0,
-        cursor: 0,
-    };
+    let mut registers = Registers::zero();
+    registers.epoch = sum(persisted, 1);
     let mut next = with_control(entries_restored(m), control);
     next.slots = slots;
     next.buffer = buffer;

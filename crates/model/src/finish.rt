@@ -6,15 +6,6 @@ use crate::refusals::CUT;
 use crate::refusals::OK;
 use crate::words::*;
 
-// All three registers zero.
-pub fn no_registers() -> Registers {
-    Registers {
-        epoch: 0,
-        buffered: 0,
-        cursor: 0,
-    }
-}
-
 // "Numbers 1 to 11 return value 0 (3 excepted), 0 stores, registers as given .., both memories as
 // given."
 pub fn refused(number: u64, registers: Registers) -> Answer {
@@ -72,7 +63,7 @@ fn cut(board: &mut [u64], work: &mut [u64], m: Machine, allowance: u64) -> Answe
         number: CUT,
         value: 0,
         stores: allowance,
-        registers: no_registers(),
+        registers: Registers::zero(),
     }
 }
 

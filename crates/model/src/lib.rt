@@ -8,6 +8,7 @@ mod finish;
 mod machine;
 mod reference_machine;
 mod refusals;
+mod registers;
 mod words;
 
 use effects::*;
@@ -15,14 +16,8 @@ use finish::*;
 use machine::decoded;
 pub use reference_machine::Reference;
 use refusals::*;
+pub use registers::Registers;
 use words::*;
-
-// The paper's registers s, b and c.
-pub struct Registers {
-    pub epoch: u64,
-    pub buffered: u64,
-    pub cursor: u64,
-}
 
 // A call's answer: its number in the table, its value, the board stores made, the registers.
 pub struct Answer {
@@ -36,10 +31,10 @@ pub struct Answer {
 // reports 0 stores."
 pub fn format(board: &mut [u64], lines: u64, entries: u64) -> Answer {
     if board.len() > BOARD_CAPACITY {
-        return refused(TOO_LARGE, no_registers());
+        return refused(TOO_LARGE, Registers::zero());
     }
     if !size_good(board.len() as u64, lines, entries) {
-        return refused(SHAPE, no_registers());
+        return refused(SHAPE, Registers::zero());
     }
     zero_all(board);
     set_word(board, SHAPE_PLACE, shape_word(lines, entries));
@@ -47,7 +42,7 @@ pub fn format(board: &mut [u64], lines: u64, entries: u64) -> Answer {
         number: OK,
         value: 0,
         stores: 0,
-        registers: no_registers(),
+        registers: Registers::zero(),
     }
 }
 
@@ -57,7 +52,7 @@ fn entry_refused(i: u64) -> Answer {
         number: ENTRY,
         value: i,
         stores: 0,
-        registers: no_registers(),
+        registers: Registers::zero(),
     }
 }
 
@@ -66,9 +61,9 @@ fn entry_refused(i: u64) -> Answer {
 pub fn power_up(board: &mut [u64], work: &mut [u64], allowance: u32) -> Answer {
     let number = memory_refusal(board, work);
     if number != OK {
-        return refused(number, no_registers());
+        return refused(number, Registers::zero());
     }
-    let m = decoded(board, work, no_registers());
+    let m = decoded(board, work, Registers::zero());
     let improper = first_improper(m);
     if improper < m.control.length {
         return entry_refused(improper);
@@ -190,12 +185,12 @@ fn dirty_count(work: &[u64]) -> u64 {
 // Tally: row 2 alone.
 pub fn tally(work: &[u64]) -> Answer {
     if !work_good(work.len() as u64) {
-        return refused(WORK, no_registers());
+        return refused(WORK, Registers::zero());
     }
     Answer {
         number: OK,
         value: dirty_count(work),
         stores: 0,
-        registers: no_registers(),
+        registers: Registers::zero(),
     }
 }

@@ -52,7 +52,7 @@ pub fn size_good(words: u64, lines: u64, entries: u64) -> bool {
     if entries > MOST_ENTRIES {
         return false;
     }
-    words == 2 + 2 * entries + lines
+    words == board_words(lines, entries)
 }
 
 // "24 bits not zero; .. P = 2^24 - 1; start >= L; length > L".
@@ -71,7 +71,7 @@ fn fields_good(shape: Shape, control: Control) -> bool {
 
 // All of row 1, of a board of any words.
 fn shape_good(board: &[u64]) -> bool {
-    if board.len() < 2 {
+    if (board.len() as u64) < LOG_PLACE {
         return false;
     }
     let shape = shape_of(word_at(board, SHAPE_PLACE));
@@ -91,7 +91,7 @@ pub fn work_good(words: u64) -> bool {
     if slots > MOST_SLOTS as u64 {
         return false;
     }
-    words == 2 * slots + BUFFER_WORDS
+    words == work_words(slots)
 }
 
 // Rows 1 and 2, the tests of the two memories' sizes.

@@ -228,6 +228,11 @@ pub fn line_place(entries: u64, address: u64) -> u64 {
     sum(entry_place(entries), address)
 }
 
+// "Board memory, 2 + 2L + N words".
+pub fn board_words(lines: u64, entries: u64) -> u64 {
+    line_place(entries, lines)
+}
+
 // "The log is a ring: entry i of the log, 0 the oldest, is at place (start + i) mod L."
 pub fn ring_place(start: u64, i: u64, entries: u64) -> u64 {
     if entries == 0 {
@@ -252,6 +257,11 @@ pub fn slot_place(slot: u64) -> u64 {
 // The place in the work memory of the packed word of buffered entry i; its old data is one further.
 pub fn buffer_place(slots: u64, i: u64) -> u64 {
     sum(slot_place(slots), sum(i, i))
+}
+
+// "Work memory, 2S + 64 words".
+pub fn work_words(slots: u64) -> u64 {
+    sum(slot_place(slots), BUFFER_WORDS)
 }
 
 // "Address a belongs in slot a mod S."

@@ -1,0 +1,27 @@
+// The paper's registers s, b and c, and their words in this order.
+pub const COUNT: usize = 3;
+
+pub struct Registers {
+    pub epoch: u64,
+    pub buffered: u64,
+    pub cursor: u64,
+}
+
+impl Registers {
+    // "registers .. are all zero".
+    pub fn zero() -> Registers {
+        Registers::from_words([0; COUNT])
+    }
+
+    pub fn from_words(words: [u64; COUNT]) -> Registers {
+        Registers {
+            epoch: words[0],
+            buffered: words[1],
+            cursor: words[2],
+        }
+    }
+
+    pub fn words(self) -> [u64; COUNT] {
+        [self.epoch, self.buffered, self.cursor]
+    }
+}
