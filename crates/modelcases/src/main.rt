@@ -1,10 +1,12 @@
 // Runs the paper's replay listing and its examples W5 to W12 on the model, and prints the listing's
 // columns; the stored output holds what the paper says.
+mod packing;
 mod random;
 
 use libc::STDOUT_FILENO;
 use model::Answer;
 use model::Registers;
+use packing::*;
 
 const ALL: u32 = 4294967295;
 
@@ -26,8 +28,8 @@ fn show(letter: u8, a: Answer, board: &[u64]) {
     number(a.stores);
     number(a.registers.epoch);
     if 0 < board.len() {
-        number(board[0] >> 40);
-        number(board[0] & 0xFFFFF);
+        number(persisted_of(board[CONTROL]));
+        number(length_of(board[CONTROL]));
     }
     number(a.registers.buffered);
     io::write_all(STDOUT_FILENO, b"\n");
@@ -113,41 +115,49 @@ fn stepped(board: &mut [u64], work: &mut [u64], r: Registers, s: Step) -> Regist
 }
 
 fn run(board: &mut [u64], work: &mut [u64], script: &[u8]) {
-    let mut r = Registers {
-        epoch: 0,
-        buffered: 0,
-        cursor: 0,
-    };
+    let mut r = Registers::zero();
     for i in 0..script.len() / STEP {
         let at = i * STEP;
         r = stepped(board, work, r, step_of(&script[at..]));
     }
 }
 
-// A script on a board of 22 words, with 2 slots; then the words that are not zero.
+// A script; then the words that are not zero.
 fn fresh(title: &[u8], script: &[u8]) {
-    let mut board = [0u64; 22];
-    let mut work = [0u64; 68];
+    let mut board = [0u64; EXAMPLE_BOARD];
+    let mut work = [0u64; EXAMPLE_WORK];
     io::write_all(STDOUT_FILENO, title);
     run(&mut board, &mut work, script);
     dump(&board);
     dump(&work);
 }
 
-// A board of 4 lines and 8 entries whose log has two entries, across the ring's end, for line 0,
-// with the data 4 and 6; and a power-up.
+// A board whose log has two entries, across the ring's end, for line 0, with the data 4 and 6; and
+// a power-up.
 fn recovered(title: &[u8], persisted: u64, first: u64, second: u64) {
-    let mut board = [0u64; 22];
-    let mut work = [0u64; 68];
+    let mut board = [0u64; EXAMPLE_BOARD];
+    let mut work = [0u64; EXAMPLE_WORK];
     io::write_all(STDOUT_FILENO, title);
-    board[0] = (persisted << 40) | (7 << 20) | 2;
-    board[1] = (4 << 20) | 8;
-    board[16] = first;
-    board[17] = 4;
-    board[2] = second;
-    board[3] = 6;
+    board[CONTROL] = control_word(persisted, ENTRIES - 1, 2);
+    board[SHAPE] = shape_word(EXAMPLE_LINES, ENTRIES);
+    board[LAST_ENTRY] = first;
+    board[LAST_ENTRY + 1] = 4;
+    board[FIRST_ENTRY] = second;
+    board[FIRST_ENTRY + 1] = 6;
     run(&mut board, &mut work, b"p00* ");
     dump(&board);
+}
+
+// W6, W5 at each P, and a log that is not proper; the entries by their ranges.
+fn recoveries() {
+    let range_0_2 = entry_word(0, 0, 2);
+    let range_1_3 = entry_word(0, 1, 3);
+    recovered(b"W6\n", 1, range_0_2, range_0_2);
+    recovered(b"W5 P 0\n", 0, range_1_3, range_1_3);
+    recovered(b"W5 P 1\n", 1, range_1_3, range_1_3);
+    recovered(b"W5 P 2\n", 2, range_1_3, range_1_3);
+    recovered(b"W5 P 3\n", 3, range_1_3, range_1_3);
+    recovered(b"entry 1 below entry 0\n", 0, range_1_3, range_0_2);
 }
 
 fn main() {
@@ -163,12 +173,7 @@ fn main() {
         b"W12\n",
         b"n48* p00* c000 c000 c000 c000 c000 c000 c000 c000 c000 c000 c000 c000 c000 c000 c000 c000 ",
     );
-    recovered(b"W6\n", 1, 2, 2);
-    recovered(b"W5 P 0\n", 0, 0x1000003, 0x1000003);
-    recovered(b"W5 P 1\n", 1, 0x1000003, 0x1000003);
-    recovered(b"W5 P 2\n", 2, 0x1000003, 0x1000003);
-    recovered(b"W5 P 3\n", 3, 0x1000003, 0x1000003);
-    recovered(b"entry 1 below entry 0\n", 0, 0x1000003, 0x2);
+    recoveries();
     random::list(1, 3000);
     random::list(2, 3000);
     random::list(77, 3000);

@@ -1,28 +1,22 @@
 // Random lists of calls with random cuts: the model against the reference machine. After each call
 // the control word's P is the reference's, and after each accepted power-up its lines are too.
+use crate::packing::*;
 use libc::STDOUT_FILENO;
 use model::Answer;
 use model::Reference;
 use model::Registers;
 
-const LINES: u64 = 5;
-
-const ENTRIES: u64 = 8;
-
-const FIRST_LINE: usize = 18;
-
-const BOARD_WORDS: usize = 23;
-
-const WORK_WORDS: usize = 70;
-
 const ALL: u32 = 4294967295;
+
+// The numbers that are counted are below this; an answer with another one is wrong.
+const NUMBERS: usize = 32;
 
 pub struct Trial {
     pub seed: u64,
     pub registers: Registers,
     pub reference: Reference,
     // How often each number was answered, and how many comparisons failed.
-    pub numbers: [u64; 16],
+    pub numbers: [u64; NUMBERS],
     pub wrong: u64,
 }
 
@@ -50,7 +44,7 @@ fn random_call(seed: u64) -> Call {
     let b = next_seed(a);
     Call {
         kind: seed / 65536 % 16,
-        address: a / 65536 % (LINES + 1),
+        address: a / 65536 % (LIST_LINES + 1),
         value: b / 1024,
         allowance: random_allowance(b / 4096),
     }
@@ -82,7 +76,7 @@ fn fed(reference: Reference, c: Call, a: Answer) -> Reference {
 // How many of the board's lines are not the reference's.
 fn lines_wrong(board: &[u64], reference: Reference) -> u64 {
     let mut wrong = 0;
-    for i in 0..LINES {
+    for i in 0..LIST_LINES {
         if line_of(board, i) != reference.line(i) {
             wrong = std::num::wrapping_add_u64(wrong, 1);
         }
@@ -91,10 +85,10 @@ fn lines_wrong(board: &[u64], reference: Reference) -> u64 {
 }
 
 fn line_of(board: &[u64], address: u64) -> u64 {
-    if board.len() < BOARD_WORDS {
+    if board.len() < LIST_BOARD {
         return 0;
     }
-    if address >= LINES {
+    if address >= LIST_LINES {
         return 0;
     }
     let at = address as usize;
@@ -106,7 +100,7 @@ fn wrong_after(board: &[u64], reference: Reference, c: Call, a: Answer) -> u64 {
     if board.len() < 1 {
         return 1;
     }
-    if board[0] >> 40 != reference.persisted() {
+    if persisted_of(board[CONTROL]) != reference.persisted() {
         return 1;
     }
     if a.number != 0 {
@@ -123,8 +117,17 @@ fn wrong_after(board: &[u64], reference: Reference, c: Call, a: Answer) -> u64 {
     0
 }
 
+fn with_wrong(t: Trial, wrong: u64) -> Trial {
+    let mut next = t;
+    next.wrong = std::num::wrapping_add_u64(t.wrong, wrong);
+    next
+}
+
 fn with_number(t: Trial, number: u64) -> Trial {
-    let at = (number % 16) as usize;
+    if number >= NUMBERS as u64 {
+        return with_wrong(t, 1);
+    }
+    let at = number as usize;
     let mut next = t;
     next.numbers[at] = std::num::wrapping_add_u64(t.numbers[at], 1);
     next
@@ -138,11 +141,10 @@ fn turn(board: &mut [u64], work: &mut [u64], t: Trial) -> Trial {
     let reference = fed(before, c, a);
     let wrong = wrong_after(board, reference, c, a);
     let after = a.registers;
-    let mut next = with_number(t, a.number);
+    let mut next = with_wrong(with_number(t, a.number), wrong);
     next.seed = next_seed(next_seed(next_seed(t.seed)));
     next.registers = after;
     next.reference = reference;
-    next.wrong = std::num::wrapping_add_u64(t.wrong, wrong);
     next
 }
 
@@ -154,31 +156,42 @@ fn turns(board: &mut [u64], work: &mut [u64], t: Trial, count: u64) -> Trial {
     next
 }
 
-// The comparisons that failed, and how often each number from 0 to 12 was answered.
+// A number that was answered, and how often.
+fn show_answer(number: u64, count: u64) {
+    if count == 0 {
+        return;
+    }
+    crate::number(number);
+    io::write_all(STDOUT_FILENO, b":");
+    io::print_decimal(STDOUT_FILENO, count);
+}
+
+fn show_answers(numbers: [u64; NUMBERS]) {
+    for i in 0..NUMBERS {
+        show_answer(i as u64, numbers[i]);
+    }
+}
+
+// The comparisons that failed, and how often each number was answered.
 fn report(t: Trial) {
+    let numbers = t.numbers;
     io::write_all(STDOUT_FILENO, b"wrong");
     crate::number(t.wrong);
     io::write_all(STDOUT_FILENO, b" answers");
-    for i in 0..13 {
-        crate::number(t.numbers[i]);
-    }
+    show_answers(numbers);
     io::write_all(STDOUT_FILENO, b"\n");
 }
 
 // A list of `count` calls after a format, and its report.
 pub fn list(seed: u64, count: u64) {
-    let mut board = [0u64; BOARD_WORDS];
-    let mut work = [0u64; WORK_WORDS];
-    model::format(&mut board, LINES, ENTRIES);
+    let mut board = [0u64; LIST_BOARD];
+    let mut work = [0u64; LIST_WORK];
+    model::format(&mut board, LIST_LINES, ENTRIES);
     let start = Trial {
         seed,
-        registers: Registers {
-            epoch: 0,
-            buffered: 0,
-            cursor: 0,
-        },
-        reference: Reference::fresh(LINES),
-        numbers: [0; 16],
+        registers: Registers::zero(),
+        reference: Reference::fresh(LIST_LINES),
+        numbers: [0; NUMBERS],
         wrong: 0,
     };
     let end = turns(&mut board, &mut work, start, count);

@@ -12,6 +12,9 @@ Inv-loop board₀ work₀ script r₀ i₀ i-end board work r i = (length board 
 abbrev μ-loop : tie.MeasureT-loop
 μ-loop board₀ work₀ script r₀ i₀ i-end board work r i = i-end - i
 
+zero-requires : tie.Need-zero-requires Inv-loop μ-loop
+zero-requires c κs = search needs
+
 loop-holds : tie.Need-loop-holds Inv-loop μ-loop
 loop-holds c = search needs
 
@@ -57,6 +60,7 @@ run-spec =
     (tie.spec
     Inv-loop
     μ-loop
+    zero-requires
     loop-holds
     mul-at
     sub-step-of
