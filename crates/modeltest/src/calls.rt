@@ -1,11 +1,8 @@
 // One call, on the library and on the model, from the same two memories and registers.
-use checks::Registers;
+use crate::packing::BOARD_ROOM;
+use crate::packing::WORK_ROOM;
+use crate::register_words::*;
 ghost use Prim.Native.Nat.{_<_, _≤_};
-
-// The model takes boards of up to 300 words. The work memory has room for S = 257, which is refused.
-pub const BOARD_ROOM: usize = 300;
-
-pub const WORK_ROOM: usize = 580;
 
 pub const ALL: u32 = 4294967295;
 
@@ -34,7 +31,7 @@ pub struct State {
     pub work: [u64; WORK_ROOM],
     pub board_words: usize,
     pub work_words: usize,
-    pub registers: Registers,
+    pub registers: [u64; REGISTERS],
 }
 
 // What a call answers. Format and tally return no registers: theirs are those given.
@@ -42,7 +39,7 @@ pub struct Outcome {
     pub number: u64,
     pub value: u64,
     pub stores: u64,
-    pub registers: Registers,
+    pub registers: [u64; REGISTERS],
 }
 
 // The whole effect of a call, with the words past the lent ones.
@@ -71,21 +68,13 @@ pub fn index(at: u64, room: usize) -> usize
     if wanted < room { wanted } else { 0 }
 }
 
-pub fn no_registers() -> Registers {
-    Registers {
-        epoch: 0,
-        buffered: 0,
-        cursor: 0,
-    }
-}
-
 pub fn blank(board_words: usize, work_words: usize) -> State {
     State {
         board: [0; BOARD_ROOM],
         work: [0; WORK_ROOM],
         board_words,
         work_words,
-        registers: no_registers(),
+        registers: [0; REGISTERS],
     }
 }
 
@@ -124,11 +113,11 @@ fn of_answer(a: picl::Answer) -> Outcome {
         number: status.number(),
         value: a.value,
         stores: a.stores as u64,
-        registers,
+        registers: library_words(registers),
     }
 }
 
-fn of_report(a: picl::Report, registers: Registers) -> Outcome {
+fn of_report(a: picl::Report, registers: [u64; REGISTERS]) -> Outcome {
     let status = a.status;
     Outcome {
         number: status.number(),
@@ -138,34 +127,27 @@ fn of_report(a: picl::Report, registers: Registers) -> Outcome {
     }
 }
 
-fn library_call(board: &mut [u64], work: &mut [u64], r: Registers, c: Call) -> Outcome {
+fn library_call(board: &mut [u64], work: &mut [u64], words: [u64; REGISTERS], c: Call) -> Outcome {
+    let r = library_registers(words);
     let kind = c.kind;
     match kind {
-        Kind::Format => of_report(picl::format(board, c.address, c.value), r),
+        Kind::Format => of_report(picl::format(board, c.address, c.value), words),
         Kind::PowerUp => of_answer(picl::power_up(board, work, c.allowance)),
         Kind::Load => of_answer(picl::load(board, work, r, c.address, c.allowance)),
         Kind::Store => of_answer(picl::store(board, work, r, c.address, c.value, c.allowance)),
         Kind::Evict => of_answer(picl::evict(board, work, r, c.address, c.allowance)),
         Kind::Commit => of_answer(picl::commit(board, work, r, c.allowance)),
         Kind::Scan => of_answer(picl::scan(board, work, r, c.allowance)),
-        Kind::Tally => of_report(picl::tally(work), r),
+        Kind::Tally => of_report(picl::tally(work), words),
     }
 }
 
 fn of_model(a: model::Answer) -> Outcome {
-    Outcome {
-        number: a.number,
-        value: a.value,
-        stores: a.stores,
-        registers: Registers {
-            epoch: a.registers.epoch,
-            buffered: a.registers.buffered,
-            cursor: a.registers.cursor,
-        },
-    }
+    let registers = a.registers;
+    of_model_report(a, registers.words())
 }
 
-fn of_model_report(a: model::Answer, registers: Registers) -> Outcome {
+fn of_model_report(a: model::Answer, registers: [u64; REGISTERS]) -> Outcome {
     Outcome {
         number: a.number,
         value: a.value,
@@ -174,26 +156,18 @@ fn of_model_report(a: model::Answer, registers: Registers) -> Outcome {
     }
 }
 
-fn model_registers(r: Registers) -> model::Registers {
-    model::Registers {
-        epoch: r.epoch,
-        buffered: r.buffered,
-        cursor: r.cursor,
-    }
-}
-
-fn model_call(board: &mut [u64], work: &mut [u64], r: Registers, c: Call) -> Outcome {
-    let m = model_registers(r);
+fn model_call(board: &mut [u64], work: &mut [u64], words: [u64; REGISTERS], c: Call) -> Outcome {
+    let r = model::Registers::from_words(words);
     let kind = c.kind;
     match kind {
-        Kind::Format => of_model_report(model::format(board, c.address, c.value), r),
+        Kind::Format => of_model_report(model::format(board, c.address, c.value), words),
         Kind::PowerUp => of_model(model::power_up(board, work, c.allowance)),
-        Kind::Load => of_model(model::load(board, work, m, c.address, c.allowance)),
-        Kind::Store => of_model(model::store(board, work, m, c.address, c.value, c.allowance)),
-        Kind::Evict => of_model(model::evict(board, work, m, c.address, c.allowance)),
-        Kind::Commit => of_model(model::commit(board, work, m, c.allowance)),
-        Kind::Scan => of_model(model::scan(board, work, m, c.allowance)),
-        Kind::Tally => of_model_report(model::tally(work), r),
+        Kind::Load => of_model(model::load(board, work, r, c.address, c.allowance)),
+        Kind::Store => of_model(model::store(board, work, r, c.address, c.value, c.allowance)),
+        Kind::Evict => of_model(model::evict(board, work, r, c.address, c.allowance)),
+        Kind::Commit => of_model(model::commit(board, work, r, c.allowance)),
+        Kind::Scan => of_model(model::scan(board, work, r, c.allowance)),
+        Kind::Tally => of_model_report(model::tally(work), words),
     }
 }
 
@@ -202,7 +176,7 @@ fn library_part(
     work: &mut [u64],
     board_words: usize,
     work_words: usize,
-    r: Registers,
+    r: [u64; REGISTERS],
     c: Call,
 ) -> Outcome {
     let n = at_most(board_words, board.len());
@@ -215,7 +189,7 @@ fn model_part(
     work: &mut [u64],
     board_words: usize,
     work_words: usize,
-    r: Registers,
+    r: [u64; REGISTERS],
     c: Call,
 ) -> Outcome {
     let n = at_most(board_words, board.len());

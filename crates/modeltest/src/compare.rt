@@ -1,18 +1,21 @@
 // A call made on both sides, and what differs.
 use crate::calls::*;
+use crate::packing::*;
 use crate::print;
 
 // Of how many differences of a group each is printed; all are counted.
 const SHOWN: u64 = 3;
 
+// The numbers that are counted are below this; an answer with another one is a difference.
+pub const NUMBERS: usize = 32;
+
 pub enum Part {
     Nothing,
     Number,
+    LargeNumber,
     Value,
     Stores,
-    Epoch,
-    Buffered,
-    Cursor,
+    Register,
     Board,
     Work,
     Persisted,
@@ -34,7 +37,7 @@ pub struct Score {
     pub calls: u64,
     pub differences: u64,
     // How often each number was answered.
-    pub numbers: [u64; 16],
+    pub numbers: [u64; NUMBERS],
     // The most stores of one call, power-up left out.
     pub most_stores: u64,
     // How many scans persisted an epoch.
@@ -54,7 +57,7 @@ pub fn new_score(group: u64) -> Score {
         group,
         calls: 0,
         differences: 0,
-        numbers: [0; 16],
+        numbers: [0; NUMBERS],
         most_stores: 0,
         persisted: 0,
         wrapped: 0,
@@ -106,26 +109,17 @@ pub fn between_words(part: Part, x: &[u64], y: &[u64]) -> Difference {
 }
 
 fn between_registers(x: Outcome, y: Outcome) -> Difference {
-    if x.registers.epoch != y.registers.epoch {
-        return differing(Part::Epoch, 0, x.registers.epoch, y.registers.epoch);
-    }
-    if x.registers.buffered != y.registers.buffered {
-        return differing(
-            Part::Buffered,
-            0,
-            x.registers.buffered,
-            y.registers.buffered,
-        );
-    }
-    if x.registers.cursor != y.registers.cursor {
-        return differing(Part::Cursor, 0, x.registers.cursor, y.registers.cursor);
-    }
-    no_difference()
+    let a = x.registers;
+    let b = y.registers;
+    between_words(Part::Register, &a, &b)
 }
 
 fn between_outcomes(x: Outcome, y: Outcome) -> Difference {
     if x.number != y.number {
         return differing(Part::Number, 0, x.number, y.number);
+    }
+    if x.number >= NUMBERS as u64 {
+        return differing(Part::LargeNumber, 0, x.number, NUMBERS as u64 - 1);
     }
     if x.value != y.value {
         return differing(Part::Value, 0, x.value, y.value);
@@ -177,15 +171,14 @@ pub fn noted(score: Score, s: State, c: Call, d: Difference) -> Score {
 
 // Whether a board's log goes on past the ring's end: start + length > L.
 fn is_wrapped(control: u64, shape: u64) -> bool {
-    let start = (control >> 20) & 0xFFFFF;
-    sum(start, control & 0xFFFFF) > shape & 0xFFFFF
+    sum(start_of(control), length_of(control)) > entries_of(shape)
 }
 
 fn with_wrapped(score: Score, s: State, number: u64) -> Score {
     if number != 0 {
         return score;
     }
-    if !is_wrapped(s.board[0], s.board[1]) {
+    if !is_wrapped(s.board[CONTROL], s.board[SHAPE]) {
         return score;
     }
     let mut next = score;
@@ -235,11 +228,14 @@ fn with_persisted(score: Score, c: Call, value: u64) -> Score {
 }
 
 fn counted(score: Score, number: u64) -> Score {
-    let at = index(number, 16);
-    let seen = score.numbers[at];
     let mut next = score;
-    next.numbers[at] = sum(seen, 1);
     next.calls = sum(score.calls, 1);
+    if number >= NUMBERS as u64 {
+        return next;
+    }
+    let at = number as usize;
+    let seen = score.numbers[at];
+    next.numbers[at] = sum(seen, 1);
     next
 }
 

@@ -2,18 +2,11 @@
 use crate::calls::*;
 use crate::compare::*;
 use crate::history::*;
+use crate::packing::*;
 use crate::plans;
-use checks::Registers;
-
-// The states of this file have 5 lines, 8 log entries and 3 slots: 23 words of board memory and 70
-// of work memory.
-const ENTRIES: u64 = 8;
-
-const SLOTS: u64 = 3;
-
-const BOARD_WORDS: u64 = 23;
-
-const WORDS: u64 = 93;
+use crate::plans::ENTRIES;
+use crate::plans::SLOTS;
+use crate::register_words::*;
 
 fn quiet_call(n: u64) -> Call {
     match n {
@@ -56,7 +49,7 @@ pub fn every_call(s: State, score: Score) -> Score {
     next
 }
 
-// A board of 5 lines, 8 log entries and 3 slots in the middle of its life.
+// A board in the middle of its life.
 fn sound(n: u64, score: Score) -> Step {
     let h = played(plans::sound(n), score);
     let state = h.state;
@@ -69,24 +62,31 @@ fn sound(n: u64, score: Score) -> Step {
     }
 }
 
+// The words that a state lends.
+pub fn words_of(s: State) -> u64 {
+    sum(s.board_words as u64, s.work_words as u64)
+}
+
 // The word at a place, the work memory's places counted on from the board's.
 fn word_at(s: State, place: u64) -> u64 {
-    if place < BOARD_WORDS {
+    let board_words = s.board_words as u64;
+    if place < board_words {
         let at = index(place, BOARD_ROOM);
         return s.board[at];
     }
-    let at = index(place - BOARD_WORDS, WORK_ROOM);
+    let at = index(place - board_words, WORK_ROOM);
     s.work[at]
 }
 
 pub fn with_word(s: State, place: u64, word: u64) -> State {
+    let board_words = s.board_words as u64;
     let mut next = s;
-    if place < BOARD_WORDS {
+    if place < board_words {
         let at = index(place, BOARD_ROOM);
         next.board[at] = word;
         return next;
     }
-    let at = index(place - BOARD_WORDS, WORK_ROOM);
+    let at = index(place - board_words, WORK_ROOM);
     next.work[at] = word;
     next
 }
@@ -95,82 +95,32 @@ pub fn flipped(s: State, place: u64, bit: u64) -> State {
     with_word(s, place, word_at(s, place) ^ (1 << (bit % 64)))
 }
 
+fn bits_at(s: State, place: u64, score: Score) -> Score {
+    let mut next = score;
+    for bit in 0..64 {
+        next = every_call(flipped(s, place, bit), next);
+    }
+    next
+}
+
 // Every bit of every word of both memories flipped, one at a time.
 pub fn bits(n: u64, score: Score) -> Score {
     let base = sound(n, score);
     let state = base.state;
     let mut next = base.score;
-    for i in 0..64 * WORDS {
-        next = every_call(flipped(state, i / 64, i), next);
+    for place in 0..words_of(state) {
+        next = bits_at(state, place, next);
     }
     next
 }
 
-// A field of a word: where it begins and its greatest value; 0 where there is no such field.
-struct Field {
-    shift: u64,
-    most: u64,
-}
-
-fn bits_from(shift: u64, most: u64) -> Field {
-    Field { shift, most }
-}
-
-// The fields of the control word and of the shape word.
-fn header_field(n: u64) -> Field {
-    match n {
-        0 => bits_from(40, 0xFFFFFF),
-        1 => bits_from(20, 0xFFFFF),
-        2 => bits_from(0, 0xFFFFF),
-        _ => bits_from(0, 0),
+// Field n of the word at a place.
+fn field_at(s: State, place: u64, n: u64) -> Field {
+    let board_words = s.board_words as u64;
+    if place < board_words {
+        return board_field(place, ENTRIES, n);
     }
-}
-
-fn entry_field(n: u64) -> Field {
-    match n {
-        0 => bits_from(48, 0xFFFF),
-        1 => bits_from(24, 0xFFFFFF),
-        2 => bits_from(0, 0xFFFFFF),
-        _ => bits_from(0, 0),
-    }
-}
-
-fn slot_field(n: u64) -> Field {
-    match n {
-        0 => bits_from(63, 1),
-        1 => bits_from(62, 1),
-        2 => bits_from(46, 0xFFFF),
-        3 => bits_from(22, 0xFFFFFF),
-        _ => bits_from(0, 0x3FFFFF),
-    }
-}
-
-// Field n of the packed word at an even place of the log, the slots or the buffer, or of the two
-// words before the log.
-fn field_at(place: u64, n: u64) -> Field {
-    if place < 2 {
-        return header_field(n);
-    }
-    if place < 2 + 2 * ENTRIES {
-        return entry_field(n);
-    }
-    if place < BOARD_WORDS {
-        return bits_from(0, 0);
-    }
-    if place < BOARD_WORDS + 2 * SLOTS {
-        return slot_field(n);
-    }
-    entry_field(n)
-}
-
-fn has_fields(place: u64) -> bool {
-    if place < 2 {
-        return true;
-    }
-    if place < BOARD_WORDS {
-        return place % 2 == 0;
-    }
-    (place - BOARD_WORDS) % 2 == 0
+    work_field(place - board_words, SLOTS, n)
 }
 
 // A field's value: the 20 least and the 20 greatest that it can have.
@@ -183,12 +133,6 @@ fn value_of(n: u64, most: u64) -> u64 {
     std::num::wrapping_sub_u64(most, n - 20) & most
 }
 
-fn replaced(word: u64, f: Field, value: u64) -> u64 {
-    let shift = f.shift % 64;
-    let old = word & (f.most << shift);
-    (word ^ old) | (value << shift)
-}
-
 // The calls with the value numbered n in a field, where there is such a field.
 fn field_calls(s: State, place: u64, f: Field, n: u64, score: Score) -> Score {
     if f.most == 0 {
@@ -199,12 +143,9 @@ fn field_calls(s: State, place: u64, f: Field, n: u64, score: Score) -> Score {
 }
 
 fn place_calls(s: State, place: u64, score: Score) -> Score {
-    if !has_fields(place) {
-        return score;
-    }
     let mut next = score;
-    for i in 0..5 * VALUES {
-        next = field_calls(s, place, field_at(place, i / VALUES), i % VALUES, next);
+    for i in 0..MOST_FIELDS * VALUES {
+        next = field_calls(s, place, field_at(s, place, i / VALUES), i % VALUES, next);
     }
     next
 }
@@ -214,7 +155,7 @@ pub fn fields(n: u64, score: Score) -> Score {
     let base = sound(n, score);
     let state = base.state;
     let mut next = base.score;
-    for place in 0..WORDS {
+    for place in 0..words_of(state) {
         next = place_calls(state, place, next);
     }
     next
@@ -226,7 +167,7 @@ fn count_of(n: u64) -> u64 {
         return n;
     }
     if n < 14 {
-        return sum(n, 20);
+        return sum(n - 10, BUFFER_ENTRIES - 2);
     }
     0xFFFFFFFFFFFFFFFF
 }
@@ -241,22 +182,21 @@ fn cursor_of(n: u64) -> u64 {
 // The values of s: about 0, about the last epoch, and the greatest.
 fn epoch_of(n: u64) -> u64 {
     if n < 40 {
-        return value_of(n, 0xFFFFFF);
+        return value_of(n, LAST_EPOCH);
     }
     if n < 42 {
-        return sum(n, 0xFFFFFF - 39);
+        return sum(n - 39, LAST_EPOCH);
     }
     0xFFFFFFFFFFFFFFFF
 }
 
-const REGISTERS: u64 = 3870;
+const TRIPLES: u64 = 3870;
 
 fn with_registers(s: State, n: u64) -> State {
-    let registers = Registers {
-        epoch: epoch_of(n / 90),
-        buffered: count_of(n / 6 % 15),
-        cursor: cursor_of(n % 6),
-    };
+    let mut registers = [0; REGISTERS];
+    registers[EPOCH] = epoch_of(n / 90);
+    registers[BUFFERED] = count_of(n / 6 % 15);
+    registers[CURSOR] = cursor_of(n % 6);
     let mut next = s;
     next.registers = registers;
     next
@@ -267,7 +207,7 @@ pub fn registers(n: u64, score: Score) -> Score {
     let base = sound(n, score);
     let state = base.state;
     let mut next = base.score;
-    for i in 0..REGISTERS {
+    for i in 0..TRIPLES {
         next = every_call(with_registers(state, i), next);
     }
     next
@@ -296,7 +236,8 @@ fn work_lengths(s: State, score: Score) -> Score {
     next
 }
 
-// Board lengths 0 to 40 with the right work memory; work lengths 0 to 580 with the right board.
+// Board lengths 0 to 40 with the right work memory; every work length that there is room for with
+// the right board.
 pub fn lengths(score: Score) -> Score {
     let base = sound(0, score);
     let state = base.state;
@@ -307,18 +248,20 @@ pub fn lengths(score: Score) -> Score {
 // N and L for format: up to 12, and numbers about the limits of the fields and of a word.
 const SIZES: u64 = 23;
 
+const LARGER: u64 = 40;
+
 fn size_of(n: u64) -> u64 {
     match n {
-        13 => 65535,
-        14 => 65536,
-        15 => 65537,
-        16 => 1048576,
+        13 => MOST_LINES - 1,
+        14 => MOST_LINES,
+        15 => MOST_LINES + 1,
+        16 => MOST_COUNT + 1,
         17 => 4294967296,
         18 => 9223372036854775807,
         19 => 9223372036854775808,
         20 => 18446744073709551614,
         21 => 18446744073709551615,
-        22 => 40,
+        22 => LARGER,
         _ => n,
     }
 }
@@ -335,13 +278,14 @@ fn format_calls(s: State, score: Score) -> Score {
     next
 }
 
-// Format of boards of 0 to 40 words and of 122, which 40 lines and 40 entries fit.
+// Format of boards of 0 to 40 words, and of a board that 40 lines and 40 entries fit.
 pub fn formats(score: Score) -> Score {
     let base = sound(0, score);
     let state = base.state;
     let mut next = base.score;
     for words in 0..41 {
-        next = format_calls(with_lengths(state, words, 70), next);
+        next = format_calls(with_lengths(state, words, state.work_words), next);
     }
-    format_calls(with_lengths(state, 122, 70), next)
+    let fitting = board_words(LARGER, LARGER);
+    format_calls(with_lengths(state, fitting, state.work_words), next)
 }

@@ -3,11 +3,13 @@
 // its value.
 use crate::calls::*;
 use crate::compare::*;
+use crate::packing::*;
 use crate::random;
 use crate::random::Mix;
 use crate::random::advanced;
 use crate::random::below;
 use crate::random::scrambled;
+use crate::register_words::*;
 use model::Reference;
 
 pub struct History {
@@ -28,17 +30,6 @@ pub struct Plan {
     pub mix: Mix,
     pub turns: u64,
     pub seed: u64,
-}
-
-pub fn work_words(slots: u64) -> usize {
-    at_most(sum(sum(slots, slots), 64) as usize, WORK_ROOM)
-}
-
-pub fn board_words(lines: u64, entries: u64) -> usize {
-    at_most(
-        sum(sum(sum(entries, entries), lines), 2) as usize,
-        BOARD_ROOM,
-    )
 }
 
 fn fed(reference: Reference, c: Call, o: Outcome) -> Reference {
@@ -83,7 +74,7 @@ fn between_accepted(s: State, reference: Reference, c: Call, o: Outcome) -> Diff
 }
 
 fn between_histories(s: State, reference: Reference, c: Call, o: Outcome) -> Difference {
-    let persisted = s.board[0] >> 40;
+    let persisted = persisted_of(s.board[CONTROL]);
     if persisted != reference.persisted() {
         return differing(Part::Persisted, 0, persisted, reference.persisted());
     }
@@ -117,7 +108,7 @@ fn no_outcome() -> Outcome {
         number: 0,
         value: 0,
         stores: 0,
-        registers: no_registers(),
+        registers: [0; REGISTERS],
     }
 }
 
@@ -127,7 +118,7 @@ fn unformatted(plan: Plan, score: Score) -> History {
         board_words(plan.lines, plan.entries),
         work_words(plan.slots),
     );
-    state.board[0] = 7;
+    state.board[CONTROL] = 7;
     state.board[2] = 7;
     History {
         state,
@@ -141,7 +132,7 @@ fn unformatted(plan: Plan, score: Score) -> History {
 fn from_epoch(h: History, persisted: u64) -> History {
     let mut state = h.state;
     let mut reference = h.reference;
-    state.board[0] = persisted << 40;
+    state.board[CONTROL] = control_word(persisted, 0, 0);
     reference.persisted_epoch = persisted;
     reference.running_epoch = sum(persisted, 1);
     let mut next = h;
@@ -183,8 +174,9 @@ pub fn before_call(h: History, plan: Plan, word: u64, c: Call) -> History {
 }
 
 pub fn next_call(h: History, plan: Plan, word: u64) -> Call {
+    let state = h.state;
     let mix = plan.mix;
-    random::call(word, mix, plan.lines, h.state.registers.epoch)
+    random::call(word, mix, plan.lines, state.registers[EPOCH])
 }
 
 fn turn(h: History, plan: Plan, word: u64) -> History {

@@ -8,13 +8,16 @@ mod cuts;
 mod damage;
 mod history;
 mod noise;
+mod packing;
 mod plans;
 mod print;
 mod random;
+mod register_words;
 mod short;
 
 use compare::Score;
 use compare::new_score;
+use packing::LAST_EPOCH;
 use print::group_line;
 
 fn histories(score: Score) -> Score {
@@ -29,7 +32,7 @@ fn histories(score: Score) -> Score {
 fn last_epochs(score: Score) -> Score {
     let mut next = score;
     for n in 0..24 {
-        next = history::list(plans::last(16777214 - n, 4001 + n), next);
+        next = history::list(plans::last(LAST_EPOCH - 1 - n, 4001 + n), next);
     }
     next
 }

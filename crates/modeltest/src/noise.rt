@@ -1,34 +1,25 @@
-// Calls on random memories of 5 lines, 8 log entries and 3 slots: random words, and random fields
-// that are in range but that no list of calls need lead to; then a few bits are flipped.
+// Calls on random memories of the board that is damaged: random words, and random fields that are in
+// range but that no list of calls need lead to; then a few bits are flipped.
 use crate::calls::*;
 use crate::compare::*;
 use crate::damage::flipped;
+use crate::damage::words_of;
+use crate::packing::*;
 use crate::plans;
+use crate::plans::ENTRIES;
+use crate::plans::LINES;
+use crate::plans::SLOTS;
 use crate::random;
 use crate::random::advanced;
 use crate::random::below;
 use crate::random::filled;
 use crate::random::scrambled;
-use checks::Registers;
-
-const LINES: u64 = 5;
-
-const ENTRIES: u64 = 8;
-
-const SLOTS: u64 = 3;
-
-const BOARD_WORDS: usize = 23;
-
-const WORK_WORDS: usize = 70;
-
-const SHAPE: u64 = 0x500008;
-
-const EPOCH_MASK: u64 = 0xFFFFFF;
+use crate::register_words::*;
 
 // Epochs near 0 and near the last.
 fn random_persisted(word: u64) -> u64 {
     if word % 4 == 0 {
-        return sum(0xFFFFEE, below(word, 17));
+        return sum(LAST_EPOCH - 17, below(word, 17));
     }
     below(word, 20)
 }
@@ -48,9 +39,9 @@ fn random_words(seed: u64) -> State {
     State {
         board: random_board(seed),
         work: filled(none, advanced(seed)),
-        board_words: BOARD_WORDS,
-        work_words: WORK_WORDS,
-        registers: no_registers(),
+        board_words: board_words(LINES, ENTRIES),
+        work_words: work_words(SLOTS),
+        registers: [0; REGISTERS],
     }
 }
 
@@ -97,7 +88,7 @@ fn earlier(word: u64, epoch: u64) -> u64 {
 
 fn entry(word: u64, till: u64) -> u64 {
     let from = earlier(word, till);
-    (below(word >> 8, LINES) << 48) | ((from & EPOCH_MASK) << 24) | (till & EPOCH_MASK)
+    entry_word(below(word >> 8, LINES), from, till)
 }
 
 // ValidTill rises by 0, 1 or 2 from an entry to the next.
@@ -105,7 +96,7 @@ fn with_log(board: [u64; BOARD_ROOM], f: Frame) -> [u64; BOARD_ROOM] {
     let mut next = board;
     let mut till = sum(f.persisted, 1);
     for i in 0..ENTRIES {
-        let at = index(2 + 2 * ((f.start % ENTRIES + i) % ENTRIES), BOARD_ROOM);
+        let at = index(entry_place((f.start % ENTRIES + i) % ENTRIES), BOARD_ROOM);
         till = sum(till, below(next[at] >> 3, 3));
         next[at] = entry(next[at], till);
     }
@@ -117,7 +108,7 @@ fn slot_tag(word: u64, f: Frame) -> u64 {
     sum(sum(f.persisted, 1), below(word, behind))
 }
 
-// A line of slot k: k or, where there is such a line, k + 3.
+// A line of slot k: k or, where there is such a line, the next one.
 fn slot_line(word: u64, k: u64) -> u64 {
     let far = sum(k, SLOTS);
     if word % 2 == 0 {
@@ -128,19 +119,19 @@ fn slot_line(word: u64, k: u64) -> u64 {
 
 // An empty, a clean or a dirty slot k.
 fn slot(word: u64, k: u64, f: Frame) -> u64 {
-    let valid = (1 << 63) | (slot_line(word >> 40, k) << 46);
+    let address = slot_line(word >> 40, k);
     let state = word % 4;
     match state {
         0 => 0,
-        1 => valid,
-        _ => valid | (1 << 62) | ((slot_tag(word, f) & EPOCH_MASK) << 22),
+        1 => clean_word(address),
+        _ => dirty_word(address, slot_tag(word, f)),
     }
 }
 
 fn with_slots(work: [u64; WORK_ROOM], f: Frame) -> [u64; WORK_ROOM] {
     let mut next = work;
     for k in 0..SLOTS {
-        let at = index(2 * k, WORK_ROOM);
+        let at = index(slot_place(k), WORK_ROOM);
         next[at] = slot(next[at], k, f);
     }
     next
@@ -148,8 +139,8 @@ fn with_slots(work: [u64; WORK_ROOM], f: Frame) -> [u64; WORK_ROOM] {
 
 fn with_buffer(work: [u64; WORK_ROOM], f: Frame) -> [u64; WORK_ROOM] {
     let mut next = work;
-    for i in 0..32 {
-        let at = index(2 * SLOTS + 2 * i, WORK_ROOM);
+    for i in 0..BUFFER_ENTRIES {
+        let at = index(buffer_place(SLOTS, i), WORK_ROOM);
         let till = sum(earlier(next[at] >> 5, f.epoch), 1);
         next[at] = entry(next[at], till);
     }
@@ -157,7 +148,15 @@ fn with_buffer(work: [u64; WORK_ROOM], f: Frame) -> [u64; WORK_ROOM] {
 }
 
 fn control(f: Frame) -> u64 {
-    (f.persisted << 40) | (f.start << 20) | f.length
+    control_word(f.persisted, f.start, f.length)
+}
+
+fn registers(f: Frame) -> [u64; REGISTERS] {
+    let mut words = [0; REGISTERS];
+    words[EPOCH] = f.epoch;
+    words[BUFFERED] = f.buffered;
+    words[CURSOR] = f.cursor;
+    words
 }
 
 // A state whose words are all in range, if its epochs fit 24 bits.
@@ -167,18 +166,14 @@ fn random_fields(seed: u64) -> State {
     let old_board = words.board;
     let old_work = words.work;
     let mut board = with_log(old_board, f);
-    board[0] = control(f);
-    board[1] = SHAPE;
+    board[CONTROL] = control(f);
+    board[SHAPE] = shape_word(LINES, ENTRIES);
     State {
         board,
         work: with_buffer(with_slots(old_work, f), f),
-        board_words: BOARD_WORDS,
-        work_words: WORK_WORDS,
-        registers: Registers {
-            epoch: f.epoch,
-            buffered: f.buffered,
-            cursor: f.cursor,
-        },
+        board_words: words.board_words,
+        work_words: words.work_words,
+        registers: registers(f),
     }
 }
 
@@ -187,20 +182,18 @@ fn framed_words(seed: u64) -> State {
     let f = random_frame(seed);
     let mut state = random_words(seed);
     if seed % 16 != 0 {
-        state.board[1] = SHAPE;
+        state.board[SHAPE] = shape_word(LINES, ENTRIES);
     }
     if seed % 4 != 0 {
-        state.board[0] = control(f);
+        state.board[CONTROL] = control(f);
     }
-    state.registers.epoch = f.epoch;
-    state.registers.buffered = f.buffered;
-    state.registers.cursor = f.cursor;
+    state.registers = registers(f);
     state
 }
 
-// Of the two memories' 93 words, a bit of one flipped.
+// Of the two memories' words, a bit of one flipped.
 fn flipped_once(s: State, word: u64) -> State {
-    flipped(s, below(word, 93), below(word >> 20, 64))
+    flipped(s, below(word, words_of(s)), below(word >> 20, 64))
 }
 
 // None, one or two bits flipped.
@@ -215,7 +208,7 @@ fn flipped_some(s: State, word: u64) -> State {
 
 fn turn(s: State, word: u64, score: Score) -> Step {
     let mix = plans::often_cut();
-    compared(s, random::call(word, mix, LINES, s.registers.epoch), score)
+    compared(s, random::call(word, mix, LINES, s.registers[EPOCH]), score)
 }
 
 const CHAIN: u64 = 4;

@@ -1,5 +1,6 @@
 // The boards of the lists: N, L, S, another S; the kinds of calls; their number and seed.
 use crate::history::Plan;
+use crate::packing::LAST_EPOCH;
 use crate::random::Mix;
 
 // Every kind of call.
@@ -140,8 +141,15 @@ pub fn cut(n: u64, seed: u64) -> Plan {
     }
 }
 
+// The board whose words, fields and registers are damaged.
+pub const LINES: u64 = 5;
+
+pub const ENTRIES: u64 = 8;
+
+pub const SLOTS: u64 = 3;
+
 fn ending(seed: u64, turns: u64, persisted: u64) -> Plan {
-    let mut next = seeded(plan(5, 8, 3, 3, busy(), turns), seed);
+    let mut next = seeded(plan(LINES, ENTRIES, SLOTS, SLOTS, busy(), turns), seed);
     next.persisted = persisted;
     next
 }
@@ -153,7 +161,7 @@ pub fn sound(n: u64) -> Plan {
     match n {
         0 => ending(36, 60, 0),
         1 => ending(27, 40, 0),
-        2 => ending(49, 40, 16777210),
+        2 => ending(49, 40, LAST_EPOCH - 5),
         _ => ending(54, 60, 0),
     }
 }

@@ -1,8 +1,10 @@
 // The program's lines: one for each group, and those of differences.
 use crate::calls::*;
 use crate::compare::Difference;
+use crate::compare::NUMBERS;
 use crate::compare::Part;
 use crate::compare::Score;
+use crate::register_words::REGISTERS;
 use libc::STDOUT_FILENO;
 
 fn text(words: &[u8]) {
@@ -50,11 +52,10 @@ fn part_name(part: Part) {
     match part {
         Part::Nothing => text(b"nothing"),
         Part::Number => text(b"number"),
+        Part::LargeNumber => text(b"number past the last"),
         Part::Value => text(b"value"),
         Part::Stores => text(b"stores"),
-        Part::Epoch => text(b"register s"),
-        Part::Buffered => text(b"register b"),
-        Part::Cursor => text(b"register c"),
+        Part::Register => text(b"register"),
         Part::Board => text(b"board word"),
         Part::Work => text(b"work word"),
         Part::Persisted => text(b"P against the reference machine"),
@@ -67,15 +68,21 @@ fn named(name: &[u8], n: u64) {
     number(n);
 }
 
+fn register_list(registers: [u64; REGISTERS]) {
+    for i in 0..REGISTERS {
+        named(b" ", registers[i]);
+    }
+}
+
 fn arguments(s: State, c: Call) {
+    let registers = s.registers;
     named(b" address ", c.address);
     named(b" value ", c.value);
     named(b" allowance ", c.allowance as u64);
     named(b" board ", s.board_words as u64);
     named(b" work ", s.work_words as u64);
-    named(b" s ", s.registers.epoch);
-    named(b" b ", s.registers.buffered);
-    named(b" c ", s.registers.cursor);
+    text(b" registers");
+    register_list(registers);
 }
 
 // The group and the number of calls before this one; the call and its arguments; what differs.
@@ -97,14 +104,23 @@ pub fn difference_line(group: u64, calls: u64, s: State, c: Call, d: Difference)
     text(b"\n");
 }
 
-fn answers(numbers: [u64; 16]) {
-    for i in 0..13 {
-        named(b" ", numbers[i]);
+// A number that was answered, and how often.
+fn answer(answered: u64, count: u64) {
+    if count == 0 {
+        return;
+    }
+    named(b" ", answered);
+    named(b":", count);
+}
+
+fn answers(numbers: [u64; NUMBERS]) {
+    for i in 0..NUMBERS {
+        answer(i as u64, numbers[i]);
     }
 }
 
-// A group's line: its calls, how many answered each number from 0 to 12, what shows that the rarer
-// states were reached, and its differences.
+// A group's line: its calls, how many answered each number, what shows that the rarer states were
+// reached, and its differences.
 pub fn group_line(score: Score) {
     let numbers = score.numbers;
     group_name(score.group);

@@ -1,5 +1,6 @@
 // Pseudo-random calls. Every list has a fixed seed, so each run makes the same calls.
 use crate::calls::*;
+use crate::packing::WORK_ROOM;
 
 // A step of Marsaglia's xorshift generator: from a word that is not 0 to the next.
 pub fn scrambled(x: u64) -> u64 {

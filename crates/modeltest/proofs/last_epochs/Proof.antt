@@ -16,6 +16,9 @@ loop-holds c = search needs
 sub-last : tie.Need-sub-last Inv-loop μ-loop
 sub-last c = search needs
 
+sub-last-2 : tie.Need-sub-last-2 Inv-loop μ-loop
+sub-last-2 c = search needs
+
 add-last : tie.Need-add-last Inv-loop μ-loop
 add-last c = search needs
 
@@ -45,6 +48,7 @@ last-epochs-spec =
     μ-loop
     loop-holds
     sub-last
+    sub-last-2
     add-last
     last-requires
     list-requires

@@ -5,25 +5,25 @@ use Rattle.modeltest.proofs.damage.bits.Statement.{statement}
 use Rattle.modeltest.proofs.damage.bits.Tie as tie
 
 abbrev Inv-loop : tie.InvT-loop
-Inv-loop n state next₀ i₀ next i = Unit {0}
+Inv-loop n state next₀ place₀ place-end next place = Unit {0}
 
 abbrev μ-loop : tie.MeasureT-loop
-μ-loop n state next₀ i₀ next i = 5952 - i
+μ-loop n state next₀ place₀ place-end next place = place-end - place
 
 sound-requires : tie.Need-sound-requires Inv-loop μ-loop
 sound-requires c κs = search needs
 
+words-of-requires : tie.Need-words-of-requires Inv-loop μ-loop
+words-of-requires c κs = search needs
+
 loop-holds : tie.Need-loop-holds Inv-loop μ-loop
 loop-holds c = search needs
 
-flipped-requires : tie.Need-flipped-requires Inv-loop μ-loop
-flipped-requires c κs = search needs
+bits-at-requires : tie.Need-bits-at-requires Inv-loop μ-loop
+bits-at-requires c κs = search needs
 
-every-call-requires : tie.Need-every-call-requires Inv-loop μ-loop
-every-call-requires c κs = search needs
-
-add-i : tie.Need-add-i Inv-loop μ-loop
-add-i c = search needs
+add-place : tie.Need-add-place Inv-loop μ-loop
+add-place c = search needs
 
 loop-less : tie.Need-loop-less Inv-loop μ-loop
 loop-less c = search needs
@@ -41,10 +41,10 @@ bits-spec =
     Inv-loop
     μ-loop
     sound-requires
+    words-of-requires
     loop-holds
-    flipped-requires
-    every-call-requires
-    add-i
+    bits-at-requires
+    add-place
     loop-less
     loop-again
     returns)

@@ -5,13 +5,16 @@ use Rattle.modeltest.proofs.damage.fields.Statement.{statement}
 use Rattle.modeltest.proofs.damage.fields.Tie as tie
 
 abbrev Inv-loop : tie.InvT-loop
-Inv-loop n state next₀ place₀ next place = Unit {0}
+Inv-loop n state next₀ place₀ place-end next place = Unit {0}
 
 abbrev μ-loop : tie.MeasureT-loop
-μ-loop n state next₀ place₀ next place = 93 - place
+μ-loop n state next₀ place₀ place-end next place = place-end - place
 
 sound-requires : tie.Need-sound-requires Inv-loop μ-loop
 sound-requires c κs = search needs
+
+words-of-requires : tie.Need-words-of-requires Inv-loop μ-loop
+words-of-requires c κs = search needs
 
 loop-holds : tie.Need-loop-holds Inv-loop μ-loop
 loop-holds c = search needs
@@ -38,6 +41,7 @@ fields-spec =
     Inv-loop
     μ-loop
     sound-requires
+    words-of-requires
     loop-holds
     place-calls-requires
     add-place

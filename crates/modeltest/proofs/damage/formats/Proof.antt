@@ -31,6 +31,9 @@ loop-less c = search needs
 loop-again : tie.Need-loop-again Inv-loop μ-loop
 loop-again c = search needs
 
+board-words-requires : tie.Need-board-words-requires Inv-loop μ-loop
+board-words-requires c κs = search needs
+
 with-lengths-requires-2 : tie.Need-with-lengths-requires-2 Inv-loop μ-loop
 with-lengths-requires-2 c κs = search needs
 
@@ -53,6 +56,7 @@ formats-spec =
     add-words
     loop-less
     loop-again
+    board-words-requires
     with-lengths-requires-2
     format-calls-requires-2
     returns)

@@ -10,12 +10,6 @@ Inv-loop s place next₀ i₀ next i = Unit {0}
 abbrev μ-loop : tie.MeasureT-loop
 μ-loop s place next₀ i₀ next i = 200 - i
 
-has-fields-requires : tie.Need-has-fields-requires Inv-loop μ-loop
-has-fields-requires c κs = search needs
-
-returns : tie.Need-returns Inv-loop μ-loop
-returns c = search needs
-
 loop-holds : tie.Need-loop-holds Inv-loop μ-loop
 loop-holds c = search needs
 
@@ -34,8 +28,8 @@ loop-less c = search needs
 loop-again : tie.Need-loop-again Inv-loop μ-loop
 loop-again c = search needs
 
-returns-2 : tie.Need-returns-2 Inv-loop μ-loop
-returns-2 c = search needs
+returns : tie.Need-returns Inv-loop μ-loop
+returns c = search needs
 
 pub place-calls-spec : {M : Type 1} → statement M
 place-calls-spec =
@@ -43,12 +37,10 @@ place-calls-spec =
     (tie.spec
     Inv-loop
     μ-loop
-    has-fields-requires
-    returns
     loop-holds
     field-at-requires
     field-calls-requires
     add-i
     loop-less
     loop-again
-    returns-2)
+    returns)

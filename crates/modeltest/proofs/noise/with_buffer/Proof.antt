@@ -13,14 +13,8 @@ abbrev μ-loop : tie.MeasureT-loop
 loop-holds : tie.Need-loop-holds Inv-loop μ-loop
 loop-holds c = search needs
 
-mul-index : tie.Need-mul-index Inv-loop μ-loop
-mul-index c = search needs
-
-mul-index-2 : tie.Need-mul-index-2 Inv-loop μ-loop
-mul-index-2 c = search needs
-
-add-index : tie.Need-add-index Inv-loop μ-loop
-add-index c = search needs
+buffer-place-requires : tie.Need-buffer-place-requires Inv-loop μ-loop
+buffer-place-requires c κs = search needs
 
 index-requires : tie.Need-index-requires Inv-loop μ-loop
 index-requires c κs = search needs
@@ -71,9 +65,7 @@ with-buffer-spec =
     Inv-loop
     μ-loop
     loop-holds
-    mul-index
-    mul-index-2
-    add-index
+    buffer-place-requires
     index-requires
     mul-earlier
     array-read-earlier

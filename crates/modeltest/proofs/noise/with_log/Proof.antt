@@ -16,14 +16,11 @@ sum-requires c κs = search needs
 loop-holds : tie.Need-loop-holds Inv-loop μ-loop
 loop-holds c = search needs
 
-add-index : tie.Need-add-index Inv-loop μ-loop
-add-index c = search needs
+add-entry-place : tie.Need-add-entry-place Inv-loop μ-loop
+add-entry-place c = search needs
 
-mul-index : tie.Need-mul-index Inv-loop μ-loop
-mul-index c = search needs
-
-add-index-2 : tie.Need-add-index-2 Inv-loop μ-loop
-add-index-2 c = search needs
+entry-place-requires : tie.Need-entry-place-requires Inv-loop μ-loop
+entry-place-requires c κs = search needs
 
 index-requires : tie.Need-index-requires Inv-loop μ-loop
 index-requires c κs = search needs
@@ -75,9 +72,8 @@ with-log-spec =
     μ-loop
     sum-requires
     loop-holds
-    add-index
-    mul-index
-    add-index-2
+    add-entry-place
+    entry-place-requires
     index-requires
     mul-below
     array-read-below

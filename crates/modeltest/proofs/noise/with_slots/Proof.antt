@@ -13,8 +13,8 @@ abbrev μ-loop : tie.MeasureT-loop
 loop-holds : tie.Need-loop-holds Inv-loop μ-loop
 loop-holds c = search needs
 
-mul-index : tie.Need-mul-index Inv-loop μ-loop
-mul-index c = search needs
+slot-place-requires : tie.Need-slot-place-requires Inv-loop μ-loop
+slot-place-requires c κs = search needs
 
 index-requires : tie.Need-index-requires Inv-loop μ-loop
 index-requires c κs = search needs
@@ -53,7 +53,7 @@ with-slots-spec =
     Inv-loop
     μ-loop
     loop-holds
-    mul-index
+    slot-place-requires
     index-requires
     mul-slot
     array-read-slot

@@ -5,25 +5,22 @@ use Rattle.modeltest.proofs.print.answers.Statement.{statement}
 use Rattle.modeltest.proofs.print.answers.Tie as tie
 
 abbrev Inv-loop : tie.InvT-loop
-Inv-loop numbers i₀ t4 i = Unit {0}
+Inv-loop numbers i₀ i = Unit {0}
 
 abbrev μ-loop : tie.MeasureT-loop
-μ-loop numbers i₀ t4 i = 13 - i
+μ-loop numbers i₀ i = 32 - i
 
 loop-holds : tie.Need-loop-holds Inv-loop μ-loop
 loop-holds c = search needs
 
-slice-aggregate-named : tie.Need-slice-aggregate-named Inv-loop μ-loop
-slice-aggregate-named c = search needs
+mul-answer : tie.Need-mul-answer Inv-loop μ-loop
+mul-answer c = search needs
 
-mul-named : tie.Need-mul-named Inv-loop μ-loop
-mul-named c = search needs
+array-read-answer : tie.Need-array-read-answer Inv-loop μ-loop
+array-read-answer c = search needs
 
-array-read-named : tie.Need-array-read-named Inv-loop μ-loop
-array-read-named c = search needs
-
-named-requires : tie.Need-named-requires Inv-loop μ-loop
-named-requires c κs = search needs
+answer-requires : tie.Need-answer-requires Inv-loop μ-loop
+answer-requires c κs = search needs
 
 add-i : tie.Need-add-i Inv-loop μ-loop
 add-i c = search needs
@@ -44,10 +41,9 @@ answers-spec =
     Inv-loop
     μ-loop
     loop-holds
-    slice-aggregate-named
-    mul-named
-    array-read-named
-    named-requires
+    mul-answer
+    array-read-answer
+    answer-requires
     add-i
     loop-less
     loop-again

@@ -1,0 +1,171 @@
+// The packed words of the two memories and their places, by this program's own numbers and not by
+// those of `layout`: a wrong layout must show, not be shared. A layout that changes changes this
+// file, and no other of this program.
+use crate::calls::at_most;
+use crate::calls::sum;
+
+// A board: the control word, the shape word, the log's entries of two words each, the lines.
+pub const CONTROL: usize = 0;
+
+pub const SHAPE: usize = 1;
+
+const LOG: u64 = 2;
+
+// A work memory: slots of two words each, then 32 undo entries of two words each.
+pub const BUFFER_ENTRIES: u64 = 32;
+
+const BUFFER_WORDS: usize = 64;
+
+// The model takes boards of up to 300 words. The work memory has room for S = 257, which is refused,
+// and for two words more.
+pub const BOARD_ROOM: usize = 300;
+
+pub const WORK_ROOM: usize = 2 * 257 + BUFFER_WORDS + 2;
+
+// N and L, in fields of 20 bits, are at most 65,536.
+pub const MOST_LINES: u64 = 65536;
+
+pub const MOST_COUNT: u64 = 0xFFFFF;
+
+pub const LAST_EPOCH: u64 = 0xFFFFFF;
+
+const LAST_ADDRESS: u64 = 0xFFFF;
+
+pub fn board_words(lines: u64, entries: u64) -> usize {
+    at_most(sum(entry_place(entries), lines) as usize, BOARD_ROOM)
+}
+
+pub fn work_words(slots: u64) -> usize {
+    at_most(
+        sum(slot_place(slots), BUFFER_WORDS as u64) as usize,
+        WORK_ROOM,
+    )
+}
+
+// The place on a board of the packed word of an entry of the ring.
+pub fn entry_place(ring_place: u64) -> u64 {
+    sum(LOG, sum(ring_place, ring_place))
+}
+
+// The places in a work memory of a slot word, and of the packed word of a buffered entry.
+pub fn slot_place(k: u64) -> u64 {
+    sum(k, k)
+}
+
+pub fn buffer_place(slots: u64, i: u64) -> u64 {
+    sum(slot_place(slots), sum(i, i))
+}
+
+pub fn persisted_of(control: u64) -> u64 {
+    control >> 40
+}
+
+pub fn start_of(control: u64) -> u64 {
+    (control >> 20) & MOST_COUNT
+}
+
+pub fn length_of(control: u64) -> u64 {
+    control & MOST_COUNT
+}
+
+pub fn entries_of(shape: u64) -> u64 {
+    shape & MOST_COUNT
+}
+
+pub fn control_word(persisted: u64, start: u64, length: u64) -> u64 {
+    (persisted << 40) | (start << 20) | length
+}
+
+pub fn shape_word(lines: u64, entries: u64) -> u64 {
+    (lines << 20) | entries
+}
+
+pub fn entry_word(address: u64, from: u64, till: u64) -> u64 {
+    (address << 48) | ((from & LAST_EPOCH) << 24) | (till & LAST_EPOCH)
+}
+
+pub fn clean_word(address: u64) -> u64 {
+    (1 << 63) | (address << 46)
+}
+
+pub fn dirty_word(address: u64, tag: u64) -> u64 {
+    clean_word(address) | (1 << 62) | ((tag & LAST_EPOCH) << 22)
+}
+
+// A field of a word: where it begins and its greatest value; 0 where there is no such field.
+pub struct Field {
+    pub shift: u64,
+    pub most: u64,
+}
+
+// No word has more fields.
+pub const MOST_FIELDS: u64 = 5;
+
+fn bits_from(shift: u64, most: u64) -> Field {
+    Field { shift, most }
+}
+
+fn no_field() -> Field {
+    bits_from(0, 0)
+}
+
+// The fields of the control word and of the shape word.
+fn header_field(n: u64) -> Field {
+    match n {
+        0 => bits_from(40, LAST_EPOCH),
+        1 => bits_from(20, MOST_COUNT),
+        2 => bits_from(0, MOST_COUNT),
+        _ => no_field(),
+    }
+}
+
+fn entry_field(n: u64) -> Field {
+    match n {
+        0 => bits_from(48, LAST_ADDRESS),
+        1 => bits_from(24, LAST_EPOCH),
+        2 => bits_from(0, LAST_EPOCH),
+        _ => no_field(),
+    }
+}
+
+fn slot_field(n: u64) -> Field {
+    match n {
+        0 => bits_from(63, 1),
+        1 => bits_from(62, 1),
+        2 => bits_from(46, LAST_ADDRESS),
+        3 => bits_from(22, LAST_EPOCH),
+        _ => bits_from(0, 0x3FFFFF),
+    }
+}
+
+// Field n of a board's word: of the two before the log, or of an entry's packed word.
+pub fn board_field(place: u64, entries: u64, n: u64) -> Field {
+    if place < LOG {
+        return header_field(n);
+    }
+    if place >= entry_place(entries) {
+        return no_field();
+    }
+    if place % 2 == 0 {
+        return entry_field(n);
+    }
+    no_field()
+}
+
+// Field n of a word of a work memory: of a slot word, or of a buffered entry's packed word.
+pub fn work_field(place: u64, slots: u64, n: u64) -> Field {
+    if place % 2 != 0 {
+        return no_field();
+    }
+    if place < slot_place(slots) {
+        return slot_field(n);
+    }
+    entry_field(n)
+}
+
+// The word with another value in a field.
+pub fn replaced(word: u64, f: Field, value: u64) -> u64 {
+    let shift = f.shift % 64;
+    let old = word & (f.most << shift);
+    (word ^ old) | (value << shift)
+}

@@ -1,0 +1,24 @@
+// The registers as words, in the paper's order s, b, c: so a state holds them, and so they are
+// compared. Here alone the library's are made of words and listed; the model makes and lists its
+// own.
+use checks::Registers;
+
+pub const REGISTERS: usize = 3;
+
+pub const EPOCH: usize = 0;
+
+pub const BUFFERED: usize = 1;
+
+pub const CURSOR: usize = 2;
+
+pub fn library_registers(words: [u64; REGISTERS]) -> Registers {
+    Registers {
+        epoch: words[EPOCH],
+        buffered: words[BUFFERED],
+        cursor: words[CURSOR],
+    }
+}
+
+pub fn library_words(r: Registers) -> [u64; REGISTERS] {
+    [r.epoch, r.buffered, r.cursor]
+}
