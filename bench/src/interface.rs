@@ -34,8 +34,15 @@ pub fn name_of(number: u64) -> &'static str {
         .map_or("(no such number)", |&(_, name)| name)
 }
 
-/// The words of the registers as they stand in an array: s, b, c.
-pub type RegisterWords = [u64; 3];
+/// The words of the registers as they stand in an array, and their names.
+pub type RegisterWords = [u64; REGISTER_WORDS];
+pub const REGISTER_WORDS: usize = REGISTER_NAMES.len();
+pub const REGISTER_NAMES: [&str; 3] = ["s", "b", "c"];
+pub const NO_REGISTERS: RegisterWords = [0; REGISTER_WORDS];
+
+/// The words of an answer as they stand in an array: value, stores.
+pub type AnswerWords = [u64; ANSWER_WORDS];
+pub const ANSWER_WORDS: usize = 2;
 
 /// One implementation of the eight calls.
 ///

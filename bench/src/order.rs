@@ -6,17 +6,19 @@
 //! that the same call makes under the allowances 0, 1, 2 and so on.
 
 use crate::call::{Call, NO_CUT};
-use crate::handwritten::layout::{Shape, BUFFER_WORDS};
-use crate::interface::{Answer, RegisterWords};
+use crate::interface::{Answer, RegisterWords, NO_REGISTERS};
 use crate::library::Library;
 use crate::random::Random;
+use crate::sizes::Sizes;
 use std::fs::File;
 use std::io::{BufRead, BufReader};
 use std::sync::atomic::{AtomicU64, Ordering};
 
-const LINES: u64 = 48;
-const ENTRIES: u64 = 64;
-const SLOTS: usize = 8;
+const SIZES: Sizes = Sizes {
+    lines: 48,
+    entries: 64,
+    slots: 8,
+};
 const CALLS: usize = 4_000;
 const SEED: u64 = 64;
 const WORD_BYTES: u64 = 8;
@@ -33,19 +35,12 @@ struct State {
 
 impl State {
     fn woken() -> Self {
-        let shape = Shape {
-            lines: LINES,
-            entries: ENTRIES,
-        };
         let mut state = State {
-            board: vec![0; shape.board_words()],
-            work: vec![0; 2 * SLOTS + BUFFER_WORDS],
-            registers: [0; 3],
+            board: vec![0; SIZES.board_words()],
+            work: vec![0; SIZES.work_words()],
+            registers: NO_REGISTERS,
         };
-        state.make(Call::Format {
-            lines: LINES,
-            entries: ENTRIES,
-        });
+        state.make(SIZES.format());
         state.make(Call::PowerUp { allowance: NO_CUT });
         state
     }
@@ -57,7 +52,7 @@ impl State {
 
 /// Any call but format, which is not protected against a cut, and tally, which stores nothing.
 fn any_call(random: &mut Random, allowance: u32) -> Call {
-    let address = random.below(LINES);
+    let address = random.below(SIZES.lines);
     match random.below(40) {
         0..=19 => Call::Store {
             address,
@@ -158,11 +153,7 @@ fn read_record(places: &str, record: &str) -> Result<Vec<Vec<usize>>, String> {
     let [board, mark] = addresses[..] else {
         return Err(format!("{places} does not say where board and mark are"));
     };
-    let words = Shape {
-        lines: LINES,
-        entries: ENTRIES,
-    }
-    .board_words() as u64;
+    let words = SIZES.board_words() as u64;
     let mut calls: Vec<Vec<usize>> = Vec::new();
     let mut marks = 0;
     for line in BufReader::new(open(record)?).lines() {

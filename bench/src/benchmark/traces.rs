@@ -2,10 +2,12 @@
 
 use super::region::{Memories, Start};
 use crate::call::{Call, NO_CUT};
-use crate::handwritten::layout::{Control, Range, Shape, BUFFER_WORDS, MOST_AHEAD, MOST_ENTRIES, MOST_LINES};
+use crate::handwritten::layout::{entry_place, Control, Range, CONTROL_PLACE, MOST_AHEAD, MOST_ENTRIES, MOST_LINES};
 use crate::handwritten::HandWritten;
+use crate::interface::NO_REGISTERS;
 use crate::loom::workload::{Order, STORES_PER_EPOCH};
 use crate::random::Random;
+use crate::sizes::Sizes;
 
 const SEED: u64 = 2_600_400;
 
@@ -36,15 +38,18 @@ fn evict(address: u64) -> Call {
 
 /// A board of the largest size and a cache, formatted and powered up.
 fn fresh_board(slots: usize) -> Start {
-    let (lines, entries) = (MOST_LINES, MOST_ENTRIES);
-    let shape = Shape { lines, entries };
+    let sizes = Sizes {
+        lines: MOST_LINES,
+        entries: MOST_ENTRIES,
+        slots: slots as u64,
+    };
     let start = Start {
-        board: vec![0; shape.board_words()],
-        work: vec![0; 2 * slots + BUFFER_WORDS],
-        registers: [0; 3],
+        board: vec![0; sizes.board_words()],
+        work: vec![0; sizes.work_words()],
+        registers: NO_REGISTERS,
     };
     let power_up = Call::PowerUp { allowance: NO_CUT };
-    after(start, &[Call::Format { lines, entries }, power_up])
+    after(start, &[sizes.format(), power_up])
 }
 
 /// The state after calls that all have to be accepted.
@@ -139,9 +144,9 @@ pub fn power_up() -> (Start, Vec<Call>) {
         start: RING_START as usize,
         length: MOST_ENTRIES as usize,
     };
-    start.board[0] = control.pack();
+    start.board[CONTROL_PLACE] = control.pack();
     for age in 0..MOST_ENTRIES {
-        let place = 2 + 2 * ((RING_START + age) % MOST_ENTRIES) as usize;
+        let place = entry_place(((RING_START + age) % MOST_ENTRIES) as usize);
         let covers = !random.one_in(4);
         let range = Range {
             address: random.below(MOST_LINES),

@@ -3,7 +3,8 @@
 use super::occurrences::number_name;
 use super::sides::Lent;
 use crate::call::Call;
-use crate::handwritten::layout::{Shape, BUFFER_WORDS};
+use crate::handwritten::layout::slot_count;
+use crate::interface::{ANSWER_WORDS, REGISTER_NAMES};
 use std::fmt;
 
 /// How many differing words of one memory are listed.
@@ -31,32 +32,29 @@ impl fmt::Display for Difference {
         self.write_words(out, "registers", |lent| &lent.registers)?;
         self.write_words(out, "board", |lent| &lent.board)?;
         self.write_words(out, "work", |lent| &lent.work)?;
-        self.write_words(out, "answer behind", |lent| lent.answer.get(2..).unwrap_or(&[]))
+        self.write_words(out, "answer behind", |lent| {
+            lent.answer.get(ANSWER_WORDS..).unwrap_or(&[])
+        })
     }
 }
 
 impl Difference {
     fn write_sizes(&self, out: &mut fmt::Formatter) -> fmt::Result {
-        let Lent {
-            board,
-            work,
-            registers,
-            answer,
-        } = &self.before;
-        write!(out, "  sizes        board {} words", board.len())?;
-        if let Some(&word) = board.get(1) {
-            let shape = Shape::unpack(word);
+        let before = &self.before;
+        write!(out, "  sizes        board {} words", before.board.len())?;
+        if before.has_head() {
+            let shape = before.shape();
             write!(out, " (its shape word says N {}, L {})", shape.lines, shape.entries)?;
         }
-        write!(out, ", work {} words", work.len())?;
-        if let Some(slot_words) = work.len().checked_sub(BUFFER_WORDS) {
-            write!(out, " (S {})", slot_words as f64 / 2.0)?;
+        write!(out, ", work {} words", before.work.len())?;
+        if let Some(slots) = slot_count(before.work.len()) {
+            write!(out, " (S {slots})")?;
         }
         writeln!(
             out,
             ", registers {} words, answer {} words",
-            registers.len(),
-            answer.len()
+            before.registers.len(),
+            before.answer.len()
         )
     }
 
@@ -113,8 +111,7 @@ fn mark(differs: bool) -> char {
 }
 
 fn register_text(words: &[u64]) -> String {
-    match *words {
-        [epoch, buffered, cursor, ..] => format!("s {epoch}, b {buffered}, c {cursor}"),
-        _ => format!("{words:?}"),
-    }
+    let named = REGISTER_NAMES.iter().zip(words);
+    let texts: Vec<String> = named.map(|(name, word)| format!("{name} {word}")).collect();
+    texts.join(", ")
 }

@@ -2,6 +2,7 @@
 
 use super::player::{Outcome, Player};
 use crate::call::{Call, NO_CUT};
+use crate::handwritten::layout::{ENTRY_WORDS, MOST_LINES};
 use crate::random::Random;
 use crate::sizes::Sizes;
 
@@ -133,7 +134,7 @@ impl Habit {
 
     fn address(&self, random: &mut Random) -> u64 {
         if random.one_in(300) {
-            return random.pick(&[self.sizes.lines, self.sizes.lines + 1, 1 << 16, u64::MAX]);
+            return random.pick(&[self.sizes.lines, self.sizes.lines + 1, MOST_LINES, u64::MAX]);
         }
         if self.hot.is_empty() || random.one_in(self.other_one_in) {
             return random.below(self.sizes.lines);
@@ -146,7 +147,7 @@ impl Habit {
         match random.below(4) {
             0 => self.sizes.format(),
             1 => Call::Format {
-                lines: lines + 2,
+                lines: lines + ENTRY_WORDS as u64,
                 entries: entries - 1,
             },
             _ => Call::Format {
@@ -215,7 +216,7 @@ fn call_for(player: &mut Player, habit: &Habit) -> Option<Call> {
         return None;
     }
     let allowance = habit.allowance(random);
-    let is_cut = player.state.registers.first() == Some(&0);
+    let is_cut = player.state.registers().epoch == 0;
     match player.last_number {
         _ if is_cut => Some(Call::PowerUp { allowance }),
         ROOM | WAITING => Some(Call::Scan { allowance }),

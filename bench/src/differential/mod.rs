@@ -8,6 +8,7 @@ mod habit;
 mod occurrences;
 mod player;
 mod sides;
+mod words;
 
 use crate::random::Random;
 use difference::Difference;

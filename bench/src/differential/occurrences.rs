@@ -2,7 +2,7 @@
 
 use super::sides::Lent;
 use crate::call::{Call, Kind};
-use crate::handwritten::layout::{Control, Shape};
+use crate::handwritten::layout::Control;
 use crate::interface::{name_of, NAMES};
 use crate::library::TOO_SHORT;
 
@@ -106,9 +106,9 @@ impl Occurrences {
             kind,
             value: after.answer[0],
             stores: after.answer[1],
-            before: Control::unpack(before.board[0]),
-            after: Control::unpack(after.board[0]),
-            entries: Shape::unpack(after.board[1]).entries as usize,
+            before: before.control(),
+            after: after.control(),
+            entries: after.shape().entries as usize,
         };
         for (count, (_, turn)) in self.turns.iter_mut().zip(TURNS) {
             *count += u64::from(turn(&seen));

@@ -4,6 +4,7 @@ use super::difference::Difference;
 use super::occurrences::Occurrences;
 use super::sides::{on_handwritten, on_library, Lent};
 use crate::call::Call;
+use crate::interface::{ANSWER_WORDS, NO_REGISTERS};
 use crate::random::Random;
 
 /// What a history ends with: nothing, or the first difference.
@@ -37,8 +38,8 @@ impl Player {
     pub fn start_history(&mut self, random: Random) {
         self.random = random;
         self.state = Lent {
-            registers: vec![0; 3],
-            answer: vec![0; 2],
+            registers: NO_REGISTERS.to_vec(),
+            answer: vec![0; ANSWER_WORDS],
             ..Lent::default()
         };
         self.last_number = 0;

@@ -2,10 +2,8 @@
 
 use crate::call::Call;
 use crate::handwritten::{HandWritten, Registers};
+use crate::interface::{AnswerWords, ANSWER_WORDS};
 use crate::library;
-
-const REGISTER_WORDS: usize = 3;
-const ANSWER_WORDS: usize = 2;
 
 /// All that a call is lent.
 #[derive(Clone, Debug, Default, PartialEq, Eq)]
@@ -54,24 +52,19 @@ pub fn on_library(call: Call, lent: &mut Lent) -> u64 {
 /// with them is said here.
 pub fn on_handwritten(call: Call, lent: &mut Lent) -> u64 {
     let takes_registers = !matches!(call, Call::Format { .. } | Call::Tally);
-    if lent.answer.len() < ANSWER_WORDS || (takes_registers && lent.registers.len() < REGISTER_WORDS) {
+    if lent.answer.len() < ANSWER_WORDS || (takes_registers && !lent.has_registers()) {
         return library::TOO_SHORT;
     }
-    let mut registers = Registers::default();
-    if takes_registers {
-        registers = Registers {
-            epoch: lent.registers[0],
-            buffered: lent.registers[1],
-            cursor: lent.registers[2],
-        };
-    }
+    let mut registers = if takes_registers {
+        lent.registers()
+    } else {
+        Registers::default()
+    };
     let answer = call.make::<HandWritten>(&mut lent.board, &mut lent.work, &mut registers);
     if takes_registers {
-        lent.registers[0] = registers.epoch;
-        lent.registers[1] = registers.buffered;
-        lent.registers[2] = registers.cursor;
+        lent.set_registers(registers);
     }
-    lent.answer[0] = answer.value;
-    lent.answer[1] = answer.stores;
+    let words: AnswerWords = [answer.value, answer.stores];
+    lent.answer[..ANSWER_WORDS].copy_from_slice(&words);
     answer.number
 }

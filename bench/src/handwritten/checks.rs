@@ -1,12 +1,7 @@
 //! The tests that a call makes before it changes anything.
 
-use super::layout::{
-    Control, Range, Shape, SlotWord, BUFFER_ENTRIES, BUFFER_WORDS, LAST_EPOCH, MOST_AHEAD, MOST_SLOTS,
-};
+use super::layout::{self, Control, Entry, Range, Shape, SlotWord, BUFFER_ENTRIES, LAST_EPOCH, MOST_AHEAD};
 use super::Registers;
-
-/// A packed range, then the data that the line had in it.
-pub type Entry = [u64; 2];
 
 /// The refusals, by the paper's numbers. `Entry` is the one that comes with a value.
 #[derive(Clone, Copy, Debug)]
@@ -28,11 +23,7 @@ pub enum Refusal {
 /// The board's first two words, once they agree with each other and with its length.
 #[inline]
 pub fn head(board: &[u64]) -> Result<(Control, Shape), Refusal> {
-    let [control, shape, ..] = *board else {
-        return Err(Refusal::Shape);
-    };
-    let control = Control::unpack(control);
-    let shape = Shape::unpack(shape);
+    let (control, shape) = layout::head_of(board).ok_or(Refusal::Shape)?;
     let entries = shape.entries as usize;
     let agree = shape.is_in_range()
         && board.len() == shape.board_words()
@@ -49,13 +40,7 @@ pub fn head(board: &[u64]) -> Result<(Control, Shape), Refusal> {
 /// How many slots a work memory of that many words has.
 #[inline]
 pub fn slot_count(work_words: usize) -> Result<usize, Refusal> {
-    let slot_words = work_words.wrapping_sub(BUFFER_WORDS);
-    let slots = slot_words / 2;
-    if slot_words.is_multiple_of(2) && (1..=MOST_SLOTS).contains(&slots) {
-        Ok(slots)
-    } else {
-        Err(Refusal::Work)
-    }
+    layout::slot_count(work_words).ok_or(Refusal::Work)
 }
 
 #[inline]

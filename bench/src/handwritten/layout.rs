@@ -1,26 +1,111 @@
-//! The packed words, fields most significant bit first, and the limits of what they count.
+//! The packed words, fields most significant bit first, the limits of what they count, and where they stand in the two
+//! memories.
 
 pub const MOST_LINES: u64 = 1 << 16;
 pub const MOST_ENTRIES: u64 = 1 << 16;
 pub const MOST_SLOTS: usize = 256;
 pub const BUFFER_ENTRIES: usize = 32;
-pub const BUFFER_WORDS: usize = 2 * BUFFER_ENTRIES;
 pub const LAST_ADDRESS: u64 = ones(ADDRESS_BITS);
 pub const LAST_EPOCH: u64 = ones(EPOCH_BITS);
 /// The most by which the running epoch is ahead of the persisted one.
 pub const MOST_AHEAD: u64 = 16;
 
-/// The words of a work memory with so many slots.
-pub const fn work_words(slots: usize) -> usize {
-    2 * slots + BUFFER_WORDS
-}
-
 const EPOCH_BITS: u32 = 24;
-const COUNT_BITS: u32 = 20;
+pub const COUNT_BITS: u32 = 20;
 const ADDRESS_BITS: u32 = 16;
 
 const fn ones(bits: u32) -> u64 {
     (1 << bits) - 1
+}
+
+/// A board: control word, shape word, log entries, lines.
+pub const CONTROL_PLACE: usize = 0;
+pub const SHAPE_PLACE: usize = 1;
+const HEAD_WORDS: usize = 2;
+
+/// A packed range, then the data that the line had in it.
+pub type Entry = [u64; ENTRY_WORDS];
+pub const ENTRY_WORDS: usize = 2;
+
+/// A slot word, then the data.
+pub type Slot = [u64; SLOT_WORDS];
+const SLOT_WORDS: usize = 2;
+
+/// Where the range of the log entry at a place of the ring stands on a board.
+#[inline]
+pub const fn entry_place(ring_place: usize) -> usize {
+    HEAD_WORDS + ENTRY_WORDS * ring_place
+}
+
+/// Where a slot word stands in a work memory: slots, then the buffer.
+#[inline]
+pub const fn slot_place(slot: usize) -> usize {
+    SLOT_WORDS * slot
+}
+
+/// Where the range of a buffered entry stands in a work memory with so many slots.
+#[inline]
+pub const fn buffer_place(slots: usize, place: usize) -> usize {
+    slot_place(slots) + ENTRY_WORDS * place
+}
+
+/// The words of a work memory with so many slots.
+#[inline]
+pub const fn work_words(slots: usize) -> usize {
+    buffer_place(slots, BUFFER_ENTRIES)
+}
+
+/// How many slots there is room for in a work memory of so many words.
+#[inline]
+pub const fn slots_in(words: usize) -> usize {
+    words.saturating_sub(work_words(0)) / SLOT_WORDS
+}
+
+/// The number of slots that a work memory of so many words has, where it has a right one.
+#[inline]
+pub fn slot_count(words: usize) -> Option<usize> {
+    let slot_words = words.wrapping_sub(work_words(0));
+    let slots = slot_words / SLOT_WORDS;
+    let is_right = slot_words.is_multiple_of(SLOT_WORDS) && (1..=MOST_SLOTS).contains(&slots);
+    is_right.then_some(slots)
+}
+
+/// The slots of a work memory that has so many.
+#[inline]
+pub fn slots_of(work: &[u64], slots: usize) -> &[Slot] {
+    work[..slot_place(slots)].as_chunks().0
+}
+
+/// The buffer of a work memory with so many slots.
+#[inline]
+pub fn buffer_of(work: &[u64], slots: usize) -> &[Entry] {
+    work[slot_place(slots)..].as_chunks().0
+}
+
+/// The slots of a work memory that has so many, and the buffer.
+#[inline]
+pub fn work_parts_mut(work: &mut [u64], slots: usize) -> (&mut [Slot], &mut [Entry]) {
+    let (slots, buffer) = work.split_at_mut(slot_place(slots));
+    (slots.as_chunks_mut().0, buffer.as_chunks_mut().0)
+}
+
+/// What a board's control word and its shape word say.
+#[inline]
+pub fn head_of(board: &[u64]) -> Option<(Control, Shape)> {
+    let [control, shape, ..] = *board else {
+        return None;
+    };
+    Some((Control::unpack(control), Shape::unpack(shape)))
+}
+
+/// The control word, the log and the lines of a board with a shape word.
+#[inline]
+pub fn board_parts_mut(board: &mut [u64], shape: Shape) -> Option<(&mut u64, &mut [Entry], &mut [u64])> {
+    let [control_word, _, rest @ ..] = board else {
+        return None;
+    };
+    let (log, lines) = rest.split_at_mut(ENTRY_WORDS * shape.entries as usize);
+    Some((control_word, log.as_chunks_mut().0, lines))
 }
 
 /// The control word: persisted epoch 24, log start 20, log length 20.
@@ -57,6 +142,9 @@ pub struct Shape {
 }
 
 impl Shape {
+    /// The first and the last bit of `lines` that has to be zero.
+    pub const ZERO_BITS: (u64, u64) = (COUNT_BITS as u64, (63 - COUNT_BITS) as u64);
+
     #[inline]
     pub fn unpack(word: u64) -> Self {
         Shape {
@@ -78,7 +166,19 @@ impl Shape {
     /// The words of a board that has a shape in range.
     #[inline]
     pub fn board_words(self) -> usize {
-        2 + 2 * self.entries as usize + self.lines as usize
+        self.line_place(self.lines as usize)
+    }
+
+    /// Where a line stands on the board.
+    #[inline]
+    pub fn line_place(self, address: usize) -> usize {
+        entry_place(self.entries as usize) + address
+    }
+
+    /// The same of any shape, as it is once it wraps round at 2^64.
+    pub fn wrapping_board_words(self) -> u64 {
+        let log_words = self.entries.wrapping_mul(ENTRY_WORDS as u64);
+        log_words.wrapping_add(HEAD_WORDS as u64).wrapping_add(self.lines)
     }
 }
 

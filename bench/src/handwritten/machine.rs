@@ -1,7 +1,7 @@
 //! Board and work memory of a call once shape, work and registers are tested, and the steps that calls are made of.
 
-use super::checks::{self, Entry, Refusal};
-use super::layout::{Control, Range, SlotWord, BUFFER_ENTRIES};
+use super::checks::{self, Refusal};
+use super::layout::{board_parts_mut, work_parts_mut, Control, Entry, Range, Slot, SlotWord, BUFFER_ENTRIES};
 use super::Registers;
 
 /// Why a call ends early.
@@ -48,9 +48,6 @@ impl Mains {
     }
 }
 
-/// A slot word, then the data.
-type Slot = [u64; 2];
-
 /// Each step is inlined into each call that makes it, so that these parts stay in the processor's registers.
 pub struct Machine<'a> {
     pub control: Control,
@@ -75,18 +72,15 @@ impl<'a> Machine<'a> {
         let (control, shape) = checks::head(board)?;
         let slot_count = checks::slot_count(work.len())?;
         checks::registers(registers, control, shape, slot_count)?;
-        let [control_word, _, rest @ ..] = board else {
-            return Err(Refusal::Shape);
-        };
-        let (log, lines) = rest.split_at_mut(2 * shape.entries as usize);
-        let (slots, buffer) = work.split_at_mut(2 * slot_count);
+        let (control_word, log, lines) = board_parts_mut(board, shape).ok_or(Refusal::Shape)?;
+        let (slots, buffer) = work_parts_mut(work, slot_count);
         Ok(Machine {
             control,
             control_word,
-            log: log.as_chunks_mut().0,
+            log,
             lines,
-            slots: slots.as_chunks_mut().0,
-            buffer: buffer.as_chunks_mut().0,
+            slots,
+            buffer,
             registers,
             mains,
         })

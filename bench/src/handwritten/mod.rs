@@ -4,28 +4,21 @@
 mod checks;
 pub mod layout;
 mod machine;
+mod registers;
 mod side;
 #[cfg(test)]
 mod tests;
 
-use crate::interface::Answer;
+use crate::interface::{Answer, OK};
 use checks::Refusal;
-use layout::{Control, Range, Shape, SlotWord, LAST_EPOCH, MOST_AHEAD};
+use layout::{
+    board_parts_mut, buffer_of, slots_of, Control, Range, Shape, Slot, SlotWord, LAST_EPOCH, MOST_AHEAD, SHAPE_PLACE,
+};
 use machine::{Machine, Mains, Stop};
+pub use registers::Registers;
 pub use side::HandWritten;
 
-const OK: u64 = 0;
 const CUT: u64 = 12;
-
-#[derive(Clone, Copy, Debug, Default, PartialEq, Eq)]
-pub struct Registers {
-    /// The running epoch, s.
-    pub epoch: u64,
-    /// Undo entries in the buffer, b.
-    pub buffered: u64,
-    /// The scan's cursor, c.
-    pub cursor: u64,
-}
 
 #[inline(never)]
 pub fn format(board: &mut [u64], lines: u64, entries: u64) -> Answer {
@@ -34,7 +27,7 @@ pub fn format(board: &mut [u64], lines: u64, entries: u64) -> Answer {
         return refused(Refusal::Shape, 0);
     }
     board.fill(0);
-    board[1] = shape.pack();
+    board[SHAPE_PLACE] = shape.pack();
     accepted(0, 0)
 }
 
@@ -57,11 +50,7 @@ pub fn power_up(board: &mut [u64], work: &mut [u64], registers: &mut Registers, 
 fn recover(board: &mut [u64], work: &[u64], mains: &mut Mains) -> Result<u64, Stop> {
     let (control, shape) = checks::head(board)?;
     checks::slot_count(work.len())?;
-    let [control_word, _, rest @ ..] = board else {
-        return Err(Stop::Refused(Refusal::Shape));
-    };
-    let (log, lines) = rest.split_at_mut(2 * shape.entries as usize);
-    let log = log.as_chunks().0;
+    let (control_word, log, lines) = board_parts_mut(board, shape).ok_or(Refusal::Shape)?;
     if let Some(place) = checks::first_improper_entry(log, control, shape.lines) {
         return Err(Stop::Entry(place));
     }
@@ -165,8 +154,7 @@ fn next_epoch(board: &[u64], work: &[u64], registers: &Registers) -> Result<u64,
     let (control, shape) = checks::head(board)?;
     let slot_count = checks::slot_count(work.len())?;
     checks::registers(registers, control, shape, slot_count)?;
-    let buffer = work[2 * slot_count..].as_chunks().0;
-    let buffered = &buffer[..registers.buffered as usize];
+    let buffered = &buffer_of(work, slot_count)[..registers.buffered as usize];
     checks::buffer(buffered, shape.lines, registers.epoch)?;
     if registers.epoch - control.persisted == MOST_AHEAD {
         return Err(Refusal::Waiting);
@@ -227,8 +215,8 @@ fn persist(machine: &mut Machine, target: u64) -> Result<(), Stop> {
 pub fn tally(work: &[u64]) -> Answer {
     match checks::slot_count(work.len()) {
         Ok(slots) => {
-            let is_dirty = |slot: &&[u64; 2]| SlotWord(slot[0]).is_valid_and_dirty();
-            let dirty = work[..2 * slots].as_chunks().0.iter().filter(is_dirty);
+            let is_dirty = |slot: &&Slot| SlotWord(slot[0]).is_valid_and_dirty();
+            let dirty = slots_of(work, slots).iter().filter(is_dirty);
             accepted(dirty.count() as u64, 0)
         }
         Err(refusal) => refused(refusal, 0),

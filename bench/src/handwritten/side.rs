@@ -1,7 +1,7 @@
 //! The hand-written calls as one of the two sides.
 
 use super::Registers;
-use crate::interface::{Answer, CacheLog, RegisterWords};
+use crate::interface::{Answer, CacheLog};
 
 pub struct HandWritten;
 
@@ -53,23 +53,5 @@ impl CacheLog for HandWritten {
     #[inline]
     fn tally(work: &[u64]) -> Answer {
         super::tally(work)
-    }
-}
-
-impl From<RegisterWords> for Registers {
-    #[inline]
-    fn from([epoch, buffered, cursor]: RegisterWords) -> Self {
-        Registers {
-            epoch,
-            buffered,
-            cursor,
-        }
-    }
-}
-
-impl From<Registers> for RegisterWords {
-    #[inline]
-    fn from(registers: Registers) -> Self {
-        [registers.epoch, registers.buffered, registers.cursor]
     }
 }

@@ -1,9 +1,10 @@
 //! The paper's own examples: W1 to W12, its replay, and its traps.
 
-use super::layout::{Control, Range, Shape, SlotWord};
+use super::layout::{buffer_place, entry_place, Control, Range, Shape, SlotWord, CONTROL_PLACE};
 use super::{HandWritten, Registers};
 use crate::call::{Call, NO_CUT};
 use crate::interface::Answer;
+use crate::sizes::Sizes;
 
 const fn answer(number: u64, value: u64, stores: u64) -> Answer {
     Answer { number, value, stores }
@@ -21,22 +22,19 @@ struct Loom {
     board: Vec<u64>,
     work: Vec<u64>,
     registers: Registers,
-    entries: usize,
+    sizes: Sizes,
 }
 
 impl Loom {
-    fn new(lines: usize, entries: usize, slots: usize) -> Self {
+    fn new(lines: u64, entries: u64, slots: u64) -> Self {
+        let sizes = Sizes { lines, entries, slots };
         let mut loom = Loom {
-            board: vec![u64::MAX; 2 + 2 * entries + lines],
-            work: vec![u64::MAX; 2 * slots + 64],
+            board: vec![u64::MAX; sizes.board_words()],
+            work: vec![u64::MAX; sizes.work_words()],
             registers: Registers::default(),
-            entries,
+            sizes,
         };
-        let format = Call::Format {
-            lines: lines as u64,
-            entries: entries as u64,
-        };
-        assert_eq!(loom.make(format), answer(0, 0, 0));
+        assert_eq!(loom.make(sizes.format()), answer(0, 0, 0));
         assert_eq!(loom.power_up(), answer(0, 0, 1));
         loom
     }
@@ -77,15 +75,15 @@ impl Loom {
     }
 
     fn control(&self) -> Control {
-        Control::unpack(self.board[0])
+        Control::unpack(self.board[CONTROL_PLACE])
     }
 
     fn line(&self, address: usize) -> u64 {
-        self.board[2 + 2 * self.entries + address]
+        self.board[self.sizes.shape().line_place(address)]
     }
 
     fn buffered(&self, place: usize) -> Range {
-        Range::unpack(self.work[self.work.len() - 64 + 2 * place])
+        Range::unpack(self.work[buffer_place(self.sizes.slots as usize, place)])
     }
 
     /// What the replay prints behind the answer: s, P, log length, b.
@@ -99,15 +97,15 @@ impl Loom {
     }
 
     fn put_log(&mut self, persisted: u64, log: &[(Range, u64)]) {
-        self.board[0] = Control {
+        self.board[CONTROL_PLACE] = Control {
             persisted,
             start: 0,
             length: log.len(),
         }
         .pack();
         for (place, &(range, data)) in log.iter().enumerate() {
-            self.board[2 + 2 * place] = range.pack();
-            self.board[3 + 2 * place] = data;
+            self.board[entry_place(place)] = range.pack();
+            self.board[entry_place(place) + 1] = data;
         }
     }
 }

@@ -1,16 +1,13 @@
 //! The library as one of the two sides.
 
-use crate::interface::{Answer, CacheLog, RegisterWords};
-
-/// The words of an answer as they stand in an array: value, stores.
-type AnswerWords = [u64; 2];
+use crate::interface::{Answer, AnswerWords, CacheLog, RegisterWords, ANSWER_WORDS};
 
 pub struct Library;
 
 /// Makes a call that fills an answer array, and gives what it answered.
 #[inline(always)]
 fn answered(call: impl FnOnce(&mut AnswerWords) -> u64) -> Answer {
-    let mut words = [0; 2];
+    let mut words = [0; ANSWER_WORDS];
     let number = call(&mut words);
     let [value, stores] = words;
     Answer { number, value, stores }

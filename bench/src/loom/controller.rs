@@ -2,12 +2,13 @@
 
 use super::workload::{Order, STORES_PER_EPOCH};
 use crate::call::NO_CUT;
-use crate::handwritten::layout::{Control, Shape, BUFFER_WORDS, MOST_LINES};
-use crate::interface::{Answer, CacheLog, RegisterWords};
+use crate::handwritten::layout::{Control, CONTROL_PLACE, ENTRY_WORDS, MOST_LINES};
+use crate::handwritten::Registers;
+use crate::interface::{Answer, CacheLog, RegisterWords, NO_REGISTERS, OK};
 use crate::library::Library;
 use crate::random::Random;
+use crate::sizes::Sizes;
 
-const OK: u64 = 0;
 const ROOM: u64 = 8;
 const NONE: u64 = 11;
 const SEED: u64 = 2_600_400;
@@ -64,21 +65,22 @@ pub fn work_through(plan: Plan) -> Result<Figures, String> {
 
 impl Controller {
     fn start(plan: Plan) -> Result<Self, String> {
-        let shape = Shape {
+        let sizes = Sizes {
             lines: MOST_LINES,
             entries: plan.entries,
+            slots: plan.slots as u64,
         };
         let mut controller = Controller {
-            board: vec![0; shape.board_words()],
-            work: vec![0; 2 * plan.slots + BUFFER_WORDS],
-            registers: [0; 3],
+            board: vec![0; sizes.board_words()],
+            work: vec![0; sizes.work_words()],
+            registers: NO_REGISTERS,
             entries: plan.entries,
             figures: Figures::default(),
             entries_in_epoch: 0,
         };
         accepted(
             "format",
-            Library::format(&mut controller.board, shape.lines, shape.entries),
+            Library::format(&mut controller.board, sizes.lines, sizes.entries),
         )?;
         controller.counted("power-up", |board, work, registers| {
             Library::power_up(board, work, registers, NO_CUT)
@@ -150,14 +152,19 @@ impl Controller {
             number => return Err(format!("{name} answered {number}")),
         }
         let flushed = (self.ring_end() + self.entries - end_before) % self.entries;
-        self.figures.entry_stores += 2 * flushed;
-        self.figures.control_stores += u64::from(flushed > 0);
-        self.figures.line_stores += answer.stores - 2 * flushed - u64::from(flushed > 0);
+        let (entry_stores, control_stores) = (ENTRY_WORDS as u64 * flushed, u64::from(flushed > 0));
+        self.figures.entry_stores += entry_stores;
+        self.figures.control_stores += control_stores;
+        self.figures.line_stores += answer.stores - entry_stores - control_stores;
         Ok(answer)
     }
 
     fn control(&self) -> Control {
-        Control::unpack(self.board[0])
+        Control::unpack(self.board[CONTROL_PLACE])
+    }
+
+    fn registers(&self) -> Registers {
+        self.registers.into()
     }
 
     /// Where the log's next entry goes: only a flush moves it.
@@ -167,7 +174,7 @@ impl Controller {
     }
 
     fn note_state(&mut self) {
-        let waiting = self.registers[0] - self.control().persisted - 1;
+        let waiting = self.registers().epoch - self.control().persisted - 1;
         let at_once = self.entries_at_once();
         let figures = &mut self.figures;
         figures.most_waiting = figures.most_waiting.max(waiting);
@@ -176,7 +183,7 @@ impl Controller {
     }
 
     fn entries_at_once(&self) -> u64 {
-        self.control().length as u64 + self.registers[1]
+        self.control().length as u64 + self.registers().buffered
     }
 }
 

@@ -2,7 +2,7 @@
 
 use super::line::{self, Command};
 use crate::call::{Call, NO_CUT};
-use crate::handwritten::layout::Control;
+use crate::handwritten::layout::{Control, CONTROL_PLACE};
 use crate::handwritten::{HandWritten, Registers};
 use crate::interface::{name_of, Answer, OK};
 use crate::sizes::Sizes;
@@ -106,7 +106,7 @@ impl Loom {
     fn line(&self, letter: char, answer: Answer) -> String {
         let Answer { number, value, stores } = answer;
         let Registers { epoch, buffered, .. } = self.registers;
-        let Control { persisted, length, .. } = Control::unpack(self.board[0]);
+        let Control { persisted, length, .. } = Control::unpack(self.board[CONTROL_PLACE]);
         let name = name_of(number);
         format!("{letter} {name} {value} {stores} {epoch} {persisted} {length} {buffered}\n")
     }

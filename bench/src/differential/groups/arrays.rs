@@ -2,6 +2,7 @@
 
 use crate::differential::habit::{begin, next_call, Habit};
 use crate::differential::player::{Outcome, Player};
+use crate::interface::{ANSWER_WORDS, REGISTER_WORDS};
 use crate::random::Random;
 use crate::sizes::Sizes;
 
@@ -21,8 +22,8 @@ pub fn history(player: &mut Player) -> Outcome {
         if player.state.registers.len() < registers.len() {
             player.state.registers = registers;
         }
-        player.state.registers.truncate(3);
-        player.state.answer = vec![0; 2];
+        player.state.registers.truncate(REGISTER_WORDS);
+        player.state.answer = vec![0; ANSWER_WORDS];
     }
     Ok(())
 }

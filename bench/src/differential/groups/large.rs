@@ -14,7 +14,7 @@ pub fn history(player: &mut Player) -> Outcome {
         (1, MOST_ENTRIES),
         (MOST_LINES - 1, MOST_ENTRIES - 1),
     ]);
-    let slots = player.random.pick(&[1, 255, MOST_SLOTS as u64]);
+    let slots = player.random.pick(&[1, MOST_SLOTS as u64 - 1, MOST_SLOTS as u64]);
     let sizes = Sizes { lines, entries, slots };
     begin(player, sizes)?;
     let habit = Habit::draw(&mut player.random, sizes);
@@ -37,9 +37,9 @@ fn fill_log(player: &mut Player, sizes: Sizes) {
         start: start as usize,
         length: sizes.entries as usize,
     };
-    player.state.board[0] = control.pack();
+    player.state.set_control(control);
     for age in 0..sizes.entries {
-        let place = 2 + 2 * ((start + age) % sizes.entries) as usize;
+        let place = ((start + age) % sizes.entries) as usize;
         let valid_till = persisted + 2 + age * 10 / sizes.entries;
         let valid_from = persisted + 1 - random.below(4).min(1 + random.below(2));
         let range = Range {
@@ -47,7 +47,7 @@ fn fill_log(player: &mut Player, sizes: Sizes) {
             valid_from,
             valid_till,
         };
-        player.state.board[place] = range.pack();
-        player.state.board[place + 1] = random.word();
+        player.state.set_entry(place, range);
+        player.state.set_old_data(place, random.word());
     }
 }

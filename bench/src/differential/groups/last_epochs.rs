@@ -14,7 +14,7 @@ pub fn history(player: &mut Player) -> Outcome {
         start: player.random.below(sizes.entries) as usize,
         length: 0,
     };
-    player.state.board[0] = control.pack();
+    player.state.set_control(control);
     player.make(Call::PowerUp { allowance: NO_CUT })?;
     for _ in 0..3 {
         let habit = Habit::draw_for_epochs(&mut player.random, sizes);

@@ -3,7 +3,8 @@
 use crate::call::{Call, NO_CUT};
 use crate::differential::habit::{go_on, Habit};
 use crate::differential::player::{Outcome, Player};
-use crate::handwritten::layout::{Control, Range, Shape, LAST_EPOCH, MOST_AHEAD};
+use crate::handwritten::layout::{Control, Range, LAST_EPOCH, MOST_AHEAD};
+use crate::handwritten::Registers;
 use crate::random::Random;
 use crate::sizes::Sizes;
 
@@ -33,17 +34,12 @@ fn lend_log(player: &mut Player, sizes: Sizes) -> Control {
     if !log.is_empty() && !random.one_in(3) {
         put_at_an_edge(random, sizes, control, &mut log);
     }
-    let board = &mut player.state.board;
-    *board = random.words(sizes.board_words());
-    board[0] = control.pack();
-    board[1] = Shape {
-        lines: sizes.lines,
-        entries: sizes.entries,
-    }
-    .pack();
-    for (place, range) in log.iter().enumerate() {
+    player.state.board = random.words(sizes.board_words());
+    player.state.set_control(control);
+    player.state.set_shape(sizes.shape());
+    for (place, &range) in log.iter().enumerate() {
         let ring_place = (control.start + place) % sizes.entries as usize;
-        board[2 + 2 * ring_place] = range.pack();
+        player.state.set_entry(ring_place, range);
     }
     player.state.work = random.words(sizes.work_words());
     control
@@ -102,7 +98,11 @@ fn scan_at_the_end(player: &mut Player, sizes: Sizes, control: Control) -> Outco
     let board = player.state.board.clone();
     let epoch = (control.persisted + player.random.between(2, MOST_AHEAD)).min(LAST_EPOCH);
     player.state.work.fill(0);
-    player.state.registers = vec![epoch, 0, sizes.slots];
+    player.state.set_registers(Registers {
+        epoch,
+        cursor: sizes.slots,
+        ..Registers::default()
+    });
     let allowance = player.random.pick(&[NO_CUT, NO_CUT, 1, 0]);
     player.make(Call::Scan { allowance })?;
     player.state.board = board;

@@ -3,8 +3,11 @@
 use crate::call::{Call, NO_CUT};
 use crate::differential::player::{Outcome, Player};
 use crate::handwritten::layout::{
-    Control, Range, Shape, SlotWord, BUFFER_ENTRIES, LAST_EPOCH, MOST_AHEAD, MOST_ENTRIES, MOST_LINES,
+    entry_place, work_words, Control, Range, Shape, SlotWord, BUFFER_ENTRIES, COUNT_BITS, ENTRY_WORDS, LAST_EPOCH,
+    MOST_AHEAD, MOST_ENTRIES, MOST_LINES, MOST_SLOTS,
 };
+use crate::handwritten::Registers;
+use crate::interface::REGISTER_WORDS;
 use crate::random::Random;
 use crate::sizes::Sizes;
 
@@ -16,20 +19,22 @@ pub fn history(player: &mut Player) -> Outcome {
     }
 }
 
+const SMALLEST: Shape = Shape { lines: 1, entries: 1 };
+
 /// Any lengths, any words; sometimes a shape word that fits the length.
 fn wild_memories(player: &mut Player) -> Outcome {
     let random = &mut player.random;
     let board_words = random.below(40);
     player.state.board = random.words(board_words as usize);
-    if board_words >= 5 && !random.one_in(4) {
-        let entries = random.between(1, (board_words - 3) / 2);
-        let lines = board_words - 2 - 2 * entries;
-        player.state.board[0] >>= random.between(0, 63);
-        player.state.board[1] = Shape { lines, entries }.pack();
+    if board_words >= SMALLEST.board_words() as u64 && !random.one_in(4) {
+        let shape = wild_shape(random, board_words);
+        player.state.set_shape(shape);
+        let control_word = player.state.control_word() >> random.between(0, 63);
+        player.state.set_control_word(control_word);
     }
-    let work_words = random.pick(&[0, 1, 2, 63, 64, 65, 66, 67, 68, 80, 81, 574, 575, 576, 577, 578, 600]);
+    let work_words = wild_work_words(random);
     player.state.work = random.words(work_words);
-    player.state.registers = (0..3).map(|_| random.any_width()).collect();
+    player.state.registers = (0..REGISTER_WORDS).map(|_| random.any_width()).collect();
     for _ in 0..4 {
         let call = any_call(&mut player.random, board_words);
         player.make(call)?;
@@ -37,21 +42,58 @@ fn wild_memories(player: &mut Player) -> Outcome {
     Ok(())
 }
 
+/// A shape that a board of so many words fits.
+fn wild_shape(random: &mut Random, board_words: u64) -> Shape {
+    let more_words = board_words - SMALLEST.board_words() as u64;
+    let entries = random.between(1, 1 + more_words / ENTRY_WORDS as u64);
+    let before_lines = entry_place(entries as usize) as u64;
+    Shape {
+        lines: board_words - before_lines,
+        entries,
+    }
+}
+
+/// No work memory, and such as have just no slot, one, the most and too many.
+fn wild_work_words(random: &mut Random) -> usize {
+    let none = work_words(0);
+    let most = work_words(MOST_SLOTS);
+    random.pick(&[
+        0,
+        1,
+        2,
+        none - 1,
+        none,
+        none + 1,
+        none + 2,
+        none + 3,
+        none + 4,
+        none + 16,
+        none + 17,
+        most - 2,
+        most - 1,
+        most,
+        most + 1,
+        most + 2,
+        most + 24,
+    ])
+}
+
 /// A board with the most lines or entries is below.
-const MOST_FORMATTED: u64 = 2 * MOST_ENTRIES + 20;
+const MOST_FORMATTED: u64 = ENTRY_WORDS as u64 * MOST_ENTRIES + 20;
 
 /// Sizes out of range, among them such as make the right number of words once it wraps round at 2^64.
 fn wild_format(player: &mut Player) -> Outcome {
     for _ in 0..8 {
         let random = &mut player.random;
-        let edges = [0, 1, 2, 7, MOST_LINES, MOST_LINES + 1, 1 << 20, 1 << 44];
+        let (past_field, past_word) = (1 << COUNT_BITS, 1 << (64 - COUNT_BITS));
+        let edges = [0, 1, 2, 7, MOST_LINES, MOST_LINES + 1, past_field, past_word];
         let (lines, entries) = match random.below(4) {
             0 => (random.pick(&edges), random.between(1, 4)),
             1 => (random.between(1, 4), random.pick(&edges)),
             2 => (random.any_width(), random.any_width()),
             _ => (random.between(0, 6), random.between(0, 6) + (1 << 63)),
         };
-        let fitting_words = entries.wrapping_mul(2).wrapping_add(lines).wrapping_add(2);
+        let fitting_words = Shape { lines, entries }.wrapping_board_words();
         let words = match fitting_words {
             0..100 => random.near(fitting_words, 1),
             100..MOST_FORMATTED if random.one_in(20) => random.near(fitting_words, 1),
@@ -78,18 +120,24 @@ fn right_shape_wild_words(player: &mut Player) -> Outcome {
     let buffered = random.below(BUFFER_ENTRIES as u64 + 1).min(room);
     player.state.board = random.words(sizes.board_words());
     player.state.work = random.words(sizes.work_words());
-    player.state.board[0] = control.pack();
-    player.state.board[1] = Shape { lines, entries }.pack();
-    player.state.registers = vec![epoch, buffered, random.between(0, slots)];
+    player.state.set_control(control);
+    player.state.set_shape(sizes.shape());
+    player.state.set_registers(Registers {
+        epoch,
+        buffered,
+        cursor: random.between(0, slots),
+    });
     for place in 0..entries as usize {
-        player.state.board[2 + 2 * place] = wild_range(random, lines, control.persisted, epoch);
+        let range = wild_range(random, lines, control.persisted, epoch);
+        player.state.set_entry(place, range);
     }
     for place in 0..slots {
-        player.state.work[2 * place as usize] = wild_slot(random, sizes, place, control, epoch);
+        let word = wild_slot(random, sizes, place, control, epoch);
+        player.state.set_slot(place as usize, word);
     }
     for place in 0..BUFFER_ENTRIES {
-        let packed = wild_range(random, lines, control.persisted, epoch);
-        player.state.work[2 * slots as usize + 2 * place] = packed;
+        let range = wild_range(random, lines, control.persisted, epoch);
+        player.state.set_buffered(place, range);
     }
     for _ in 0..player.random.between(1, 8) {
         let call = any_call(&mut player.random, lines + 1);
@@ -99,7 +147,7 @@ fn right_shape_wild_words(player: &mut Player) -> Outcome {
 }
 
 /// Proper nearly always: one of many that is not makes a whole buffer or log improper.
-fn wild_range(random: &mut Random, lines: u64, persisted: u64, epoch: u64) -> u64 {
+fn wild_range(random: &mut Random, lines: u64, persisted: u64, epoch: u64) -> Range {
     let valid_from = random.near(persisted, 2) & LAST_EPOCH;
     let mut range = Range {
         address: random.below(lines),
@@ -113,19 +161,19 @@ fn wild_range(random: &mut Random, lines: u64, persisted: u64, epoch: u64) -> u6
         let edge = random.pick(&[valid_from, epoch]);
         range.valid_till = random.near(edge, 1) & LAST_EPOCH;
     }
-    range.pack()
+    range
 }
 
-fn wild_slot(random: &mut Random, sizes: Sizes, place: u64, control: Control, epoch: u64) -> u64 {
+fn wild_slot(random: &mut Random, sizes: Sizes, place: u64, control: Control, epoch: u64) -> SlotWord {
     let turns = sizes.lines / sizes.slots + 1;
     let address = place + sizes.slots * random.below(turns);
     let tag = random.between(control.persisted, epoch + 1) & LAST_EPOCH;
     match random.below(8) {
-        0 => 0,
-        1 | 2 => SlotWord::clean(address).0,
-        3 => random.word(),
-        4 => SlotWord::dirty(address, tag).0 ^ 1 << random.below(64),
-        _ => SlotWord::dirty(address, tag).0,
+        0 => SlotWord::EMPTY,
+        1 | 2 => SlotWord::clean(address),
+        3 => SlotWord(random.word()),
+        4 => SlotWord(SlotWord::dirty(address, tag).0 ^ 1 << random.below(64)),
+        _ => SlotWord::dirty(address, tag),
     }
 }
 

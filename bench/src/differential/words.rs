@@ -1,0 +1,103 @@
+//! Where the words of what a history lends stand and what is packed in them: all that damages words or looks at them goes
+//! through here.
+
+use super::sides::Lent;
+use crate::handwritten::layout::{
+    buffer_place, entry_place, slot_place, slots_in, work_words, Control, Range, Shape, SlotWord, CONTROL_PLACE,
+    SHAPE_PLACE,
+};
+use crate::handwritten::Registers;
+use crate::interface::{RegisterWords, REGISTER_WORDS};
+
+impl Lent {
+    /// The board's first two words are there.
+    pub fn has_head(&self) -> bool {
+        self.board.len() > SHAPE_PLACE
+    }
+
+    pub fn head(&mut self) -> &mut [u64] {
+        &mut self.board[..=SHAPE_PLACE]
+    }
+
+    pub fn control(&self) -> Control {
+        Control::unpack(self.board[CONTROL_PLACE])
+    }
+
+    pub fn set_control(&mut self, control: Control) {
+        self.board[CONTROL_PLACE] = control.pack();
+    }
+
+    pub fn control_word(&self) -> u64 {
+        self.board[CONTROL_PLACE]
+    }
+
+    pub fn set_control_word(&mut self, word: u64) {
+        self.board[CONTROL_PLACE] = word;
+    }
+
+    pub fn shape(&self) -> Shape {
+        Shape::unpack(self.board[SHAPE_PLACE])
+    }
+
+    pub fn set_shape(&mut self, shape: Shape) {
+        self.board[SHAPE_PLACE] = shape.pack();
+    }
+
+    /// The range of the log entry at a place of the ring.
+    pub fn entry(&self, ring_place: usize) -> Range {
+        Range::unpack(self.board[entry_place(ring_place)])
+    }
+
+    pub fn set_entry(&mut self, ring_place: usize, range: Range) {
+        self.board[entry_place(ring_place)] = range.pack();
+    }
+
+    pub fn set_old_data(&mut self, ring_place: usize, data: u64) {
+        self.board[entry_place(ring_place) + 1] = data;
+    }
+
+    pub fn has_entry(&self, ring_place: usize) -> bool {
+        entry_place(ring_place + 1) <= self.board.len()
+    }
+
+    /// How many slots there is room for in the work memory.
+    pub fn slots(&self) -> usize {
+        slots_in(self.work.len())
+    }
+
+    pub fn slot(&self, place: usize) -> SlotWord {
+        SlotWord(self.work[slot_place(place)])
+    }
+
+    pub fn set_slot(&mut self, place: usize, word: SlotWord) {
+        self.work[slot_place(place)] = word.0;
+    }
+
+    pub fn has_buffer(&self) -> bool {
+        self.work.len() >= work_words(0)
+    }
+
+    /// The range of a buffered entry.
+    pub fn buffered(&self, place: usize) -> Range {
+        Range::unpack(self.work[buffer_place(self.slots(), place)])
+    }
+
+    pub fn set_buffered(&mut self, place: usize, range: Range) {
+        let word = buffer_place(self.slots(), place);
+        self.work[word] = range.pack();
+    }
+
+    pub fn has_registers(&self) -> bool {
+        self.registers.len() >= REGISTER_WORDS
+    }
+
+    pub fn registers(&self) -> Registers {
+        let words: RegisterWords = std::array::from_fn(|place| self.registers[place]);
+        words.into()
+    }
+
+    /// Sets the first words of the array: what stands behind them stays.
+    pub fn set_registers(&mut self, registers: Registers) {
+        self.registers[..REGISTER_WORDS].copy_from_slice(&RegisterWords::from(registers));
+    }
+}

@@ -1,0 +1,31 @@
+//! The registers, and the words that they are made of and listed as.
+
+use crate::interface::RegisterWords;
+
+#[derive(Clone, Copy, Debug, Default, PartialEq, Eq)]
+pub struct Registers {
+    /// The running epoch, s.
+    pub epoch: u64,
+    /// Undo entries in the buffer, b.
+    pub buffered: u64,
+    /// The scan's cursor, c.
+    pub cursor: u64,
+}
+
+impl From<RegisterWords> for Registers {
+    #[inline]
+    fn from([epoch, buffered, cursor]: RegisterWords) -> Self {
+        Registers {
+            epoch,
+            buffered,
+            cursor,
+        }
+    }
+}
+
+impl From<Registers> for RegisterWords {
+    #[inline]
+    fn from(registers: Registers) -> Self {
+        [registers.epoch, registers.buffered, registers.cursor]
+    }
+}
