@@ -159,7 +159,7 @@ fn registers(f: Frame) -> [u64; REGISTERS] {
     words
 }
 
-// A state whose words are all in range, if its epochs fit 24 bits.
+// A state whose words are all in range, if its epochs fit their fields.
 fn random_fields(seed: u64) -> State {
     let f = random_frame(seed);
     let words = random_words(seed);
