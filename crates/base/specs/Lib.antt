@@ -1,3 +1,5 @@
 pub mod Tests
+pub mod Cases
+pub mod Every
 pub mod Walk
 pub mod Parts

@@ -89,3 +89,31 @@ module _ (f : ℕ → Bool) (n : ℕ) (all : (i : ℕ) → i < n → f i ≡ tru
 
   pub all-first : leb n (first f n) ≡ true
   all-first = sym (walk-all (walked n (omega arith)) (omega arith))
+
+-- a walk ends at or behind the place where it starts, and at most behind the last
+from-least : (f : ℕ → Bool) (k i : ℕ) → i ≤ firstFrom f i k
+unfolding firstFrom
+from-least f zero i = omega arith
+from-least f (suc k) i = go (f i) (from-least f k (suc i))
+  where
+    go : (t : Bool) → suc i ≤ firstFrom f (suc i) k → i ≤ cond t (firstFrom f (suc i) k) i
+    go true h = omega arith
+    go false h = omega arith
+
+from-most : (f : ℕ → Bool) (k i : ℕ) → firstFrom f i k ≤ i + k
+unfolding firstFrom
+from-most f zero i = omega arith
+from-most f (suc k) i = go (f i) (from-most f k (suc i))
+  where
+    go : (t : Bool) → firstFrom f (suc i) k ≤ suc i + k → cond t (firstFrom f (suc i) k) i ≤ i + suc k
+    go true h = omega arith
+    go false h = omega arith
+
+pub first-most : (f : ℕ → Bool) (n : ℕ) → first f n ≤ n
+first-most f n = omega (arith, from-most f n 0)
+
+-- and behind the first place, where that passes the test
+pub first-least : (f : ℕ → Bool) (n : ℕ) → 0 < n → f 0 ≡ true → 0 < first f n
+unfolding firstFrom
+first-least f zero h e = absurd (omega arith)
+first-least f (suc n) h e = rw e (from-least f n 1)

@@ -3,3 +3,4 @@ pub mod Laws
 pub mod Parts
 pub mod Outcome
 pub mod Kept
+pub mod Verdict

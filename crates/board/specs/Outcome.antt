@@ -1,6 +1,6 @@
 -- What the meter says at the end of a call that owed the stores ss under an allowance.
 use Prim.Native.Nat.{ℕ, _+_, _-_, _<_, _≤_}
-use mathlib.Core.Path.{_≡_, _∙_}
+use mathlib.Core.Path.{_≡_}
 use mathlib.Core.Bool.{true, false}
 use mathlib.Core.List.{List}
 use native.Mathlib.Omega.{arith}
@@ -41,8 +41,3 @@ module _ {b b′ : List ℕ} {m : Meter} (allowance : ℕ) (ss : List Store) (p 
   pub ran-count : wasCut m ≡ false → allowance + 1 - m .left ≡ length ss
   unfolding spent
   ran-count e = let h : length ss ≤ allowance = ran-whole e in rw (p .meter) (omega arith)
-
-  -- after a cut nothing more is stored
-  pub ran-still : {b″ : List ℕ} {m″ : Meter} (more : List Store) → wasCut m ≡ true → Ran b′ m more b″ m″ → b″ ≡ b′
-  unfolding stored applied allowed wasCut
-  ran-still more e q = let l : m .left - 1 ≡ 0 = omega (arith, eqb-true (m .left) 0 e) in q .memory ∙ rw l

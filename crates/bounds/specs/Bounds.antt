@@ -11,20 +11,24 @@ use Rattle.layout.specs.Limits.{mostStores}
 use Rattle.layout.specs.Memory.{controlIn}
 use Rattle.status.specs.declared.Status.{Status}
 use Rattle.undo.specs.Log.{firstImproper}
-use Rattle.cache.specs.Slots.{spotOf}
+use Rattle.slots.specs.Slots.{spotOf}
 use Rattle.checks.specs.declared.Checked.{Checked}
 use Rattle.checks.specs.declared.Checked.the-variants.{Refused, Passed}
 use Rattle.checks.specs.declared.Registers.{Registers}
 use Rattle.checks.specs.declared.View.{View}
-use Rattle.checks.specs.Laws.{line-running, store-line, scan-running, memories-view}
+use Rattle.checks.specs.Laws.{line-running, store-line, scan-running, memories-shaped}
 use Rattle.checks.specs.Refusals.{memoriesChecked, lineChecked, storeChecked, commitChecked, scanChecked}
 use Rattle.checks.specs.Registers.{zero}
-use Rattle.checks.specs.View.{viewOf, undoOf}
-use Rattle.picl.specs.Answers.{Outcome, Verdict, refused, due, success, cutOff, answerOf}
-use Rattle.picl.specs.Calls.{judged, targetOf, loadAt, loadOutcome, loadVerdict, storeAt, storeOutcome, storeVerdict}
+use Rattle.checks.specs.View.{viewOf, goodWork, undoOf}
+use Rattle.picl.specs.Answers.{Outcome, Verdict, success, cutOff, answerOf}
+use Rattle.board.specs.Verdict.{refused, due}
+use Rattle.picl.specs.Calls as calls
+use Rattle.picl.specs.Calls.{Call, verdictOf, tallyVerdict, judged, loadAt, loadOutcome, loadVerdict, storeAt, storeOutcome, storeVerdict}
+use Rattle.steps.specs.Effects.{scanTarget}
 use Rattle.picl.specs.Calls.{evictAt, evictOutcome, evictVerdict, commitOutcome, commitVerdict, scanOutcome, scanVerdict}
-use Rattle.picl.specs.Calls.{woken, wakeAt, wakeVerdict, powerUpVerdict}
-use Rattle.bounds.specs.Costs.{either, owed, owed-most, loading-cost, evicting-cost, visiting-cost}
+use Rattle.picl.specs.Calls.{wakeJudged, wakeAt, wakeVerdict, powerUpVerdict}
+use Rattle.base.specs.Cases.{either}
+use Rattle.bounds.specs.Costs.{owed-most, loading-cost, evicting-cost, visiting-cost}
 use Rattle.bounds.specs.Costs.{storing-most, persisting-most, recover-most}
 
 -- A verdict owes at most n stores, and under no allowance does its answer tell of more.
@@ -58,52 +62,66 @@ judged-bounded n (Refused why) f h = refused-bounded n why 0
 judged-bounded n (Passed v) f h = due-bounded n (f v) (h v refl)
 
 module _ (board work : List ℕ) (r : Registers) where
-  line-most : (address : ℕ) (v : View) → Passed v ≡ lineChecked board work r address → owed (r .buffered) + 3 ≤ mostStores
-  line-most address v p = owed-most (r .buffered) (line-running board work r address v p .buffered)
-
-  pub load-bounded : (address : ℕ) → Bounded mostStores (loadVerdict board work r address)
+  load-bounded : (address : ℕ) → Bounded mostStores (loadVerdict board work r address)
   unfolding loadVerdict loadOutcome loadAt
   load-bounded address =
       judged-bounded mostStores (lineChecked board work r address) (loadOutcome board work r address)
-      (λ v p. omega (arith, line-most address v p, loading-cost board (undoOf v r) work address (spotOf work (v .slots) address)))
+      (λ v p.
+      let most = owed-most (r .buffered) (line-running board work r address v p .buffered) in
+      omega (arith, most, loading-cost board (undoOf v r) work address (spotOf work (v .slots) address)))
 
-  pub store-bounded : (address value : ℕ) → Bounded mostStores (storeVerdict board work r address value)
+  store-bounded : (address value : ℕ) → Bounded mostStores (storeVerdict board work r address value)
   unfolding storeVerdict storeOutcome storeAt
   store-bounded address value =
       judged-bounded mostStores (storeChecked board work r address) (storeOutcome board work r address value)
       (λ v p.
-      let spot = spotOf work (v .slots) address in
-      let most = line-most address v (store-line board work r address v p) in
-      omega (arith, most, storing-most board (undoOf v r) work address spot (r .epoch) value))
+      let most = owed-most (r .buffered) (line-running board work r address v (store-line board work r address v p) .buffered) in
+      omega (arith, most, storing-most board (undoOf v r) work address (spotOf work (v .slots) address) (r .epoch) value))
 
-  pub evict-bounded : (address : ℕ) → Bounded mostStores (evictVerdict board work r address)
+  evict-bounded : (address : ℕ) → Bounded mostStores (evictVerdict board work r address)
   unfolding evictVerdict evictOutcome evictAt
   evict-bounded address =
       judged-bounded mostStores (lineChecked board work r address) (evictOutcome work r address)
-      (λ v p. omega (arith, line-most address v p, evicting-cost (undoOf v r) work (spotOf work (v .slots) address)))
+      (λ v p.
+      let most = owed-most (r .buffered) (line-running board work r address v p .buffered) in
+      omega (arith, most, evicting-cost (undoOf v r) work (spotOf work (v .slots) address)))
 
-  pub commit-bounded : Bounded mostStores (commitVerdict board work r)
+  commit-bounded : Bounded mostStores (commitVerdict board work r)
   unfolding commitVerdict commitOutcome
   commit-bounded = judged-bounded mostStores (commitChecked board work r) (λ v. commitOutcome work r) (λ v p. omega arith)
 
-  pub scan-bounded : Bounded mostStores (scanVerdict board work r)
+  scan-bounded : Bounded mostStores (scanVerdict board work r)
   unfolding scanVerdict scanOutcome
   scan-bounded =
       judged-bounded mostStores (scanChecked board work r) (scanOutcome board work r)
       (λ v p.
       let most = owed-most (r .buffered) (scan-running board work r v p .buffered) in
+      let target = scanTarget (v .control .persisted) in
       either (λ (o : Outcome). length (o .stores) ≤ mostStores) (ltb (r .cursor) (v .slots))
-      (omega (arith, most, visiting-cost (undoOf v r) work (r .cursor) (targetOf v)))
-      (omega (arith, most, persisting-most board (undoOf v r) work (targetOf v))))
+      (omega (arith, most, visiting-cost (undoOf v r) work (r .cursor) target))
+      (omega (arith, most, persisting-most board (undoOf v r) work target)))
+
+  tally-bounded : Bounded mostStores (tallyVerdict work r)
+  unfolding tallyVerdict
+  tally-bounded = either (Bounded mostStores) (goodWork (length work)) (due-bounded mostStores _ (omega arith)) (refused-bounded mostStores _ 0)
+
+  -- "No call but format and power-up"
+  pub call-bounded : (c : Call) → Bounded mostStores (verdictOf board work r c)
+  call-bounded (calls.load address) = load-bounded address
+  call-bounded (calls.store address value) = store-bounded address value
+  call-bounded (calls.evict address) = evict-bounded address
+  call-bounded calls.commit = commit-bounded
+  call-bounded calls.scan = scan-bounded
+  call-bounded calls.tally = tally-bounded
 
 pub power-up-bounded : (board work : List ℕ) → Bounded (controlIn board .length + 1) (powerUpVerdict board work)
 unfolding powerUpVerdict wakeVerdict wakeAt viewOf
 power-up-bounded board work = go (memoriesChecked board work) refl
   where
-    go : (k : Checked) → k ≡ memoriesChecked board work → Bounded (controlIn board .length + 1) (woken board work k)
+    go : (k : Checked) → k ≡ memoriesChecked board work → Bounded (controlIn board .length + 1) (wakeJudged board work k)
     go (Refused why) e = refused-bounded _ why 0
     go (Passed v) e =
-        let same : v .control .length ≡ controlIn board .length = ap (λ (x : View). x .control .length) (memories-view board work v e) in
+        let same : v .control .length ≡ controlIn board .length = ap (λ (x : View). x .control .length) (memories-shaped board work v e .is) in
         either (Bounded (controlIn board .length + 1))
         (ltb (firstImproper board (undoOf v zero) (v .shape .lines)) (v .control .length))
         (refused-bounded _ _ _)

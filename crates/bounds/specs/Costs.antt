@@ -10,23 +10,20 @@ use native.Mathlib.Omega.{arith}
 use borrow.Author.Tests.{eqb-true}
 use lib.Dec.{eqb}
 use lib.ListN.{length, length-append}
+use Rattle.base.specs.Cases.{either}
 use Rattle.board.specs.Parts.{length-shifted}
 use Rattle.board.specs.Stores.{Store, one, each, shifted}
 use Rattle.layout.specs.Limits.{bufferPlaces, mostStores}
 use Rattle.layout.specs.Memory.{controlAt, logAt, bufferIn, slotIn, dataIn}
 use Rattle.layout.specs.Words.{encodeControl}
-use Rattle.undo.specs.declared.Undo.{Undo}
+use Rattle.undo.specs.declared.LogState.{LogState}
 use Rattle.undo.specs.Entries.{covers}
 use Rattle.undo.specs.Log.{buffers, entryIn, counted, entryStores, flushed, flushStores, advanceStores}
 use Rattle.undo.specs.Log.{restoreStores, restoreTurn, recoverStores}
-use Rattle.cache.specs.declared.Spot.{Spot}
-use Rattle.cache.specs.Effects.{Effect, nothing, flushing, flushingIf, writingOut, clearing, emptying, bringing, loading}
-use Rattle.cache.specs.Effects.{entryDue, marking, storing, evicting, sweeping, visiting, persisting}
-
--- what holds of both ways holds of the one taken
-pub either : {A : Type 0} (P : A → Type 0) (t : Bool) {x y : A} → P x → P y → P (cond t x y)
-either P true p q = p
-either P false p q = q
+use Rattle.slots.specs.declared.Spot.{Spot}
+use Rattle.steps.specs.Effects.{Effect, nothing, flushing, flushingIf, writingOut, writingBack, emptying, bringing, loading}
+use Rattle.slots.specs.Slots.{entryDue}
+use Rattle.steps.specs.Effects.{storingHeld, storing, evicting, cleaning, visiting, persisting}
 
 each-count : (f : ℕ → List Store) (n : ℕ) → ((i : ℕ) → length (f i) ≡ n) → (k : ℕ) → length (each f k) ≡ n * k
 unfolding each
@@ -46,7 +43,7 @@ pub owed-most : (buffered : ℕ) → buffered < bufferPlaces → owed buffered +
 unfolding owed
 owed-most b h = either (λ (n : ℕ). n + 3 ≤ mostStores) (eqb b 0) (omega arith) (omega arith)
 
-flush-cost : (u : Undo) (buffer : List ℕ) → length (flushStores u buffer) ≡ owed (u .buffered)
+flush-cost : (u : LogState) (buffer : List ℕ) → length (flushStores u buffer) ≡ owed (u .buffered)
 unfolding flushStores entryStores owed
 flush-cost u buffer =
     go (eqb (u .buffered) 0) (shifted logAt (each (entryStores u buffer) (u .buffered)) ++ one controlAt (encodeControl (flushed u .control)))
@@ -57,43 +54,43 @@ flush-cost u buffer =
     go false ss e = e
 
 -- a step owes at most n stores besides the flush
-abbrev pub Costs : ℕ → Undo → Effect → Type 0
+abbrev pub Costs : ℕ → LogState → Effect → Type 0
 Costs n u e = length (e .stores) + owed (e .undo .buffered) ≤ owed (u .buffered) + n
 
-nothing-cost : (n : ℕ) (u : Undo) (work : List ℕ) → Costs n u (nothing u work)
+nothing-cost : (n : ℕ) (u : LogState) (work : List ℕ) → Costs n u (nothing u work)
 nothing-cost n u work = omega arith
 
-flushing-cost : (due : Bool) (u : Undo) (work : List ℕ) → Costs 0 u (flushingIf due u work)
+flushing-cost : (due : Bool) (u : LogState) (work : List ℕ) → Costs 0 u (flushingIf due u work)
 unfolding flushingIf flushed owed
 flushing-cost due u work = either (Costs 0 u) due (omega (arith, flush-cost u (bufferIn work))) (nothing-cost 0 u work)
 
-writing-cost : (u : Undo) (work : List ℕ) (address value : ℕ) → Costs 1 u (writingOut u work address value)
+writing-cost : (u : LogState) (work : List ℕ) (address value : ℕ) → Costs 1 u (writingOut u work address value)
 unfolding writingOut
 writing-cost u work address value =
     rw length-append (omega (arith, flushing-cost (buffers (bufferIn work) (u .buffered) address) u work))
 
-emptying-cost : (u : Undo) (work : List ℕ) (k : ℕ) → Costs 1 u (emptying u work k)
-unfolding emptying clearing
+emptying-cost : (u : LogState) (work : List ℕ) (k : ℕ) → Costs 1 u (emptying u work k)
+unfolding emptying writingBack
 emptying-cost u work k =
     either (Costs 1 u) (slotIn work k .dirty) (writing-cost u work (slotIn work k .address) (dataIn work k)) (nothing-cost 1 u work)
 
-pub loading-cost : (board : List ℕ) (u : Undo) (work : List ℕ) (address : ℕ) (spot : Spot) → Costs 1 u (loading board u work address spot)
+pub loading-cost : (board : List ℕ) (u : LogState) (work : List ℕ) (address : ℕ) (spot : Spot) → Costs 1 u (loading board u work address spot)
 unfolding loading bringing
 loading-cost board u work address spot = either (Costs 1 u) (spot .held) (nothing-cost 1 u work) (emptying-cost u work (spot .slot))
 
-pub evicting-cost : (u : Undo) (work : List ℕ) (spot : Spot) → Costs 1 u (evicting u work spot)
+pub evicting-cost : (u : LogState) (work : List ℕ) (spot : Spot) → Costs 1 u (evicting u work spot)
 unfolding evicting
 evicting-cost u work spot = either (Costs 1 u) (spot .held) (emptying-cost u work (spot .slot)) (nothing-cost 1 u work)
 
-pub visiting-cost : (u : Undo) (work : List ℕ) (k target : ℕ) → Costs 1 u (visiting u work k target)
-unfolding visiting sweeping
+pub visiting-cost : (u : LogState) (work : List ℕ) (k target : ℕ) → Costs 1 u (visiting u work k target)
+unfolding visiting cleaning
 visiting-cost u work k target =
     either (Costs 1 u) (slotIn work k .dirty && eqb (slotIn work k .tag) target)
     (writing-cost u work (slotIn work k .address) (dataIn work k))
     (nothing-cost 1 u work)
 
 -- "An entry goes to the buffer's end; at 32 the buffer is flushed at once."
-full-cost : (u : Undo) (work : List ℕ)
+full-cost : (u : LogState) (work : List ℕ)
     → length (flushingIf (eqb (u .buffered + 1) bufferPlaces) (counted u) work .stores) ≤ owed (u .buffered) + 2
 unfolding flushingIf owed
 full-cost u work = go (eqb (u .buffered + 1) bufferPlaces) refl
@@ -108,27 +105,27 @@ full-cost u work = go (eqb (u .buffered + 1) bufferPlaces) refl
         omega (arith, flush-cost (counted u) (bufferIn work), last (u .buffered) full)
     go false e = omega arith
 
-marking-most : (u : Undo) (work : List ℕ) (k address epoch value : ℕ)
-    → length (marking u work k address epoch value .stores) ≤ owed (u .buffered) + 2
-unfolding marking
-marking-most u work k address epoch value =
+storing-held-most : (u : LogState) (work : List ℕ) (k address epoch value : ℕ)
+    → length (storingHeld u work k address epoch value .stores) ≤ owed (u .buffered) + 2
+unfolding storingHeld
+storing-held-most u work k address epoch value =
     either (λ (e : Effect). length (e .stores) ≤ owed (u .buffered) + 2) (entryDue epoch (slotIn work k)) (full-cost u _) (omega arith)
 
-pub storing-most : (board : List ℕ) (u : Undo) (work : List ℕ) (address : ℕ) (spot : Spot) (epoch value : ℕ)
+pub storing-most : (board : List ℕ) (u : LogState) (work : List ℕ) (address : ℕ) (spot : Spot) (epoch value : ℕ)
     → length (storing board u work address spot epoch value .stores) ≤ owed (u .buffered) + 3
 unfolding storing
 storing-most board u work address spot epoch value =
     let l = loading board u work address spot in
     rw length-append
-    (omega (arith, loading-cost board u work address spot, marking-most (l .undo) (l .work) (spot .slot) address epoch value))
+    (omega (arith, loading-cost board u work address spot, storing-held-most (l .undo) (l .work) (spot .slot) address epoch value))
 
-pub persisting-most : (board : List ℕ) (u : Undo) (work : List ℕ) (target : ℕ)
+pub persisting-most : (board : List ℕ) (u : LogState) (work : List ℕ) (target : ℕ)
     → length (persisting board u work target .stores) ≤ owed (u .buffered) + 1
 unfolding persisting advanceStores
 persisting-most board u work target = rw length-append (omega (arith, flushing-cost true u work))
 
 -- power-up: a store for each entry at most, and the control word
-pub recover-most : (board : List ℕ) (u : Undo) → length (recoverStores board u) ≤ u .control .length + 1
+pub recover-most : (board : List ℕ) (u : LogState) → length (recoverStores board u) ≤ u .control .length + 1
 unfolding recoverStores restoreTurn restoreStores
 recover-most board u = rw length-append (omega (arith, each-most (restoreTurn board u) turn (u .control .length)))
   where

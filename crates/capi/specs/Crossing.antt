@@ -7,9 +7,9 @@ use Rattle.status.specs.Numbers.{numberOf}
 use Rattle.checks.specs.declared.Registers.{Registers}
 use Rattle.checks.specs.Registers.{zero}
 use Rattle.picl.specs.declared.Report.{Report}
-use Rattle.picl.specs.Answers.{Verdict, answerOf, boardAfter, workAfter}
-use Rattle.picl.specs.Calls.{loadVerdict, storeVerdict, evictVerdict, commitVerdict, scanVerdict, powerUpVerdict}
-use Rattle.picl.specs.Calls.{formatReport, formatAfter, tallyReport}
+use Rattle.picl.specs.Answers.{Verdict, answerOf}
+use Rattle.board.specs.Verdict.{boardAfter, workAfter}
+use Rattle.picl.specs.Calls.{Call, verdictOf, powerUpVerdict, formatReport, formatAfter, tallyReport}
 use Rattle.capi.specs.Places.{hasAnswer, hasPlaces, readRegisters, writeRegisters, writeAnswer}
 
 -- the number of a call whose registers or answer have too few words, far from the paper's
@@ -37,28 +37,14 @@ crossing allowance given v board work registers answer =
     (writeAnswer answer (a .value) (a .stores)))
     (back tooShort board work registers answer)
 
-module _ (allowance : ℕ) (board work registers answer : List ℕ) where
-  abbrev pub loadCrossing : (address : ℕ) → Crossing
-  loadCrossing address =
-      let r = readRegisters registers in crossing allowance r (loadVerdict board work r address) board work registers answer
+abbrev pub callCrossing : Call → (allowance : ℕ) → (board work registers answer : List ℕ) → Crossing
+callCrossing c allowance board work registers answer =
+    let r = readRegisters registers in crossing allowance r (verdictOf board work r c) board work registers answer
 
-  abbrev pub storeCrossing : (address value : ℕ) → Crossing
-  storeCrossing address value =
-      let r = readRegisters registers in crossing allowance r (storeVerdict board work r address value) board work registers answer
-
-  abbrev pub evictCrossing : (address : ℕ) → Crossing
-  evictCrossing address =
-      let r = readRegisters registers in crossing allowance r (evictVerdict board work r address) board work registers answer
-
-  abbrev pub commitCrossing : Crossing
-  commitCrossing = let r = readRegisters registers in crossing allowance r (commitVerdict board work r) board work registers answer
-
-  abbrev pub scanCrossing : Crossing
-  scanCrossing = let r = readRegisters registers in crossing allowance r (scanVerdict board work r) board work registers answer
-
-  -- "Power-up takes none and returns them"; a refused one returns "all zero"
-  abbrev pub powerUpCrossing : Crossing
-  powerUpCrossing = crossing allowance zero (powerUpVerdict board work) board work registers answer
+-- "Power-up takes none and returns them"; a refused one returns "all zero"
+abbrev pub powerUpCrossing : (allowance : ℕ) → (board work registers answer : List ℕ) → Crossing
+powerUpCrossing allowance board work registers answer =
+    crossing allowance zero (powerUpVerdict board work) board work registers answer
 
 -- "format and tally do neither" take nor return registers: the one memory that the call is lent, and the answer
 pub record Reported : Type 0 where

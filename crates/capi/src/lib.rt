@@ -4,7 +4,8 @@ mod places;
 mod reading;
 
 ghost use mathlib.Core.Path.{_≡_};
-ghost use Rattle.capi.specs.Crossing.{back, loadCrossing, storeCrossing, evictCrossing, commitCrossing, scanCrossing};
+ghost use Rattle.picl.specs.Calls as call;
+ghost use Rattle.capi.specs.Crossing.{back, callCrossing};
 ghost use Rattle.capi.specs.Crossing.{powerUpCrossing, reported, formatCrossing, tallyCrossing};
 use places::TOO_SHORT;
 use places::give;
@@ -36,7 +37,8 @@ pub extern "C" fn picl_power_up(
     allowance: u32,
     answer: &mut [u64],
 ) -> u64
-    ensures { λ r. ⌜ back r (now (board .exit)) (now (work .exit)) (now (registers .exit)) (now (answer .exit)) ≡ powerUpCrossing allowance (now (board .entry)) (now (work .entry)) (now (registers .entry)) (now (answer .entry)) ⌝ }
+    ensures { λ r. ⌜ back r (now (board .exit)) (now (work .exit)) (now (registers .exit)) (now (answer .exit))
+        ≡ powerUpCrossing allowance (now (board .entry)) (now (work .entry)) (now (registers .entry)) (now (answer .entry)) ⌝ }
 {
     if !has_places(registers, answer) {
         return TOO_SHORT;
@@ -54,7 +56,8 @@ pub extern "C" fn picl_load(
     allowance: u32,
     answer: &mut [u64],
 ) -> u64
-    ensures { λ r. ⌜ back r (now (board .exit)) (now (work .exit)) (now (registers .exit)) (now (answer .exit)) ≡ loadCrossing allowance (now (board .entry)) (now (work .entry)) (now (registers .entry)) (now (answer .entry)) address ⌝ }
+    ensures { λ r. ⌜ back r (now (board .exit)) (now (work .exit)) (now (registers .exit)) (now (answer .exit))
+        ≡ callCrossing (call.load address) allowance (now (board .entry)) (now (work .entry)) (now (registers .entry)) (now (answer .entry)) ⌝ }
 {
     if !has_places(registers, answer) {
         return TOO_SHORT;
@@ -73,7 +76,8 @@ pub extern "C" fn picl_store(
     allowance: u32,
     answer: &mut [u64],
 ) -> u64
-    ensures { λ r. ⌜ back r (now (board .exit)) (now (work .exit)) (now (registers .exit)) (now (answer .exit)) ≡ storeCrossing allowance (now (board .entry)) (now (work .entry)) (now (registers .entry)) (now (answer .entry)) address value ⌝ }
+    ensures { λ r. ⌜ back r (now (board .exit)) (now (work .exit)) (now (registers .exit)) (now (answer .exit))
+        ≡ callCrossing (call.store address value) allowance (now (board .entry)) (now (work .entry)) (now (registers .entry)) (now (answer .entry)) ⌝ }
 {
     if !has_places(registers, answer) {
         return TOO_SHORT;
@@ -91,7 +95,8 @@ pub extern "C" fn picl_evict(
     allowance: u32,
     answer: &mut [u64],
 ) -> u64
-    ensures { λ r. ⌜ back r (now (board .exit)) (now (work .exit)) (now (registers .exit)) (now (answer .exit)) ≡ evictCrossing allowance (now (board .entry)) (now (work .entry)) (now (registers .entry)) (now (answer .entry)) address ⌝ }
+    ensures { λ r. ⌜ back r (now (board .exit)) (now (work .exit)) (now (registers .exit)) (now (answer .exit))
+        ≡ callCrossing (call.evict address) allowance (now (board .entry)) (now (work .entry)) (now (registers .entry)) (now (answer .entry)) ⌝ }
 {
     if !has_places(registers, answer) {
         return TOO_SHORT;
@@ -108,7 +113,8 @@ pub extern "C" fn picl_commit(
     allowance: u32,
     answer: &mut [u64],
 ) -> u64
-    ensures { λ r. ⌜ back r (now (board .entry)) (now (work .entry)) (now (registers .exit)) (now (answer .exit)) ≡ commitCrossing allowance (now (board .entry)) (now (work .entry)) (now (registers .entry)) (now (answer .entry)) ⌝ }
+    ensures { λ r. ⌜ back r (now (board .entry)) (now (work .entry)) (now (registers .exit)) (now (answer .exit))
+        ≡ callCrossing call.commit allowance (now (board .entry)) (now (work .entry)) (now (registers .entry)) (now (answer .entry)) ⌝ }
 {
     if !has_places(registers, answer) {
         return TOO_SHORT;
@@ -125,7 +131,8 @@ pub extern "C" fn picl_scan(
     allowance: u32,
     answer: &mut [u64],
 ) -> u64
-    ensures { λ r. ⌜ back r (now (board .exit)) (now (work .exit)) (now (registers .exit)) (now (answer .exit)) ≡ scanCrossing allowance (now (board .entry)) (now (work .entry)) (now (registers .entry)) (now (answer .entry)) ⌝ }
+    ensures { λ r. ⌜ back r (now (board .exit)) (now (work .exit)) (now (registers .exit)) (now (answer .exit))
+        ≡ callCrossing call.scan allowance (now (board .entry)) (now (work .entry)) (now (registers .entry)) (now (answer .entry)) ⌝ }
 {
     if !has_places(registers, answer) {
         return TOO_SHORT;

@@ -1,8 +1,8 @@
-// The calls on registers that are read from their places.
+// The calls on registers that are read from their places: each is the call of `picl` of the same name.
 ghost use Prim.Native.Nat.{_≤_};
 ghost use lib.ListN.{length};
-ghost use Rattle.picl.specs.Calls.{loadVerdict, storeVerdict, evictVerdict, commitVerdict, scanVerdict};
-ghost use Rattle.picl.specs.Contracts.{Answers};
+ghost use Rattle.picl.specs.Calls as call;
+ghost use Rattle.picl.specs.Contracts.{Calls};
 ghost use Rattle.capi.specs.Places.{registerWords, readRegisters};
 use crate::places::read_registers;
 use picl::Answer;
@@ -15,7 +15,7 @@ pub fn load(
     allowance: u32,
 ) -> Answer
     requires { ⌜ registerWords ≤ length (now registers) ⌝ }
-    ensures { λ r. ⌜ Answers allowance (readRegisters (now (registers .entry))) (now (board .entry)) (now (work .entry)) (loadVerdict (now (board .entry)) (now (work .entry)) (readRegisters (now (registers .entry))) address) (now (board .exit)) (now (work .exit)) r ⌝ }
+    ensures { λ r. ⌜ Calls (call.load address) allowance (readRegisters (now (registers .entry))) (now (board .entry)) (now (work .entry)) (now (board .exit)) (now (work .exit)) r ⌝ }
 {
     picl::load(board, work, read_registers(registers), address, allowance)
 }
@@ -29,7 +29,7 @@ pub fn store(
     allowance: u32,
 ) -> Answer
     requires { ⌜ registerWords ≤ length (now registers) ⌝ }
-    ensures { λ r. ⌜ Answers allowance (readRegisters (now (registers .entry))) (now (board .entry)) (now (work .entry)) (storeVerdict (now (board .entry)) (now (work .entry)) (readRegisters (now (registers .entry))) address value) (now (board .exit)) (now (work .exit)) r ⌝ }
+    ensures { λ r. ⌜ Calls (call.store address value) allowance (readRegisters (now (registers .entry))) (now (board .entry)) (now (work .entry)) (now (board .exit)) (now (work .exit)) r ⌝ }
 {
     picl::store(
         board,
@@ -49,21 +49,21 @@ pub fn evict(
     allowance: u32,
 ) -> Answer
     requires { ⌜ registerWords ≤ length (now registers) ⌝ }
-    ensures { λ r. ⌜ Answers allowance (readRegisters (now (registers .entry))) (now (board .entry)) (now (work .entry)) (evictVerdict (now (board .entry)) (now (work .entry)) (readRegisters (now (registers .entry))) address) (now (board .exit)) (now (work .exit)) r ⌝ }
+    ensures { λ r. ⌜ Calls (call.evict address) allowance (readRegisters (now (registers .entry))) (now (board .entry)) (now (work .entry)) (now (board .exit)) (now (work .exit)) r ⌝ }
 {
     picl::evict(board, work, read_registers(registers), address, allowance)
 }
 
 pub fn commit(board: &[u64], work: &[u64], registers: &[u64], allowance: u32) -> Answer
     requires { ⌜ registerWords ≤ length (now registers) ⌝ }
-    ensures { λ r. ⌜ Answers allowance (readRegisters (now (registers .entry))) (now (board .entry)) (now (work .entry)) (commitVerdict (now (board .entry)) (now (work .entry)) (readRegisters (now (registers .entry)))) (now (board .entry)) (now (work .entry)) r ⌝ }
+    ensures { λ r. ⌜ Calls call.commit allowance (readRegisters (now (registers .entry))) (now (board .entry)) (now (work .entry)) (now (board .entry)) (now (work .entry)) r ⌝ }
 {
     picl::commit(board, work, read_registers(registers), allowance)
 }
 
 pub fn scan(board: &mut [u64], work: &mut [u64], registers: &[u64], allowance: u32) -> Answer
     requires { ⌜ registerWords ≤ length (now registers) ⌝ }
-    ensures { λ r. ⌜ Answers allowance (readRegisters (now (registers .entry))) (now (board .entry)) (now (work .entry)) (scanVerdict (now (board .entry)) (now (work .entry)) (readRegisters (now (registers .entry)))) (now (board .exit)) (now (work .exit)) r ⌝ }
+    ensures { λ r. ⌜ Calls call.scan allowance (readRegisters (now (registers .entry))) (now (board .entry)) (now (work .entry)) (now (board .exit)) (now (work .exit)) r ⌝ }
 {
     picl::scan(board, work, read_registers(registers), allowance)
 }

@@ -2,42 +2,42 @@
 use Prim.Native.Nat.{ℕ, _+_, _-_, _*_, _<_, _≤_}
 use mathlib.Core.Path.{_≡_, sym, _∙_}
 use mathlib.Core.Bool.{Bool, true, false, not}
-use mathlib.Core.List.{List, [], _∷_}
+use mathlib.Core.List.{List, _++_}
 use native.Mathlib.Omega.{arith}
 use borrow.Author.Tests.{lt-ltb, le-ltb, le-leb, lt-leb, not-true, not-false}
 use lib.ListN.{length, take, drop}
 use Rattle.base.specs.Parts.{rest-lent}
-use Rattle.layout.specs.Memory.{bufferWords}
+use Rattle.layout.specs.Memory.{bufferAt}
 use Rattle.status.specs.declared.Status.{Status}
 use Rattle.status.specs.declared.Status.the-variants as status
 use Rattle.undo.specs.Log.{bufferProper}
-use Rattle.cache.specs.declared.Bounds.{Bounds}
-use Rattle.cache.specs.declared.Spot.{Spot}
-use Rattle.cache.specs.Contracts.{SlotsReady, SpotReady}
-use Rattle.cache.specs.Laws.{spot-below}
-use Rattle.cache.specs.Slots.{properAt, properFor, spotOf}
-use Rattle.cache.specs.Effects.{undoDue}
+use Rattle.slots.specs.declared.Bounds.{Bounds}
+use Rattle.slots.specs.declared.Spot.{Spot}
+use Rattle.slots.specs.Contracts.{SlotsReady, SpotReady}
+use Rattle.slots.specs.Laws.{spot-below}
+use Rattle.slots.specs.Slots.{properAt, properFor, spotOf}
+use Rattle.slots.specs.Slots.{undoDue}
 use Rattle.checks.specs.declared.Checked.{Checked}
 use Rattle.checks.specs.declared.Checked.the-variants.{Refused, Passed}
 use Rattle.checks.specs.declared.Registers.{Registers}
 use Rattle.checks.specs.declared.View.{View}
 use Rattle.checks.specs.View.{boundsOf, goodBuffer}
-use Rattle.checks.specs.Refusals.{tested, bufferRow, lineRows, roomRows, commitRows, epochRows, cursorRows, waitingRows, scanRows}
+use Rattle.checks.specs.Refusals.{tested, bufferRows, lineRows, roomRows, epochRows, cursorRows, waitingRows}
 use Rattle.checks.specs.Contracts.{RowsReady}
 use Rattle.checks.specs.Laws.{refused-first, passed-first}
 
 -- 7
-module _ (v : View) (work : List ℕ) (r : Registers) (t : Bool)
-    (test : t ≡ bufferProper (take (length work - (length work - bufferWords)) (drop (length work - bufferWords) work)) (r .buffered) (v .shape .lines) (r .epoch))
+module _ (v : View) (work : List ℕ) (r : Registers) (at : ℕ) (here : at ≡ bufferAt (length work)) (t : Bool)
+    (test : t ≡ bufferProper (take (length work - at) (drop at work)) (r .buffered) (v .shape .lines) (r .epoch))
   where
     good : t ≡ goodBuffer v work r
     unfolding goodBuffer
-    good = rw (rest-lent (length work - bufferWords) work) at test
+    good = rw (rest-lent at work, here) at test
 
-    pub buffer-refused : not t ≡ true → Refused status.Buffer ≡ tested (bufferRow v work r ∷ []) v
+    pub buffer-refused : not t ≡ true → Refused status.Buffer ≡ tested (bufferRows v work r) v
     buffer-refused h = rw (← good, not-true t h)
 
-    pub buffer-passed : not t ≡ false → Passed v ≡ tested (bufferRow v work r ∷ []) v
+    pub buffer-passed : not t ≡ false → Passed v ≡ tested (bufferRows v work r) v
     buffer-passed h = rw (← good, not-false t h)
 
 -- 5, 6 and 7
@@ -49,7 +49,7 @@ module _ (v : View) (work : List ℕ) (r : Registers) (address : ℕ) where
     pub line-slot : not t ≡ true → Refused status.Slot ≡ tested (lineRows v work r address) v
     line-slot h = rw (lt-leb (v .shape .lines) address named, ← bounds, ← slot, not-true t h)
 
-    pub line-buffer : (k : Checked) → not t ≡ false → k ≡ tested (bufferRow v work r ∷ []) v → k ≡ tested (lineRows v work r address) v
+    pub line-buffer : (k : Checked) → not t ≡ false → k ≡ tested (bufferRows v work r) v → k ≡ tested (lineRows v work r address) v
     line-buffer k h x = x ∙ sym (rw (lt-leb (v .shape .lines) address named, ← bounds, ← slot, not-false t h))
 
 -- 8
@@ -70,27 +70,27 @@ module _ (v : View) (work : List ℕ) (r : Registers) (address : ℕ) (spot : Sp
 
 -- commit's rows, and scan's
 module _ (v : View) (work : List ℕ) (r : Registers) (k : Checked) where
-  module _ (is : k ≡ tested (bufferRow v work r ∷ []) v) where
-    pub commit-buffer : (s : Status) → k ≡ Refused s → Refused s ≡ tested (commitRows v work r) v
-    commit-buffer s e = refused-first (bufferRow v work r ∷ []) (epochRows v r) v s (sym e ∙ is)
+  module _ (is : k ≡ tested (bufferRows v work r) v) where
+    pub commit-buffer : (s : Status) → k ≡ Refused s → Refused s ≡ tested (bufferRows v work r ++ epochRows v r) v
+    commit-buffer s e = refused-first (bufferRows v work r) (epochRows v r) v s (sym e ∙ is)
 
-    pub commit-epoch : (w : View) (k′ : Checked) → k ≡ Passed w → k′ ≡ tested (epochRows v r) v → k′ ≡ tested (commitRows v work r) v
-    commit-epoch w k′ e x = x ∙ sym (passed-first (bufferRow v work r ∷ []) (epochRows v r) v w (sym e ∙ is))
+    pub commit-epoch : (w : View) (k′ : Checked) → k ≡ Passed w → k′ ≡ tested (epochRows v r) v → k′ ≡ tested (bufferRows v work r ++ epochRows v r) v
+    commit-epoch w k′ e x = x ∙ sym (passed-first (bufferRows v work r) (epochRows v r) v w (sym e ∙ is))
 
-    pub scan-buffer : (s : Status) → k ≡ Refused s → Refused s ≡ tested (bufferRow v work r ∷ waitingRows v r) v
-    scan-buffer s e = refused-first (bufferRow v work r ∷ []) (waitingRows v r) v s (sym e ∙ is)
+    pub scan-buffer : (s : Status) → k ≡ Refused s → Refused s ≡ tested (bufferRows v work r ++ waitingRows v r) v
+    scan-buffer s e = refused-first (bufferRows v work r) (waitingRows v r) v s (sym e ∙ is)
 
     pub scan-waiting : (w : View) (k′ : Checked) → k ≡ Passed w → k′ ≡ tested (waitingRows v r) v
-        → k′ ≡ tested (bufferRow v work r ∷ waitingRows v r) v
-    scan-waiting w k′ e x = x ∙ sym (passed-first (bufferRow v work r ∷ []) (waitingRows v r) v w (sym e ∙ is))
+        → k′ ≡ tested (bufferRows v work r ++ waitingRows v r) v
+    scan-waiting w k′ e x = x ∙ sym (passed-first (bufferRows v work r) (waitingRows v r) v w (sym e ∙ is))
 
   module _ (is : k ≡ tested (cursorRows v work r) v) where
-    pub scan-cursor : (s : Status) → k ≡ Refused s → Refused s ≡ tested (scanRows v work r) v
-    scan-cursor s e = refused-first (cursorRows v work r) (bufferRow v work r ∷ waitingRows v r) v s (sym e ∙ is)
+    pub scan-cursor : (s : Status) → k ≡ Refused s → Refused s ≡ tested (cursorRows v work r ++ bufferRows v work r ++ waitingRows v r) v
+    scan-cursor s e = refused-first (cursorRows v work r) (bufferRows v work r ++ waitingRows v r) v s (sym e ∙ is)
 
-    pub scan-rest : (w : View) (k′ : Checked) → k ≡ Passed w → k′ ≡ tested (bufferRow v work r ∷ waitingRows v r) v
-        → k′ ≡ tested (scanRows v work r) v
-    scan-rest w k′ e x = x ∙ sym (passed-first (cursorRows v work r) (bufferRow v work r ∷ waitingRows v r) v w (sym e ∙ is))
+    pub scan-rest : (w : View) (k′ : Checked) → k ≡ Passed w → k′ ≡ tested (bufferRows v work r ++ waitingRows v r) v
+        → k′ ≡ tested (cursorRows v work r ++ bufferRows v work r ++ waitingRows v r) v
+    scan-rest w k′ e x = x ∙ sym (passed-first (cursorRows v work r) (bufferRows v work r ++ waitingRows v r) v w (sym e ∙ is))
 
 module _ (v : View) (work : List ℕ) (r : Registers) where
   pub cursor-end : v .slots ≤ r .cursor → Passed v ≡ tested (cursorRows v work r) v

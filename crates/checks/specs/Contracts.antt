@@ -17,6 +17,7 @@ pub record Viewed (board work : List ℕ) (v : View) : Type 0 where
 
 -- 1 and 2 passed
 pub record Shaped (board work : List ℕ) (v : View) : Type 0 where
+  pub is : v ≡ viewOf board work
   pub lines-some : 1 ≤ v .shape .lines
   pub lines-most : v .shape .lines ≤ mostLines
   pub entries-some : 1 ≤ v .shape .entries

@@ -1,4 +1,4 @@
--- "What an answer says": each call's refusals, the paper's table read downwards. "The lowest number wins."
+-- "What an answer says": the rows of the paper's table, and the order in which each call tests them.
 use Prim.Native.Nat.{ℕ, _+_, _-_}
 use mathlib.Core.Bool.{Bool, not, cond, _&&_}
 use mathlib.Core.List.{List, [], _∷_, _++_}
@@ -7,8 +7,7 @@ use lib.ListN.{length}
 use Rattle.layout.specs.Limits.{lastEpoch, mostAhead}
 use Rattle.status.specs.declared.Status.{Status}
 use Rattle.status.specs.declared.Status.the-variants as status
-use Rattle.cache.specs.Slots.{properAt, properFor, spotOf}
-use Rattle.cache.specs.Effects.{undoDue}
+use Rattle.slots.specs.Slots.{properAt, properFor, spotOf, undoDue}
 use Rattle.checks.specs.declared.Checked.{Checked}
 use Rattle.checks.specs.declared.Checked.the-variants.{Refused, Passed}
 use Rattle.checks.specs.declared.Registers.{Registers}
@@ -28,28 +27,39 @@ abbrev pub tested : List Row → View → Checked
 tested [] v = Passed v
 tested (x ∷ xs) v = cond (x .holds) (Refused (x .refuses)) (tested xs v)
 
--- 1 and 2, which every call has that reads both memories
-abbrev pub memoryRows : List ℕ → List ℕ → List Row
-memoryRows board work =
-    row (not (goodShape (length board) (viewOf board work))) status.Shape ∷ row (not (goodWork (length work))) status.Work ∷ []
+-- rows behind a check that has passed
+abbrev pub then : Checked → (View → List Row) → Checked
+then (Refused s) rows = Refused s
+then (Passed v) rows = tested (rows v) v
 
--- 4, which every call with registers has
+-- ---- the rows of one stage; a row that is tested right after another stands behind it in one list
+
+-- 1
+abbrev pub boardRows : (words : ℕ) → View → List Row
+boardRows words v = row (not (goodShape words v)) status.Shape ∷ []
+
+-- 2
+abbrev pub workRows : (words : ℕ) → List Row
+workRows words = row (not (goodWork words)) status.Work ∷ []
+
+-- 4
 abbrev pub registerRows : View → Registers → List Row
 registerRows v r = row (not (properRegisters v r)) status.Regs ∷ []
 
-abbrev pub runningRows : List ℕ → List ℕ → Registers → List Row
-runningRows board work r = memoryRows board work ++ registerRows (viewOf board work) r
+-- "6 slot: the slot visited is not proper: slot a mod S, or slot c if c < S"
+abbrev pub slotRows : View → List ℕ → Registers → (address : ℕ) → List Row
+slotRows v work r address = row (not (properFor (boundsOf v r) work address)) status.Slot ∷ []
 
-abbrev pub bufferRow : View → List ℕ → Registers → Row
-bufferRow v work r = row (not (goodBuffer v work r)) status.Buffer
+abbrev pub cursorRows : View → List ℕ → Registers → List Row
+cursorRows v work r = row (ltb (r .cursor) (v .slots) && not (properAt (boundsOf v r) work (r .cursor))) status.Slot ∷ []
+
+-- 7
+abbrev pub bufferRows : View → List ℕ → Registers → List Row
+bufferRows v work r = row (not (goodBuffer v work r)) status.Buffer ∷ []
 
 -- 5, 6 and 7 of load, store and evict
 abbrev pub lineRows : View → List ℕ → Registers → (address : ℕ) → List Row
-lineRows v work r address =
-    row (leb (v .shape .lines) address) status.Address
-    ∷ row (not (properFor (boundsOf v r) work address)) status.Slot
-    ∷ bufferRow v work r
-    ∷ []
+lineRows v work r address = row (leb (v .shape .lines) address) status.Address ∷ slotRows v work r address ++ bufferRows v work r
 
 -- "8 room: an undo entry is due and length + b + 1 > L", of store
 abbrev pub roomRows : View → List ℕ → Registers → (address : ℕ) → List Row
@@ -59,41 +69,38 @@ roomRows v work r address =
     status.Room
     ∷ []
 
--- "9 waiting: s − P = 16" and "10 last: s = 2^24 − 1"; of commit, behind 7
+-- "9 waiting: s − P = 16" and "10 last: s = 2^24 − 1", of commit
 abbrev pub epochRows : View → Registers → List Row
 epochRows v r =
     row (eqb (r .epoch - v .control .persisted) mostAhead) status.Waiting ∷ row (eqb (r .epoch) lastEpoch) status.Last ∷ []
 
-abbrev pub commitRows : View → List ℕ → Registers → List Row
-commitRows v work r = bufferRow v work r ∷ epochRows v r
-
--- "slot c if c < S" and "11 none: s = P + 1"; of scan, before and behind 7
-abbrev pub cursorRows : View → List ℕ → Registers → List Row
-cursorRows v work r = row (ltb (r .cursor) (v .slots) && not (properAt (boundsOf v r) work (r .cursor))) status.Slot ∷ []
-
+-- "11 none: s = P + 1", of scan
 abbrev pub waitingRows : View → Registers → List Row
 waitingRows v r = row (eqb (r .epoch) (v .control .persisted + 1)) status.None ∷ []
 
-abbrev pub scanRows : View → List ℕ → Registers → List Row
-scanRows v work r = cursorRows v work r ++ bufferRow v work r ∷ waitingRows v r
+-- ---- the checks, each behind another
 
-unfoldable pub memoriesChecked : List ℕ → List ℕ → Checked
-memoriesChecked board work = tested (memoryRows board work) (viewOf board work)
+-- the board alone
+unfoldable pub boardChecked : (board work : List ℕ) → Checked
+boardChecked board work = tested (boardRows (length board) (viewOf board work)) (viewOf board work)
 
-unfoldable pub runningChecked : List ℕ → List ℕ → Registers → Checked
-runningChecked board work r = tested (runningRows board work r) (viewOf board work)
+-- board and work memory: power-up
+unfoldable pub memoriesChecked : (board work : List ℕ) → Checked
+memoriesChecked board work = then (boardChecked board work) (λ v. workRows (length work))
 
-unfoldable pub lineChecked : List ℕ → List ℕ → Registers → (address : ℕ) → Checked
-lineChecked board work r address = tested (runningRows board work r ++ lineRows (viewOf board work) work r address) (viewOf board work)
+-- and the registers
+unfoldable pub runningChecked : (board work : List ℕ) → Registers → Checked
+runningChecked board work r = then (memoriesChecked board work) (λ v. registerRows v r)
 
-unfoldable pub storeChecked : List ℕ → List ℕ → Registers → (address : ℕ) → Checked
-storeChecked board work r address =
-    tested
-    ((runningRows board work r ++ lineRows (viewOf board work) work r address) ++ roomRows (viewOf board work) work r address)
-    (viewOf board work)
+-- load and evict
+unfoldable pub lineChecked : (board work : List ℕ) → Registers → (address : ℕ) → Checked
+lineChecked board work r address = then (runningChecked board work r) (λ v. lineRows v work r address)
 
-unfoldable pub commitChecked : List ℕ → List ℕ → Registers → Checked
-commitChecked board work r = tested (runningRows board work r ++ commitRows (viewOf board work) work r) (viewOf board work)
+unfoldable pub storeChecked : (board work : List ℕ) → Registers → (address : ℕ) → Checked
+storeChecked board work r address = then (lineChecked board work r address) (λ v. roomRows v work r address)
 
-unfoldable pub scanChecked : List ℕ → List ℕ → Registers → Checked
-scanChecked board work r = tested (runningRows board work r ++ scanRows (viewOf board work) work r) (viewOf board work)
+unfoldable pub commitChecked : (board work : List ℕ) → Registers → Checked
+commitChecked board work r = then (runningChecked board work r) (λ v. bufferRows v work r ++ epochRows v r)
+
+unfoldable pub scanChecked : (board work : List ℕ) → Registers → Checked
+scanChecked board work r = then (runningChecked board work r) (λ v. cursorRows v work r ++ bufferRows v work r ++ waitingRows v r)

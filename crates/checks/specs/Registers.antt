@@ -1,6 +1,7 @@
--- "The registers go in by value and come back by value: s, b (entries buffered), c (scan cursor)." Only these definitions make
--- registers.
+-- "The registers go in by value and come back by value: s, b (entries buffered), c (scan cursor)." Every other definition makes
+-- registers by one of these.
 use Prim.Native.Nat.{ℕ, _+_}
+use Rattle.undo.specs.declared.LogState.{LogState}
 use Rattle.checks.specs.declared.Registers.{Registers}
 
 abbrev pub zero : Registers
@@ -26,6 +27,6 @@ stepped r = record { epoch = r .epoch; buffered = r .buffered; cursor = r .curso
 abbrev pub restarted : Registers → Registers
 restarted r = record { epoch = r .epoch; buffered = r .buffered; cursor = 0 }
 
--- with so many entries buffered
-abbrev pub buffering : Registers → ℕ → Registers
-buffering r count = record { epoch = r .epoch; buffered = count; cursor = r .cursor }
+-- with what the steps of a call have left: the entries that are still buffered
+abbrev pub leaving : Registers → LogState → Registers
+leaving r u = record { epoch = r .epoch; buffered = u .buffered; cursor = r .cursor }

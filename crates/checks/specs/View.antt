@@ -6,9 +6,9 @@ use lib.Dec.{ltb, leb, eqb}
 use lib.ListN.{length}
 use Rattle.layout.specs.Limits.{boardVersion, lastEpoch, mostLines, mostEntries, mostSlots, bufferPlaces, mostAhead}
 use Rattle.layout.specs.Memory.{logAt, boardWords, workWords, slotsOf, controlIn, shapeIn, bufferIn}
-use Rattle.undo.specs.declared.Undo.{Undo}
+use Rattle.undo.specs.declared.LogState.{LogState}
 use Rattle.undo.specs.Log.{bufferProper}
-use Rattle.cache.specs.declared.Bounds.{Bounds}
+use Rattle.slots.specs.declared.Bounds.{Bounds}
 use Rattle.checks.specs.declared.Registers.{Registers}
 use Rattle.checks.specs.declared.View.{View}
 
@@ -57,7 +57,7 @@ properRegisters v r = properEpoch v r && properCounts v r
 abbrev pub boundsOf : View → Registers → Bounds
 boundsOf v r = record { lines = v .shape .lines; slots = v .slots; persisted = v .control .persisted; epoch = r .epoch }
 
-abbrev pub undoOf : View → Registers → Undo
+abbrev pub undoOf : View → Registers → LogState
 undoOf v r = record { control = v .control; entries = v .shape .entries; buffered = r .buffered }
 
 -- "7 buffer: a buffered entry is not proper"

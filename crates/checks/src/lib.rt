@@ -5,36 +5,39 @@ ghost use Prim.Native.Nat.{_≤_, _<_};
 ghost use lib.ListN.{length};
 ghost use mathlib.Core.Path.{_≡_};
 ghost use Rattle.layout.specs.Limits.{lastEpoch, mostSlots};
-ghost use Rattle.layout.specs.Memory.{logAt, slotsOf};
+ghost use Rattle.layout.specs.Memory.{logAt};
 ghost use Rattle.layout.specs.Words.{ControlFits};
-ghost use Rattle.checks.specs.Registers.{zero, given, woken, committed, stepped, restarted, buffering};
+ghost use Rattle.checks.specs.Registers.{zero, given, woken, committed, stepped, restarted, leaving};
 ghost use Rattle.checks.specs.View.{goodSizes, goodControl, goodShape, goodWork, properEpoch, properCounts, properRegisters};
 ghost use Rattle.checks.specs.View.{boundsOf, undoOf};
 ghost use Rattle.checks.specs.Contracts.{Viewed};
-use cache::Bounds;
 use layout::BOARD_VERSION;
 use layout::BUFFER_PLACES;
-use layout::BUFFER_WORDS;
 use layout::CONTROL_AT;
 use layout::Control;
 use layout::ENTRY_WORDS;
 use layout::LAST_EPOCH;
+use layout::LEAST_WORK;
 use layout::LOG_AT;
 use layout::MOST_AHEAD;
 use layout::MOST_ENTRIES;
 use layout::MOST_LINES;
-use layout::MOST_SLOTS;
+use layout::MOST_WORK;
 use layout::SHAPE_AT;
 use layout::SLOT_WORDS;
 use layout::Shape;
+pub use refusals::check_board;
+pub use refusals::check_buffer;
 pub use refusals::check_commit;
 pub use refusals::check_line;
 pub use refusals::check_memories;
 pub use refusals::check_registers;
 pub use refusals::check_room;
 pub use refusals::check_scan;
+use slots::Bounds;
 use status::Status;
-use undo::Undo;
+use undo::LogState;
+use undo::Progress;
 
 // s, b and c of the paper: the running epoch, the number of buffered entries and the scan's cursor.
 pub struct Registers {
@@ -65,6 +68,7 @@ impl Registers {
         }
     }
 
+    // Of a controller that has just powered up.
     pub fn woken(persisted: u64) -> Registers
         requires { ⌜ persisted < lastEpoch ⌝ }
         ensures { λ r. ⌜ r ≡ woken persisted ⌝ }
@@ -76,6 +80,7 @@ impl Registers {
         }
     }
 
+    // In the next epoch.
     pub fn committed(self) -> Registers
         requires { ⌜ self .epoch ≤ lastEpoch ⌝ }
         ensures { λ r. ⌜ r ≡ committed self ⌝ }
@@ -87,6 +92,7 @@ impl Registers {
         }
     }
 
+    // With the cursor at the next slot.
     pub fn stepped(self) -> Registers
         requires { ⌜ self .cursor ≤ mostSlots ⌝ }
         ensures { λ r. ⌜ r ≡ stepped self ⌝ }
@@ -98,6 +104,7 @@ impl Registers {
         }
     }
 
+    // With the cursor before the first slot.
     pub fn restarted(self) -> Registers
         ensures { λ r. ⌜ r ≡ restarted self ⌝ }
     {
@@ -108,16 +115,18 @@ impl Registers {
         }
     }
 
-    pub fn buffering(self, count: u64) -> Registers
-        ensures { λ r. ⌜ r ≡ buffering self count ⌝ }
+    // With what the steps of a call have left: the entries that are still buffered.
+    pub fn leaving(self, done: Progress) -> Registers
+        ensures { λ r. ⌜ r ≡ leaving self (done .undo) ⌝ }
     {
         Registers {
             epoch: self.epoch,
-            buffered: count,
+            buffered: done.undo.buffered,
             cursor: self.cursor,
         }
     }
 
+    // Ahead of the persisted epoch, and not too far.
     fn is_proper_epoch(self, view: View) -> bool
         ensures { λ r. ⌜ r ≡ properEpoch view self ⌝ }
     {
@@ -130,6 +139,7 @@ impl Registers {
         self.epoch - view.control.persisted <= MOST_AHEAD
     }
 
+    // b and c within their limits, the log has room for what is buffered, and no pass has begun where no epoch waits.
     fn is_proper_counts(self, view: View) -> bool
         requires { ⌜ ControlFits (view .control) ⌝ }
         ensures { λ r. ⌜ r ≡ properCounts view self ⌝ }
@@ -167,21 +177,6 @@ pub struct View {
     pub slots: usize,
 }
 
-// The words of a work memory with one slot, and with the most.
-const LEAST_WORK: usize = SLOT_WORDS + BUFFER_WORDS;
-
-const MOST_WORK: usize = SLOT_WORDS * MOST_SLOTS + BUFFER_WORDS;
-
-// The number of slots of a work memory of so many words.
-pub fn slots_of(words: usize) -> usize
-    ensures { λ r. ⌜ r ≡ slotsOf words ⌝ }
-{
-    if words < BUFFER_WORDS {
-        return 0;
-    }
-    (words - BUFFER_WORDS) / SLOT_WORDS
-}
-
 impl View {
     fn read(board: &[u64], work: &[u64]) -> View
         requires { ⌜ logAt ≤ length (now board) ⌝ }
@@ -192,10 +187,11 @@ impl View {
         View {
             control,
             shape,
-            slots: slots_of(work.len()),
+            slots: layout::slots_of(work.len()),
         }
     }
 
+    // Of 1: the control word.
     fn is_good_control(self) -> bool
         ensures { λ r. ⌜ r ≡ goodControl self ⌝ }
     {
@@ -208,6 +204,7 @@ impl View {
         self.control.length <= self.shape.entries
     }
 
+    // 1.
     fn is_good_shape(self, words: usize) -> bool
         requires { ⌜ logAt ≤ words ⌝ }
         ensures { λ r. ⌜ r ≡ goodShape words self ⌝ }
@@ -234,11 +231,11 @@ impl View {
     }
 
     // The undo log as the call carries it.
-    pub fn undo(self, registers: Registers) -> Undo
+    pub fn undo(self, registers: Registers) -> LogState
         ensures { λ r. ⌜ r ≡ undoOf self registers ⌝ }
     {
         let control = self.control;
-        Undo {
+        LogState {
             control,
             entries: self.shape.entries,
             buffered: registers.buffered,

@@ -2,25 +2,24 @@
 // rows of its own. Each stage requires what the stages before it told.
 ghost use Prim.Native.Nat.{_<_};
 ghost use lib.ListN.{length};
-ghost use mathlib.Core.List.{[], _∷_};
+ghost use mathlib.Core.List.{_++_};
 ghost use mathlib.Core.Path.{_≡_};
 ghost use Rattle.layout.specs.Words.{ControlFits};
-ghost use Rattle.checks.specs.Refusals.{tested, registerRows, bufferRow, lineRows, roomRows, commitRows, epochRows};
-ghost use Rattle.checks.specs.Refusals.{cursorRows, waitingRows, scanRows, memoriesChecked};
+ghost use Rattle.checks.specs.Refusals.{tested, registerRows, bufferRows, lineRows, roomRows, epochRows, cursorRows};
+ghost use Rattle.checks.specs.Refusals.{waitingRows, boardChecked, memoriesChecked};
 ghost use Rattle.checks.specs.Contracts.{RowsReady};
 use crate::Checked;
 use crate::Registers;
 use crate::View;
 use crate::is_good_work;
-use layout::BUFFER_WORDS;
 use layout::LAST_EPOCH;
 use layout::LOG_AT;
 use layout::MOST_AHEAD;
 use status::Status;
 
-// 1 and 2 of the paper's table.
-pub fn check_memories(board: &[u64], work: &[u64]) -> Checked
-    ensures { λ r. ⌜ r ≡ memoriesChecked (now (board .entry)) (now (work .entry)) ⌝ }
+// 1 of the paper's table.
+pub fn check_board(board: &[u64], work: &[u64]) -> Checked
+    ensures { λ r. ⌜ r ≡ boardChecked (now (board .entry)) (now (work .entry)) ⌝ }
 {
     if board.len() < LOG_AT {
         return Checked::Refused(Status::Shape);
@@ -29,10 +28,23 @@ pub fn check_memories(board: &[u64], work: &[u64]) -> Checked
     if !view.is_good_shape(board.len()) {
         return Checked::Refused(Status::Shape);
     }
-    if !is_good_work(work.len()) {
-        return Checked::Refused(Status::Work);
-    }
     Checked::Passed(view)
+}
+
+// 1 and 2.
+pub fn check_memories(board: &[u64], work: &[u64]) -> Checked
+    ensures { λ r. ⌜ r ≡ memoriesChecked (now (board .entry)) (now (work .entry)) ⌝ }
+{
+    let shaped = check_board(board, work);
+    match shaped {
+        Checked::Refused(status) => Checked::Refused(status),
+        Checked::Passed(view) => {
+            if !is_good_work(work.len()) {
+                return Checked::Refused(Status::Work);
+            }
+            Checked::Passed(view)
+        }
+    }
 }
 
 // 4.
@@ -47,11 +59,11 @@ pub fn check_registers(view: View, registers: Registers) -> Checked
 }
 
 // 7.
-fn check_buffer(view: View, work: &[u64], registers: Registers) -> Checked
+pub fn check_buffer(view: View, work: &[u64], registers: Registers) -> Checked
     requires { ⌜ RowsReady (now work) registers view ⌝ }
-    ensures { λ r. ⌜ r ≡ tested (bufferRow view (now (work .entry)) registers ∷ []) view ⌝ }
+    ensures { λ r. ⌜ r ≡ tested (bufferRows view (now (work .entry)) registers) view ⌝ }
 {
-    let at = work.len() - BUFFER_WORDS;
+    let at = layout::buffer_at(work.len());
     if !undo::is_buffer_proper(
         &work[at..],
         registers.buffered as usize,
@@ -71,7 +83,7 @@ pub fn check_line(view: View, work: &[u64], registers: Registers, address: u64) 
     if address >= view.shape.lines {
         return Checked::Refused(Status::Address);
     }
-    if !cache::is_proper_for(work, view.bounds(registers), address) {
+    if !slots::is_proper_for(work, view.bounds(registers), address) {
         return Checked::Refused(Status::Slot);
     }
     check_buffer(view, work, registers)
@@ -83,8 +95,8 @@ pub fn check_room(view: View, work: &[u64], registers: Registers, address: u64) 
     requires { ⌜ address < view .shape .lines ⌝ }
     ensures { λ r. ⌜ r ≡ tested (roomRows view (now (work .entry)) registers address) view ⌝ }
 {
-    let spot = cache::find(work, view.slots, address);
-    if !steps::is_undo_due(work, spot, registers.epoch) {
+    let spot = slots::find(work, view.slots, address);
+    if !slots::is_undo_due(work, spot, registers.epoch) {
         return Checked::Passed(view);
     }
     if view.control.length + registers.buffered + 1 > view.shape.entries {
@@ -96,7 +108,7 @@ pub fn check_room(view: View, work: &[u64], registers: Registers, address: u64) 
 // 7, 9 and 10 of commit.
 pub fn check_commit(view: View, work: &[u64], registers: Registers) -> Checked
     requires { ⌜ RowsReady (now work) registers view ⌝ }
-    ensures { λ r. ⌜ r ≡ tested (commitRows view (now (work .entry)) registers) view ⌝ }
+    ensures { λ r. ⌜ r ≡ tested (bufferRows view (now (work .entry)) registers ++ epochRows view registers) view ⌝ }
 {
     let buffer = check_buffer(view, work, registers);
     match buffer {
@@ -105,6 +117,7 @@ pub fn check_commit(view: View, work: &[u64], registers: Registers) -> Checked
     }
 }
 
+// 9 and 10 of commit.
 fn check_commit_epoch(view: View, registers: Registers) -> Checked
     requires { ⌜ view .control .persisted < registers .epoch ⌝ }
     ensures { λ r. ⌜ r ≡ tested (epochRows view registers) view ⌝ }
@@ -127,12 +140,13 @@ fn check_cursor(view: View, work: &[u64], registers: Registers) -> Checked
     if k >= view.slots {
         return Checked::Passed(view);
     }
-    if !cache::is_proper_at(work, view.bounds(registers), k) {
+    if !slots::is_proper_at(work, view.bounds(registers), k) {
         return Checked::Refused(Status::Slot);
     }
     Checked::Passed(view)
 }
 
+// 11 of scan.
 fn check_waiting(view: View, registers: Registers) -> Checked
     requires { ⌜ view .control .persisted < registers .epoch ⌝ }
     ensures { λ r. ⌜ r ≡ tested (waitingRows view registers) view ⌝ }
@@ -146,7 +160,7 @@ fn check_waiting(view: View, registers: Registers) -> Checked
 // 7 and 11 of scan.
 fn check_scan_end(view: View, work: &[u64], registers: Registers) -> Checked
     requires { ⌜ RowsReady (now work) registers view ⌝ }
-    ensures { λ r. ⌜ r ≡ tested (bufferRow view (now (work .entry)) registers ∷ waitingRows view registers) view ⌝ }
+    ensures { λ r. ⌜ r ≡ tested (bufferRows view (now (work .entry)) registers ++ waitingRows view registers) view ⌝ }
 {
     let buffer = check_buffer(view, work, registers);
     match buffer {
@@ -158,7 +172,7 @@ fn check_scan_end(view: View, work: &[u64], registers: Registers) -> Checked
 // 6, 7 and 11 of scan.
 pub fn check_scan(view: View, work: &[u64], registers: Registers) -> Checked
     requires { ⌜ RowsReady (now work) registers view ⌝ }
-    ensures { λ r. ⌜ r ≡ tested (scanRows view (now (work .entry)) registers) view ⌝ }
+    ensures { λ r. ⌜ r ≡ tested (cursorRows view (now (work .entry)) registers ++ bufferRows view (now (work .entry)) registers ++ waitingRows view registers) view ⌝ }
 {
     let cursor = check_cursor(view, work, registers);
     match cursor {

@@ -1,9 +1,13 @@
+-- Demand 3. To be believed: Statement. The theorem is `demand-3` in Theorem; Witness has a run that meets every premise.
 pub mod Statement
+pub mod Witness
 pub mod State
-pub mod Answer
+pub mod Fares
 pub mod Calls
 pub mod Steps
 pub mod Power
-pub mod Theorem
+pub mod Runs
 pub mod Progress
 pub mod Proper
+pub mod Format
+pub mod Theorem

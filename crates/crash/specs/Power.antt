@@ -1,13 +1,14 @@
 -- A power-up keeps the invariant of a run from any state, and never answers 1 or 3.
-use Prim.Native.Nat.{ℕ, _+_, _<_}
+use Prim.Native.Nat.{ℕ, _+_, _≤_, _<_}
 use mathlib.Core.Path.{_≡_, refl, sym, ap, _∙_}
-use mathlib.Core.Bool.{Bool, true, false, not, cond, _&&_}
+use mathlib.Core.Bool.{Bool, true, false, not, cond}
 use mathlib.Core.List.{List}
 use native.Mathlib.Omega.{arith}
-use borrow.Author.Tests.{leb-true, lt-ltb, le-ltb, le-leb, eq-eqb, ne-eqb}
+use borrow.Author.Tests.{leb-true, leb-false, lt-ltb, le-ltb, le-leb, eq-eqb, ne-eqb}
 use lib.Dec.{leb, eqb}
-use lib.ListN.{length, getD, take, replicate, length-replicate}
+use lib.ListN.{length, getD, take, replicate}
 use lib.Seq.{take-all}
+use Rattle.base.specs.Tests.{and-true}
 use Rattle.layout.specs.declared.Control.{Control}
 use Rattle.layout.specs.declared.Shape.{Shape}
 use Rattle.layout.specs.Limits.{lastEpoch, mostLines, mostEntries, mostAhead}
@@ -19,30 +20,28 @@ use Rattle.undo.specs.Log.{firstImproper, recoverStores}
 use Rattle.checks.specs.declared.Checked.{Checked}
 use Rattle.checks.specs.declared.Checked.the-variants.{Refused, Passed}
 use Rattle.checks.specs.Contracts.{Shaped}
-use Rattle.checks.specs.Laws.{memories-view, memories-shaped}
-use Rattle.checks.specs.Refusals.{memoriesChecked}
+use Rattle.checks.specs.Laws.{memories-shaped}
+use Rattle.checks.specs.Refusals.{boardChecked, memoriesChecked}
 use Rattle.checks.specs.Registers as registers
 use Rattle.checks.specs.View.{viewOf, goodSizes, goodControl, goodShape, goodWork, undoOf}
-use Rattle.picl.specs.Answers.{refused, due, success, cutOff, answerOf, boardAfter, workAfter}
-use Rattle.picl.specs.Calls.{wakeAt, wakeVerdict, woken, powerUpVerdict}
-use Rattle.history.specs.Machine.{Durable, Reference, wakes}
+use Rattle.board.specs.Verdict.{refused, due, boardAfter, workAfter}
+use Rattle.picl.specs.Answers.{success, cutOff, answerOf}
+use Rattle.picl.specs.Calls.{wakeAt, wakeVerdict, wakeJudged, powerUpVerdict}
+use Rattle.history.specs.Machine.{Durable}
+use Rattle.reference.specs.Machine.{Reference, wakes, does}
 use Rattle.history.specs.Restore.{power-up-lines}
+use Rattle.bounds.specs.Costs.{recover-most}
 use Rattle.durable.specs.Proper.{reads-passes}
 use Rattle.durable.specs.View.{Sized, undoWith}
 use Rattle.refine.specs.State.{Off, Ok}
 use Rattle.refine.specs.Wake.{waking-along, waking-reads, waking-ok}
-use Rattle.crash.specs.Statement as statement
-use Rattle.crash.specs.Statement.{Machine, answered, called}
-use Rattle.crash.specs.State.{Up, Holds, is-down, up-of, holds-off}
-use Rattle.crash.specs.Answer.{Kept, due-kept}
+use Rattle.crash.specs.Statement.{powerUp, Machine, Result, answered, made, fed}
+use Rattle.crash.specs.State.{Up, Holds, is-up, is-down, up-of, holds-off, holds-ended}
 
 -- ---- the tests
 
 differ : _≡_ {A = ℕ} 0 1 → ⊥
 differ e = omega arith
-
-pub and-true : (a b : Bool) → a ≡ true → b ≡ true → a && b ≡ true
-and-true a b p q = rw (p, q)
 
 not-last : (n : ℕ) → n < lastEpoch → not (eqb n lastEpoch) ≡ true
 not-last n h = rw (ne-eqb n lastEpoch (omega arith))
@@ -65,7 +64,7 @@ shape-good {N} {L} {board} s work =
 
 -- so the memories are refused as work or not at all
 pub memories-work : {N L : ℕ} {board : List ℕ} → Sized N L board → (work : List ℕ) (s : Status) → Refused s ≡ memoriesChecked board work → s ≡ status.Work
-unfolding memoriesChecked
+unfolding memoriesChecked boardChecked
 memories-work {board = board} sized work s e = go (goodWork (length work)) (rw (shape-good sized work) at e)
   where
     go : (t : Bool) → Refused s ≡ cond (not t) (Refused status.Work) (Passed (viewOf board work)) → s ≡ status.Work
@@ -112,32 +111,42 @@ module _ {N L : ℕ} {board : List ℕ} {g : Reference} (off : Off N L board g) 
         (up-of (waking-ok off (viewOf board lent .slots) (passed .slots-some) (passed .slots-most)) (registers.woken (off .control .persisted)) refl refl
         refl (omega arith))
 
-    pub wake-kept : (allowance : ℕ)
-        → Kept N L (statement.powerUp lent allowance) g (length lent) (answered allowance registers.zero board lent (wakeVerdict board lent (viewOf board lent)))
-    unfolding wakeAt
-    wake-kept allowance =
-        rw wake-due
-        (due-kept (statement.powerUp lent allowance) allowance registers.zero board lent (wakeAt board lent (undoWith (off .control) L)) g (wakes g)
-        (waking-along off) wake-up refl (length-replicate (length lent) 0))
+pub record PoweredUp (N L : ℕ) (g : Reference) (lent : List ℕ) (k : ℕ) (x : Result) : Type 0 where
+  pub holds : Holds N L (x .left) (does g (fed (powerUp lent k) x))
 
-pub power-up-kept : {N L : ℕ} {m : Machine} {g : Reference} → Holds N L m g → (lent : List ℕ) (allowance : ℕ)
-    → Kept N L (statement.powerUp lent allowance) g (length lent) (called m (statement.powerUp lent allowance))
-unfolding called powerUpVerdict boardAfter workAfter answerOf
-power-up-kept {N} {L} {m} {g} h lent allowance = go (memoriesChecked (m .board) lent) refl
-  where
-    off : Off N L (m .board) g
-    off = holds-off h
+module _ {N L : ℕ} {m : Machine} {g : Reference} (h : Holds N L m g) (lent : List ℕ) (allowance : ℕ) where
+  off : Off N L (m .board) g
+  off = holds-off h
 
-    refusal : (s : Status) → s ≡ status.Work
-        → Kept N L (statement.powerUp lent allowance) g (length lent) (answered allowance registers.zero (m .board) lent (refused s 0))
-    refusal s e = rw e (record { holds = is-down (record { off = off; registers = refl }); same-words = refl })
+  refused-kept : (s : Status) → s ≡ status.Work
+      → PoweredUp N L g lent allowance (answered allowance registers.zero (m .board) lent (refused s 0))
+  unfolding answerOf boardAfter workAfter
+  refused-kept s e = rw e (record { holds = is-down (record { off = off; registers = refl; ended = holds-ended h }) })
 
-    go : (x : Checked) → memoriesChecked (m .board) lent ≡ x
-        → Kept N L (statement.powerUp lent allowance) g (length lent) (answered allowance registers.zero (m .board) lent (woken (m .board) lent x))
-    go (Refused s) e = refusal s (memories-work (off .reads .sized) lent s (sym e))
-    go (Passed v) e =
-        let same = memories-view (m .board) lent v (sym e) in
-        rw same (wake-kept off lent (rw same at (memories-shaped (m .board) lent v (sym e))) allowance)
+  due-kept : Shaped (m .board) lent (viewOf (m .board) lent)
+      → PoweredUp N L g lent allowance (answered allowance registers.zero (m .board) lent (due (wakeAt (m .board) lent (undoWith (off .control) L))))
+  unfolding answerOf boardAfter workAfter wakeAt
+  due-kept passed = go (leb (length ss) allowance) refl
+    where
+      ss : List Store
+      ss = recoverStores (m .board) (undoWith (off .control) L)
+
+      go : (t : Bool) → leb (length ss) allowance ≡ t
+          → PoweredUp N L g lent allowance (answered allowance registers.zero (m .board) lent (due (wakeAt (m .board) lent (undoWith (off .control) L))))
+      go true e = record { holds = rw (e, take-all allowance ss (leb-true _ _ e)) (is-up (wake-up off lent passed)) }
+      go false e =
+          record { holds = rw e (is-down (record { off = waking-along off allowance (leb-false _ _ e); registers = refl; ended = holds-ended h })) }
+
+  pub power-up-kept : PoweredUp N L g lent allowance (made m (powerUp lent allowance))
+  unfolding made powerUpVerdict
+  power-up-kept = go (memoriesChecked (m .board) lent) refl
+    where
+      go : (x : Checked) → memoriesChecked (m .board) lent ≡ x
+          → PoweredUp N L g lent allowance (answered allowance registers.zero (m .board) lent (wakeJudged (m .board) lent x))
+      go (Refused s) e = refused-kept s (memories-work (off .reads .sized) lent s (sym e))
+      go (Passed v) e =
+          let shaped = memories-shaped (m .board) lent v (sym e) in
+          rw (shaped .is, wake-due off lent) (due-kept (rw (shaped .is) at shaped))
 
 -- ---- what an accepted power-up leaves
 
@@ -175,32 +184,42 @@ module _ {N L : ℕ} {m : Machine} {g : Reference} (h : Holds N L m g) (lent : L
   abbrev o : Off N L (m .board) g
   o = holds-off h
 
-  pub power-up-lines-of : called m (statement.powerUp lent allowance) .status ≡ status.Ok → (a : ℕ)
-      → getD (called m (statement.powerUp lent allowance) .left .board) (linesAt L + a) 0 ≡ g .copies (g .persisted) a
-  unfolding called powerUpVerdict answerOf boardAfter
+  pub power-up-lines-of : made m (powerUp lent allowance) .status ≡ status.Ok → (a : ℕ)
+      → getD (made m (powerUp lent allowance) .left .board) (linesAt L + a) 0 ≡ g .copies (g .persisted) a
+  unfolding made powerUpVerdict answerOf boardAfter
   power-up-lines-of = go (memoriesChecked (m .board) lent) refl
     where
       go : (x : Checked) → memoriesChecked (m .board) lent ≡ x
-          → answered allowance registers.zero (m .board) lent (woken (m .board) lent x) .status ≡ status.Ok → (a : ℕ)
-          → getD (answered allowance registers.zero (m .board) lent (woken (m .board) lent x) .left .board) (linesAt L + a) 0 ≡ g .copies (g .persisted) a
+          → answered allowance registers.zero (m .board) lent (wakeJudged (m .board) lent x) .status ≡ status.Ok → (a : ℕ)
+          → getD (answered allowance registers.zero (m .board) lent (wakeJudged (m .board) lent x) .left .board) (linesAt L + a) 0 ≡ g .copies (g .persisted) a
       go (Refused s) e =
           λ ok a.
           let w = memories-work (o .reads .sized) lent s (sym e) in
           let z : _≡_ {A = ℕ} 0 1 = cc in absurd (omega arith)
-      go (Passed v) e = rw (memories-view (m .board) lent v (sym e)) (wake-lines o lent allowance)
+      go (Passed v) e = rw (memories-shaped (m .board) lent v (sym e) .is) (wake-lines o lent allowance)
 
   not-refused : (s : Status) → (status.Work ≡ s → ⊥) → (status.Ok ≡ s → ⊥) → (status.Cut ≡ s → ⊥)
-      → called m (statement.powerUp lent allowance) .status ≡ s → ⊥
-  unfolding called powerUpVerdict answerOf
+      → made m (powerUp lent allowance) .status ≡ s → ⊥
+  unfolding made powerUpVerdict answerOf
   not-refused s work ok cut = go (memoriesChecked (m .board) lent) refl
     where
       go : (x : Checked) → memoriesChecked (m .board) lent ≡ x
-          → answered allowance registers.zero (m .board) lent (woken (m .board) lent x) .status ≡ s → ⊥
+          → answered allowance registers.zero (m .board) lent (wakeJudged (m .board) lent x) .status ≡ s → ⊥
       go (Refused t) e = λ p. work (sym (memories-work (o .reads .sized) lent t (sym e)) ∙ p)
-      go (Passed v) e = rw (memories-view (m .board) lent v (sym e)) (λ p. wake-status o lent allowance s p ok cut)
+      go (Passed v) e = rw (memories-shaped (m .board) lent v (sym e) .is) (λ p. wake-status o lent allowance s p ok cut)
 
-  pub power-up-shape : called m (statement.powerUp lent allowance) .status ≡ status.Shape → ⊥
+  pub power-up-shape : made m (powerUp lent allowance) .status ≡ status.Shape → ⊥
   power-up-shape = not-refused status.Shape (λ e. differ cc) (λ e. differ cc) (λ e. differ cc)
 
-  pub power-up-entry : called m (statement.powerUp lent allowance) .status ≡ status.Entry → ⊥
+  pub power-up-entry : made m (powerUp lent allowance) .status ≡ status.Entry → ⊥
   power-up-entry = not-refused status.Entry (λ e. differ cc) (λ e. differ cc) (λ e. differ cc)
+
+  -- a proper work memory and an allowance of length + 1 are enough
+  pub power-up-ok : goodWork (length lent) ≡ true → controlIn (m .board) .length + 1 ≤ allowance
+      → made m (powerUp lent allowance) .status ≡ status.Ok
+  unfolding made powerUpVerdict memoriesChecked boardChecked answerOf wakeAt
+  power-up-ok work enough =
+      let u = undoWith (o .control) L in
+      let most : length (recoverStores (m .board) u) ≤ allowance =
+      omega (arith, recover-most (m .board) u, ap (λ (c : Control). c .length) (o .reads .control)) in
+      rw (shape-good (o .reads .sized) lent, work, wake-due o lent, le-leb (length (recoverStores (m .board) u)) allowance most)

@@ -1,47 +1,48 @@
 -- A controller that is awake passes its tests: only what a call asks for can be refused.
-use Prim.Native.Nat.{ℕ, zero, suc, _+_, _-_, _≤_, _<_}
+use Prim.Native.Nat.{ℕ, zero, suc, _+_, _-_, _<_}
 use mathlib.Core.Path.{_≡_, refl, ap}
 use mathlib.Core.Bool.{Bool, true, false, not, cond, _&&_, _||_}
-use mathlib.Core.List.{List}
 use native.Mathlib.Omega.{arith}
 use borrow.Author.Tests.{lt-ltb, le-leb, eq-eqb, ne-eqb, ltb-true}
 use lib.Dec.{ltb, leb, eqb}
 use lib.ListN.{length}
-use Rattle.base.specs.Tests.{and-right}
-use Rattle.layout.specs.Limits.{lastEpoch, mostLines, mostEntries, mostSlots, bufferPlaces, mostAhead}
+use Rattle.base.specs.Tests.{and-right, and-true}
+use Rattle.layout.specs.Limits.{lastEpoch, mostSlots, bufferPlaces, mostAhead}
 use Rattle.layout.specs.Memory.{bufferIn, slotsOf, workWords, controlIn, shapeIn}
 use Rattle.status.specs.declared.Status.{Status}
 use Rattle.status.specs.declared.Status.the-variants as status
-use Rattle.cache.specs.Effects.{undoDue}
-use Rattle.cache.specs.Laws.{spot-below}
-use Rattle.cache.specs.Slots.{spotOf, properAt, properFor}
+use Rattle.slots.specs.Slots.{undoDue}
+use Rattle.slots.specs.Laws.{spot-below}
+use Rattle.slots.specs.Slots.{spotOf, properAt, properFor}
 use Rattle.checks.specs.declared.Checked.the-variants.{Refused, Passed}
 use Rattle.checks.specs.declared.Registers.{Registers}
 use Rattle.checks.specs.declared.View.{View}
-use Rattle.checks.specs.Refusals.{lineChecked, storeChecked, commitChecked, scanChecked}
+use Rattle.checks.specs.Refusals.{then, roomRows, boardChecked, memoriesChecked, runningChecked, lineChecked, storeChecked, commitChecked, scanChecked}
 use Rattle.checks.specs.View.{viewOf, boundsOf, goodShape, goodWork, properEpoch, properCounts, properRegisters, goodBuffer}
-use Rattle.history.specs.Machine.{Reference}
+use Rattle.reference.specs.Machine.{Reference}
 use Rattle.history.specs.Lines.{entries-proper}
 use Rattle.volatile.specs.Buffer.{entries-buffer-proper}
 use Rattle.picl.specs.Answers as picl
-use Rattle.picl.specs.Answers.{refused, due, success, cutOff, answerOf}
-use Rattle.picl.specs.Calls.{judged, loadOutcome, loadVerdict, storeOutcome, storeVerdict, evictOutcome, evictVerdict, commitOutcome, commitVerdict}
+use Rattle.board.specs.Verdict.{refused, due}
+use Rattle.picl.specs.Answers.{success, cutOff, answerOf}
+use Rattle.picl.specs.Calls as calls
+use Rattle.picl.specs.Calls.{Call, tallyVerdict, judged, loadOutcome, loadVerdict, storeOutcome, storeVerdict, evictOutcome, evictVerdict, commitOutcome, commitVerdict}
 use Rattle.picl.specs.Calls.{scanOutcome, scanVerdict}
-use Rattle.crash.specs.Statement.{Call, Machine, Both, called, run, start, Awake, Answered, ok, address, room, waiting, last, none, cut, Sound}
+use Rattle.crash.specs.Statement.{call, Machine, Both, made, Awake, Expected, ok, address, room, waiting, last, none, cut}
 use Rattle.crash.specs.State.{Up, Holds, is-up, is-down}
-use Rattle.crash.specs.Theorem.{run-holds, start-holds}
-use Rattle.crash.specs.Power.{and-true, shape-good}
+use Rattle.base.specs.Tests.{and-true}
+use Rattle.crash.specs.Power.{shape-good}
 
 -- a refusal answers its number, a call that goes through 0 or 12
-refusal-answered : (k : ℕ) (r : Registers) (s : Status) → Answered s → Answered (answerOf k r (refused s 0) .status)
+refusal-answered : (k : ℕ) (r : Registers) (s : Status) → Expected s → Expected (answerOf k r (refused s 0) .status)
 unfolding answerOf
 refusal-answered k r s x = x
 
-due-answered : (k : ℕ) (r : Registers) (o : picl.Outcome) → Answered (answerOf k r (due o) .status)
+due-answered : (k : ℕ) (r : Registers) (o : picl.Outcome) → Expected (answerOf k r (due o) .status)
 unfolding answerOf
 due-answered k r o = go (leb (length (o .stores)) k)
   where
-    go : (t : Bool) → Answered (cond t (success o) (cutOff k) .status)
+    go : (t : Bool) → Expected (cond t (success o) (cutOff k) .status)
     go true = ok
     go false = cut
 
@@ -100,8 +101,8 @@ module _ {N L : ℕ} {m : Machine} {g : Reference} (up : Up N L m g) where
   unfolding properCounts viewOf
   counts =
       and-true _ _
-      (and-true _ _ (and-true _ _ (lt-ltb (r .buffered) bufferPlaces (up .few)) (le-leb (r .cursor) (slotsOf (length (m .work))) (up .ok .cursor)))
-      (idle (r .cursor) (up .ok .busy)))
+      (and-true _ _ (and-true _ _ (lt-ltb (r .buffered) bufferPlaces (up .few)) (le-leb (r .cursor) (slotsOf (length (m .work))) (up .ok .pass .within)))
+      (idle (r .cursor) (up .ok .pass .waits)))
       (le-leb (controlIn (m .board) .length + r .buffered) (shapeIn (m .board) .entries) (omega (arith, up .ok .room, up .ok .ring)))
 
   proper : properRegisters v r ≡ true
@@ -125,34 +126,34 @@ module _ {N L : ℕ} {m : Machine} {g : Reference} (up : Up N L m g) where
 
   -- ---- the answers
 
-  line-answered : (a k : ℕ) (f : View → picl.Outcome) → Answered (answerOf k r (judged (lineChecked (m .board) (m .work) r a) f) .status)
-  unfolding lineChecked
+  line-answered : (a k : ℕ) (f : View → picl.Outcome) → Expected (answerOf k r (judged (lineChecked (m .board) (m .work) r a) f) .status)
+  unfolding lineChecked runningChecked memoriesChecked boardChecked
   line-answered a k f = rw (shaped, worked, proper, home a, buffered) (go (leb (v .shape .lines) a))
     where
-      go : (t : Bool) → Answered (answerOf k r (judged (cond t (Refused status.Address) (Passed v)) f) .status)
+      go : (t : Bool) → Expected (answerOf k r (judged (cond t (Refused status.Address) (Passed v)) f) .status)
       go true = refusal-answered k r status.Address address
       go false = due-answered k r (f v)
 
   abbrev crowded : ℕ → Bool
   crowded a = undoDue (m .work) (spotOf (m .work) (v .slots) a) (r .epoch) && ltb (v .shape .entries) (v .control .length + r .buffered + 1)
 
-  store-answered : (a k : ℕ) (f : View → picl.Outcome) → Answered (answerOf k r (judged (storeChecked (m .board) (m .work) r a) f) .status)
-  unfolding storeChecked
-  store-answered a k f = rw (shaped, worked, proper, home a, buffered) (go (leb (v .shape .lines) a) (crowded a))
+  store-answered : (a k : ℕ) (f : View → picl.Outcome) → Expected (answerOf k r (judged (storeChecked (m .board) (m .work) r a) f) .status)
+  unfolding storeChecked lineChecked runningChecked memoriesChecked boardChecked
+  store-answered a k f = rw (shaped, worked, proper, home a, buffered) (go (leb (v .shape .lines) a) (crowded a) refl)
     where
-      go : (t c : Bool)
-          → Answered (answerOf k r (judged (cond t (Refused status.Address) (cond c (Refused status.Room) (Passed v))) f) .status)
-      go true c = refusal-answered k r status.Address address
-      go false true = refusal-answered k r status.Room room
-      go false false = due-answered k r (f v)
+      go : (t c : Bool) → crowded a ≡ c
+          → Expected (answerOf k r (judged (then (cond t (Refused status.Address) (Passed v)) (λ w. roomRows w (m .work) r a)) f) .status)
+      go true c e = refusal-answered k r status.Address address
+      go false true e = rw e (refusal-answered k r status.Room room)
+      go false false e = rw e (due-answered k r (f v))
 
-  commit-answered : (k : ℕ) (f : View → picl.Outcome) → Answered (answerOf k r (judged (commitChecked (m .board) (m .work) r) f) .status)
-  unfolding commitChecked
+  commit-answered : (k : ℕ) (f : View → picl.Outcome) → Expected (answerOf k r (judged (commitChecked (m .board) (m .work) r) f) .status)
+  unfolding commitChecked runningChecked memoriesChecked boardChecked
   commit-answered k f =
       rw (shaped, worked, proper, buffered) (go (eqb (r .epoch - v .control .persisted) mostAhead) (eqb (r .epoch) lastEpoch))
     where
       go : (t c : Bool)
-          → Answered (answerOf k r (judged (cond t (Refused status.Waiting) (cond c (Refused status.Last) (Passed v))) f) .status)
+          → Expected (answerOf k r (judged (cond t (Refused status.Waiting) (cond c (Refused status.Last) (Passed v))) f) .status)
       go true c = refusal-answered k r status.Waiting waiting
       go false true = refusal-answered k r status.Last last
       go false false = due-answered k r (f v)
@@ -164,22 +165,22 @@ module _ {N L : ℕ} {m : Machine} {g : Reference} (up : Up N L m g) where
       go true e = rw (slots (r .cursor) (ltb-true _ _ e))
       go false e = refl
 
-  scan-answered : (k : ℕ) (f : View → picl.Outcome) → Answered (answerOf k r (judged (scanChecked (m .board) (m .work) r) f) .status)
-  unfolding scanChecked
+  scan-answered : (k : ℕ) (f : View → picl.Outcome) → Expected (answerOf k r (judged (scanChecked (m .board) (m .work) r) f) .status)
+  unfolding scanChecked runningChecked memoriesChecked boardChecked
   scan-answered k f = rw (shaped, worked, proper, cursor-proper, buffered) (go (eqb (r .epoch) (v .control .persisted + 1)))
     where
-      go : (t : Bool) → Answered (answerOf k r (judged (cond t (Refused status.None) (Passed v)) f) .status)
+      go : (t : Bool) → Expected (answerOf k r (judged (cond t (Refused status.None) (Passed v)) f) .status)
       go true = refusal-answered k r status.None none
       go false = due-answered k r (f v)
 
   -- "8 room" says that the log is full
   store-full : (a k : ℕ) (f : View → picl.Outcome) → answerOf k r (judged (storeChecked (m .board) (m .work) r a) f) .status ≡ status.Room
       → v .control .length + r .buffered ≡ L
-  unfolding storeChecked
+  unfolding storeChecked lineChecked runningChecked memoriesChecked boardChecked
   store-full a k f = rw (shaped, worked, proper, home a, buffered) (go (leb (v .shape .lines) a) (crowded a) refl)
     where
       go : (t c : Bool) → crowded a ≡ c
-          → answerOf k r (judged (cond t (Refused status.Address) (cond c (Refused status.Room) (Passed v))) f) .status ≡ status.Room
+          → answerOf k r (judged (then (cond t (Refused status.Address) (Passed v)) (λ w. roomRows w (m .work) r a)) f) .status ≡ status.Room
           → v .control .length + r .buffered ≡ L
       go t true e =
           let due = undoDue (m .work) (spotOf (m .work) (v .slots) a) (r .epoch) in
@@ -188,25 +189,27 @@ module _ {N L : ℕ} {m : Machine} {g : Reference} (up : Up N L m g) where
           (and-right due (ltb (v .shape .entries) (v .control .length + r .buffered + 1)) e) in
           λ same. omega (arith, up .ok .room, up .ok .ring)
       go true false e = λ same. absurd (refusal-not-room k r same)
-      go false false e = λ same. absurd (due-not-room k r (f v) same)
+      go false false e = rw e (λ same. absurd (due-not-room k r (f v) same))
 
-  pub sound : Sound L (record { machine = m; reference = g })
-  unfolding called loadVerdict storeVerdict evictVerdict commitVerdict scanVerdict viewOf
-  sound =
-      record {
-        loads = λ a k. line-answered a k (loadOutcome (m .board) (m .work) r a);
-        stores = λ a w k. store-answered a k (storeOutcome (m .board) (m .work) r a w);
-        evicts = λ a k. line-answered a k (evictOutcome (m .work) r a);
-        commits = λ k. commit-answered k (λ w. commitOutcome (m .work) r);
-        scans = λ k. scan-answered k (scanOutcome (m .board) (m .work) r);
-        full = λ a w k. store-full a k (storeOutcome (m .board) (m .work) r a w);
-      }
+  tally-expected : (k : ℕ) → Expected (answerOf k r (tallyVerdict (m .work) r) .status)
+  unfolding tallyVerdict
+  tally-expected k = rw worked (due-answered k r _)
 
--- with the current on or off
-pub awake-sound : {N L : ℕ} (s : Both) → Holds N L (s .machine) (s .reference) → Awake s → Sound L s
-awake-sound s (is-up u) awake = sound u
-awake-sound s (is-down d) awake = absurd (awake (ap (λ (x : Registers). x .epoch) (d .registers)))
+  pub call-expected : (c : Call) (k : ℕ) → Expected (made m (call c k) .status)
+  unfolding made loadVerdict storeVerdict evictVerdict commitVerdict scanVerdict
+  call-expected (calls.load a) k = line-answered a k (loadOutcome (m .board) (m .work) r a)
+  call-expected (calls.store a w) k = store-answered a k (storeOutcome (m .board) (m .work) r a w)
+  call-expected (calls.evict a) k = line-answered a k (evictOutcome (m .work) r a)
+  call-expected calls.commit k = commit-answered k (λ w. commitOutcome (m .work) r)
+  call-expected calls.scan k = scan-answered k (scanOutcome (m .board) (m .work) r)
+  call-expected calls.tally k = tally-expected k
 
-pub demand-3-sound : (N L : ℕ) → 0 < N → N ≤ mostLines → 0 < L → L ≤ mostEntries → (cs : List Call) → Awake (run (start N L) cs)
-    → Sound L (run (start N L) cs)
-demand-3-sound N L a b c d cs = awake-sound (run (start N L) cs) (run-holds (start N L) (start-holds N L a b c d) cs)
+  pub room-full : (a w k : ℕ) → made m (call (calls.store a w) k) .status ≡ status.Room
+      → controlIn (m .board) .length + m .registers .buffered ≡ L
+  unfolding made storeVerdict viewOf
+  room-full a w k = store-full a k (storeOutcome (m .board) (m .work) r a w)
+
+-- not with the current off
+pub awake-up : {N L : ℕ} (s : Both) → Holds N L (s .machine) (s .reference) → Awake s → Up N L (s .machine) (s .reference)
+awake-up s (is-up u) awake = u
+awake-up s (is-down d) awake = absurd (awake (ap (λ (x : Registers). x .epoch) (d .registers)))

@@ -9,12 +9,12 @@ use Rattle.layout.specs.declared.Shape.{Shape}
 use Rattle.layout.specs.declared.Control.{Control}
 use Rattle.layout.specs.Limits.{bufferPlaces}
 use Rattle.layout.specs.Memory.{slotsOf, workWords, shapeIn, controlIn}
-use Rattle.undo.specs.declared.Undo.{Undo}
-use Rattle.cache.specs.declared.Bounds.{Bounds}
+use Rattle.undo.specs.declared.LogState.{LogState}
+use Rattle.slots.specs.declared.Bounds.{Bounds}
 use Rattle.checks.specs.declared.Registers.{Registers}
 use Rattle.checks.specs.Registers.{zero}
 use Rattle.checks.specs.View.{viewOf, boundsOf, undoOf}
-use Rattle.history.specs.Machine.{Reference}
+use Rattle.reference.specs.Machine.{Reference}
 use Rattle.durable.specs.Reads.{reads-persisted}
 use Rattle.refine.specs.State.{Off, Ok}
 use Rattle.refine.specs.Flush.{ok-off}
@@ -30,6 +30,7 @@ pub record Up (N L : ℕ) (m : Machine) (g : Reference) : Type 0 where
 pub record Down (N L : ℕ) (m : Machine) (g : Reference) : Type 0 where
   pub off : Off N L (m .board) g
   pub registers : m .registers ≡ zero
+  pub ended : g .persisted < g .running
 
 pub data Holds (N L : ℕ) (m : Machine) (g : Reference) : Type 0 where
   is-up : Up N L m g → Holds N L m g
@@ -39,7 +40,7 @@ slots-same : (slots words : ℕ) → words ≡ workWords slots → slots ≡ slo
 slots-same slots words e = omega arith
 
 -- a controller at work, by the words that it has
-pub up-of : {L : ℕ} {b : Bounds} {c : ℕ} {board work : List ℕ} {u : Undo} {g : Reference} → Ok L b c board work u g → (r : Registers)
+pub up-of : {L : ℕ} {b : Bounds} {c : ℕ} {board work : List ℕ} {u : LogState} {g : Reference} → Ok L b c board work u g → (r : Registers)
     → r .epoch ≡ b .epoch → r .buffered ≡ u .buffered → r .cursor ≡ c → u .buffered < bufferPlaces
     → Up (b .lines) L (record { board = board; work = work; registers = r }) g
 unfolding viewOf
@@ -57,7 +58,7 @@ up-of {L} {b} {c} {board} {work} {u} {g} o r e n k few =
     record {
       lines = sym lines;
       ok =
-          subst (λ (x : Undo). Ok L (boundsOf (viewOf board work) r) (r .cursor) board work x g) numbers
+          subst (λ (x : LogState). Ok L (boundsOf (viewOf board work) r) (r .cursor) board work x g) numbers
           (subst (λ (x : ℕ). Ok L (boundsOf (viewOf board work) r) x board work u g) (sym k)
           (subst (λ (x : Bounds). Ok L x c board work u g) bounds o));
       few = omega (arith, n);
@@ -67,3 +68,10 @@ pub holds-off : {N L : ℕ} {m : Machine} {g : Reference} → Holds N L m g → 
 unfolding viewOf
 holds-off {N} {L} {m} {g} (is-up x) = subst (λ (n : ℕ). Off n L (m .board) g) (x .lines) (ok-off (x .ok))
 holds-off (is-down x) = x .off
+
+-- epoch p has ended
+pub holds-ended : {N L : ℕ} {m : Machine} {g : Reference} → Holds N L m g → g .persisted < g .running
+holds-ended (is-up x) =
+    let past = x .ok .live .history in
+    omega (arith, past .clock, past .ahead, x .ok .safe .named)
+holds-ended (is-down x) = x .ended

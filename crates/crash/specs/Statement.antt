@@ -1,33 +1,32 @@
--- Demand 3 of the customer, as definitions: lists of calls on a board just formatted, cut anywhere; the uncached machine that is fed
--- the same list; and what has to hold after every list. A step is made of the definitions that the public contracts cite.
+-- Demand 3 of the customer, as definitions: lists of calls on a board that rests, cut anywhere; the uncached machine that is fed the same
+-- list; and what has to hold after every list. A step is made of the definitions that the public contracts cite.
 use Prim.Native.Nat.{ℕ, _+_, _≤_, _<_}
 use mathlib.Core.Path.{_≡_}
-use mathlib.Core.Bool.{cond}
+use mathlib.Core.Bool.{true, cond}
 use mathlib.Core.List.{List, [], _∷_}
 use lib.Dec.{eqb}
 use lib.ListN.{length, getD}
-use Rattle.layout.specs.Memory.{linesAt, slotsOf, controlIn}
+use Rattle.board.specs.Verdict.{boardAfter, workAfter}
+use Rattle.layout.specs.Limits.{lastEpoch, mostLines, mostEntries}
+use Rattle.layout.specs.Memory.{linesAt, boardWords, shapeFor, slotsOf, controlIn, shapeIn}
 use Rattle.status.specs.declared.Status.{Status}
 use Rattle.status.specs.declared.Status.the-variants as status
 use Rattle.status.specs.Numbers.{numberOf}
 use Rattle.checks.specs.declared.Registers.{Registers}
 use Rattle.checks.specs.Registers.{zero}
-use Rattle.picl.specs.Answers.{Verdict, answerOf, boardAfter, workAfter}
-use Rattle.picl.specs.Calls.{loadVerdict, storeVerdict, evictVerdict, commitVerdict, scanVerdict, powerUpVerdict, tallyReport, formatted}
-use Rattle.history.specs.Machine.{Reference, stores, commits, persists, wakes}
+use Rattle.checks.specs.View.{goodWork}
+use Rattle.picl.specs.Answers.{Verdict, answerOf}
+use Rattle.picl.specs.Calls as calls
+use Rattle.picl.specs.Calls.{Call, verdictOf, powerUpVerdict}
+use Rattle.reference.specs.Machine.{Reference, resting, Event, stored, committed, scanned, poweredUp, nothing, does}
 
 -- ---- the calls of a list
 
 -- "every list of loads, stores, evictions, commits, scan calls, tallies and power-ups". The allowance is the cut point, and may be any
 -- number; "A power-up may be lent any work memory."
-pub data Call : Type 0 where
-  load : (address allowance : ℕ) → Call
-  store : (address value allowance : ℕ) → Call
-  evict : (address allowance : ℕ) → Call
-  commit : (allowance : ℕ) → Call
-  scan : (allowance : ℕ) → Call
-  tally : Call
-  powerUp : (lent : List ℕ) (allowance : ℕ) → Call
+pub data Step : Type 0 where
+  call : Call → (allowance : ℕ) → Step
+  powerUp : (lent : List ℕ) (allowance : ℕ) → Step
 
 -- "each call gets registers and memories as last returned and left"
 pub record Machine : Type 0 where
@@ -36,55 +35,43 @@ pub record Machine : Type 0 where
   pub registers : Registers
 
 -- what a call under an allowance answers, and the machine that it leaves
-pub record Outcome : Type 0 where
+pub record Result : Type 0 where
   pub status : Status
   pub value : ℕ
   pub left : Machine
 
-abbrev pub answered : (allowance : ℕ) → (given : Registers) → (board work : List ℕ) → Verdict → Outcome
+abbrev pub answered : (allowance : ℕ) → (given : Registers) → (board work : List ℕ) → Verdict → Result
 answered allowance given board work v =
+    let a = answerOf allowance given v in
     record {
-      status = answerOf allowance given v .status;
-      value = answerOf allowance given v .value;
-      left =
-          record {
-            board = boardAfter allowance board v;
-            work = workAfter allowance work v;
-            registers = answerOf allowance given v .registers;
-          };
+      status = a .status;
+      value = a .value;
+      left = record { board = boardAfter allowance board v; work = workAfter allowance work v; registers = a .registers };
     }
 
--- "(power-up only the board)"; tally reads the work memory and leaves all as it is
-unfoldable pub called : Machine → Call → Outcome
-called m (load a k) = answered k (m .registers) (m .board) (m .work) (loadVerdict (m .board) (m .work) (m .registers) a)
-called m (store a v k) = answered k (m .registers) (m .board) (m .work) (storeVerdict (m .board) (m .work) (m .registers) a v)
-called m (evict a k) = answered k (m .registers) (m .board) (m .work) (evictVerdict (m .board) (m .work) (m .registers) a)
-called m (commit k) = answered k (m .registers) (m .board) (m .work) (commitVerdict (m .board) (m .work) (m .registers))
-called m (scan k) = answered k (m .registers) (m .board) (m .work) (scanVerdict (m .board) (m .work) (m .registers))
-called m tally = record { status = tallyReport (m .work) .status; value = tallyReport (m .work) .value; left = m }
-called m (powerUp lent k) = answered k zero (m .board) lent (powerUpVerdict (m .board) lent)
+-- "(power-up only the board)"
+unfoldable pub made : Machine → Step → Result
+made m (call c k) = answered k (m .registers) (m .board) (m .work) (verdictOf (m .board) (m .work) (m .registers) c)
+made m (powerUp lent k) = answered k zero (m .board) lent (powerUpVerdict (m .board) lent)
 
--- ---- the uncached machine
+-- ---- the uncached machine, given the same list
 
--- "Accepted calls (number 0)": "Store: line a becomes the value. Commit: the lines become copy e; e rises by one. Scan with a value not
--- 0: p is that value. Power-up: the lines become copy p; later copies are forgotten; e = p + 1."
-abbrev pub accepted : Call → (value : ℕ) → Reference → Reference
-accepted (load a k) value g = g
-accepted (store a v k) value g = stores g a v
-accepted (evict a k) value g = g
-accepted (commit k) value g = commits g
-accepted (scan k) value g = cond (eqb value 0) g (persists g value)
-accepted tally value g = g
-accepted (powerUp lent k) value g = wakes g
+-- "Accepted calls (number 0)": "Store: .. Commit: .. Scan with a value not 0: .. Power-up: .."
+abbrev pub seenCall : Call → (value : ℕ) → Event
+seenCall (calls.load a) value = nothing
+seenCall (calls.store a v) value = stored a v
+seenCall (calls.evict a) value = nothing
+seenCall calls.commit value = committed
+seenCall calls.scan value = scanned value
+seenCall calls.tally value = nothing
 
--- "It is fed each call with its arguments, its number and a scan's value, and sees nothing else." "All else, refused and cut calls
--- too, changes nothing."
-abbrev pub fed : Call → (number value : ℕ) → Reference → Reference
-fed c number value g = cond (eqb number 0) (accepted c value g) g
+abbrev pub seen : Step → (value : ℕ) → Event
+seen (call c k) value = seenCall c value
+seen (powerUp lent k) value = poweredUp
 
--- "A fresh one, as format leaves the board: lines zero, e = 1, p = 0, copy 0 the lines."
-abbrev pub fresh : Reference
-fresh = record { running = 1; persisted = 0; lines = λ a. 0; copies = λ e a. 0 }
+-- "All else, refused and cut calls too, changes nothing."
+abbrev pub fed : Step → Result → Event
+fed x r = cond (eqb (numberOf (r .status)) 0) (seen x (r .value)) nothing
 
 -- ---- runs
 
@@ -93,25 +80,16 @@ pub record Both : Type 0 where
   pub machine : Machine
   pub reference : Reference
 
-abbrev pub after : Both → Call → Both
-after s c =
-    let o = called (s .machine) c in
-    record { machine = o .left; reference = fed c (numberOf (o .status)) (o .value) (s .reference) }
+abbrev pub after : Both → Step → Both
+after s x =
+    let r = made (s .machine) x in
+    record { machine = r .left; reference = does (s .reference) (fed x r) }
 
-unfoldable pub run : Both → List Call → Both
+unfoldable pub run : Both → List Step → Both
 run s [] = s
-run s (c ∷ cs) = run (after s c) cs
+run s (x ∷ xs) = run (after s x) xs
 
--- "that starts with a power-up on a board just formatted", of N lines and L log entries. A power-up reads the board alone, so what the
--- work memory and the registers were before it does not matter (`start-any`): here there is none, and all zero.
-abbrev pub start : (N L : ℕ) → Both
-start N L =
-    record {
-      machine = record { board = formatted N L; work = []; registers = zero };
-      reference = fresh;
-    }
-
--- ---- what holds after every list
+-- ---- where a run starts
 
 abbrev pub persistedOn : List ℕ → ℕ
 persistedOn board = controlIn board .persisted
@@ -119,20 +97,58 @@ persistedOn board = controlIn board .persisted
 abbrev pub lineOn : (L : ℕ) → List ℕ → ℕ → ℕ
 lineOn L board a = getD board (linesAt L + a) 0
 
-pub record Consistent (N L : ℕ) (s : Both) : Type 0 where
-  -- "After each call the control word's P is p"
-  pub same-epoch : persistedOn (s .machine .board) ≡ s .reference .persisted
-  -- "each accepted power-up leaves, line for line, the copy that document 01's uncached loom, given the same list, has of the epoch that
-  -- the control word named as persisted when the current went"
-  pub wakes-to-copy : (lent : List ℕ) (allowance : ℕ) → called (s .machine) (powerUp lent allowance) .status ≡ status.Ok → (a : ℕ) → a < N
-      → lineOn L (called (s .machine) (powerUp lent allowance) .left .board) a ≡ s .reference .copies (persistedOn (s .machine .board)) a
-  -- "On a board that demand 3 reaches, power-up never answers 1 or 3."
-  pub wakes : (lent : List ℕ) (allowance : ℕ)
-      → (called (s .machine) (powerUp lent allowance) .status ≡ status.Shape → ⊥)
-      × (called (s .machine) (powerUp lent allowance) .status ≡ status.Entry → ⊥)
-  -- "a held line gives its data. Otherwise .. from memory": the uncached machine's line
-  pub loads : (a allowance : ℕ) → called (s .machine) (load a allowance) .status ≡ status.Ok
-      → called (s .machine) (load a allowance) .value ≡ s .reference .lines a
+-- A board of N lines and L log entries that rests: proper, with an empty log, at any epoch and with any lines. "A board just formatted" is
+-- one (`format-rests`).
+pub record Rests (N L : ℕ) (board : List ℕ) : Type 0 where
+  pub some-lines : 0 < N
+  pub most-lines : N ≤ mostLines
+  pub some-entries : 0 < L
+  pub most-entries : L ≤ mostEntries
+  pub words : length board ≡ boardWords N L
+  pub shape : shapeIn board ≡ shapeFor N L
+  pub persisted : persistedOn board < lastEpoch
+  pub begin : controlIn board .start < L
+  pub empty : controlIn board .length ≡ 0
+
+-- "that starts with a power-up": it reads the board alone, so what the work memory and the registers were before it does not matter
+-- (`start-any`): here there is none, and all zero. The uncached machine rests at the board's epoch, with the board's lines.
+abbrev pub start : (L : ℕ) → (board : List ℕ) → Both
+start L board =
+    record {
+      machine = record { board = board; work = []; registers = zero };
+      reference = resting (persistedOn board) (lineOn L board);
+    }
+
+-- ---- the scan comes to its end
+
+-- "with no cut or power-up between them"
+abbrev pub Unbroken : Both → Step → Type 0
+Unbroken s (call c k) = made (s .machine) (call c k) .status ≡ status.Cut → ⊥
+Unbroken s (powerUp lent k) = ⊥
+
+abbrev pub Stretch : Both → List Step → Type 0
+Stretch s [] = Unit {0}
+Stretch s (x ∷ xs) = Unbroken s x × Stretch (after s x) xs
+
+-- "accepted scan calls": those that the uncached machine is fed as such
+abbrev pub countScan : Event → ℕ
+countScan (stored a v) = 0
+countScan committed = 0
+countScan (scanned value) = 1
+countScan poweredUp = 0
+countScan nothing = 0
+
+unfoldable pub scans : Both → List Step → ℕ
+scans s [] = 0
+scans s (x ∷ xs) = countScan (fed x (made (s .machine) x)) + scans (after s x) xs
+
+-- "For a cache of S slots, after any S + 1 accepted scan calls of the list with no cut or power-up between them, whatever other calls come
+-- there, the oldest epoch that waited just before the first is persisted": the oldest that waits is p + 1
+abbrev pub Persists : Both → Type 0
+Persists s =
+    (xs : List Step) → Stretch s xs → slotsOf (length (s .machine .work)) + 1 ≤ scans s xs
+    → (s .reference .persisted + 1 ≤ run s xs .reference .persisted)
+    × (persistedOn (s .machine .board) + 1 ≤ persistedOn (run s xs .machine .board))
 
 -- ---- beyond the demand
 
@@ -141,58 +157,48 @@ abbrev pub Awake : Both → Type 0
 Awake s = s .machine .registers .epoch ≡ 0 → ⊥
 
 -- the answers of a controller that is awake: shape, work, registers, slots and buffer are never at fault
-pub data Answered : Status → Type 0 where
-  ok : Answered status.Ok
-  address : Answered status.Address
-  room : Answered status.Room
-  waiting : Answered status.Waiting
-  last : Answered status.Last
-  none : Answered status.None
-  cut : Answered status.Cut
+pub data Expected : Status → Type 0 where
+  ok : Expected status.Ok
+  address : Expected status.Address
+  room : Expected status.Room
+  waiting : Expected status.Waiting
+  last : Expected status.Last
+  none : Expected status.None
+  cut : Expected status.Cut
 
-pub record Sound (L : ℕ) (s : Both) : Type 0 where
-  pub loads : (a k : ℕ) → Answered (called (s .machine) (load a k) .status)
-  pub stores : (a v k : ℕ) → Answered (called (s .machine) (store a v k) .status)
-  pub evicts : (a k : ℕ) → Answered (called (s .machine) (evict a k) .status)
-  pub commits : (k : ℕ) → Answered (called (s .machine) (commit k) .status)
-  pub scans : (k : ℕ) → Answered (called (s .machine) (scan k) .status)
-  -- "8 room" only where the log and what is buffered for it fill all L entries
-  pub full : (a v k : ℕ) → called (s .machine) (store a v k) .status ≡ status.Room
+-- ---- what holds after every list
+
+pub record Consistent (N L : ℕ) (s : Both) : Type 0 where
+  -- "After each call the control word's P is p"
+  pub same-epoch : persistedOn (s .machine .board) ≡ s .reference .persisted
+  -- epoch p has ended: so the uncached machine has the copy that is compared
+  pub has-copy : s .reference .persisted < s .reference .running
+  -- "running epoch e" is s
+  pub same-running : Awake s → s .reference .running ≡ s .machine .registers .epoch
+  -- "each accepted power-up leaves, line for line, the copy that document 01's uncached loom, given the same list, has of the epoch that
+  -- the control word named as persisted when the current went"
+  pub wakes-to-copy : (lent : List ℕ) (k : ℕ) → made (s .machine) (powerUp lent k) .status ≡ status.Ok → (a : ℕ) → a < N
+      → lineOn L (made (s .machine) (powerUp lent k) .left .board) a ≡ s .reference .copies (persistedOn (s .machine .board)) a
+  -- "after each accepted power-up the board's lines are the loom's"
+  pub wakes-to-lines : (lent : List ℕ) (k : ℕ) → made (s .machine) (powerUp lent k) .status ≡ status.Ok → (a : ℕ) → a < N
+      → lineOn L (after s (powerUp lent k) .machine .board) a ≡ after s (powerUp lent k) .reference .lines a
+  -- "On a board that demand 3 reaches, power-up never answers 1 or 3."
+  pub wakes : (lent : List ℕ) (k : ℕ)
+      → (made (s .machine) (powerUp lent k) .status ≡ status.Shape → ⊥) × (made (s .machine) (powerUp lent k) .status ≡ status.Entry → ⊥)
+  -- nor 2, with a proper work memory, nor 12, with an allowance of length + 1
+  pub wakes-up : (lent : List ℕ) (k : ℕ) → goodWork (length lent) ≡ true → controlIn (s .machine .board) .length + 1 ≤ k
+      → made (s .machine) (powerUp lent k) .status ≡ status.Ok
+  -- "a held line gives its data. Otherwise .. from memory": the uncached machine's line
+  pub loads : (a k : ℕ) → made (s .machine) (call (calls.load a) k) .status ≡ status.Ok
+      → made (s .machine) (call (calls.load a) k) .value ≡ s .reference .lines a
+  -- the last sentence of the demand
+  pub persists : Persists s
+  -- beyond it: an awake controller is refused only what it asks for ..
+  pub answers : Awake s → (c : Call) (k : ℕ) → Expected (made (s .machine) (call c k) .status)
+  -- .. and "8 room" only where the log and what is buffered for it fill all L entries
+  pub full : Awake s → (a v k : ℕ) → made (s .machine) (call (calls.store a v) k) .status ≡ status.Room
       → controlIn (s .machine .board) .length + s .machine .registers .buffered ≡ L
 
--- ---- the scan comes to its end
-
--- "with no cut or power-up between them"
-abbrev pub Unbroken : Both → Call → Type 0
-Unbroken s (powerUp lent k) = ⊥
-Unbroken s (load a k) = called (s .machine) (load a k) .status ≡ status.Cut → ⊥
-Unbroken s (store a v k) = called (s .machine) (store a v k) .status ≡ status.Cut → ⊥
-Unbroken s (evict a k) = called (s .machine) (evict a k) .status ≡ status.Cut → ⊥
-Unbroken s (commit k) = called (s .machine) (commit k) .status ≡ status.Cut → ⊥
-Unbroken s (scan k) = called (s .machine) (scan k) .status ≡ status.Cut → ⊥
-Unbroken s tally = Unit {0}
-
-abbrev pub Stretch : Both → List Call → Type 0
-Stretch s [] = Unit {0}
-Stretch s (c ∷ cs) = Unbroken s c × Stretch (after s c) cs
-
--- "accepted scan calls"
-abbrev pub scanned : Both → Call → ℕ
-scanned s (scan k) = cond (eqb (numberOf (called (s .machine) (scan k) .status)) 0) 1 0
-scanned s (load a k) = 0
-scanned s (store a v k) = 0
-scanned s (evict a k) = 0
-scanned s (commit k) = 0
-scanned s tally = 0
-scanned s (powerUp lent k) = 0
-
-unfoldable pub scans : Both → List Call → ℕ
-scans s [] = 0
-scans s (c ∷ cs) = scanned s c + scans (after s c) cs
-
--- "For a cache of S slots, after any S + 1 accepted scan calls of the list with no cut or power-up between them, whatever other calls come
--- there, the oldest epoch that waited just before the first is persisted": the oldest that waits is p + 1
-abbrev pub Persists : Both → Type 0
-Persists s =
-    (cs : List Call) → Stretch s cs → slotsOf (length (s .machine .work)) + 1 ≤ scans s cs
-    → s .reference .persisted + 1 ≤ run s cs .reference .persisted
+-- "Demand 3 is one claim about the whole list."
+abbrev pub Demand3 : Type 0
+Demand3 = (N L : ℕ) (board : List ℕ) → Rests N L board → (xs : List Step) → Consistent N L (run (start L board) xs)

@@ -1,145 +1,166 @@
 -- One call of a list keeps the invariant of a run, whatever it is and wherever it is cut.
-use Prim.Native.Nat.{ℕ, _+_}
+use Prim.Native.Nat.{ℕ}
 use mathlib.Core.Path.{_≡_, refl, sym}
-use mathlib.Core.Bool.{true, false, false≢true}
-use mathlib.Core.List.{List, _++_}
-use lib.Dec.{eqb}
+use mathlib.Core.Bool.{Bool, true, false, cond, false≢true}
+use mathlib.Core.List.{List, [], _++_}
+use native.Mathlib.Omega.{arith}
 use lib.ListN.{length}
-use Rattle.status.specs.Numbers.{numberOf}
-use Rattle.status.specs.declared.Status.{Status}
+use Rattle.board.specs.Stores.{applied}
+use Rattle.board.specs.Verdict.{refused, due}
+use Rattle.layout.specs.Memory.{slotsOf}
 use Rattle.status.specs.declared.Status.the-variants as status
-use Rattle.picl.specs.Answers.{answerOf}
 use Rattle.checks.specs.declared.Checked.{Checked}
 use Rattle.checks.specs.declared.Checked.the-variants.{Refused, Passed}
 use Rattle.checks.specs.declared.Registers.{Registers}
-use Rattle.checks.specs.Laws.{line-view, line-running, line-named, store-line, store-room}
-use Rattle.checks.specs.Laws.{commit-running, commit-view, commit-window, commit-early, scan-running, scan-view, scan-waiting}
-use Rattle.checks.specs.Refusals.{runningRows, lineRows, roomRows, commitRows, scanRows, lineChecked, storeChecked, commitChecked, scanChecked}
-use Rattle.checks.specs.View.{viewOf}
-use Rattle.picl.specs.Calls.{judged, loadOutcome, loadVerdict, storeOutcome, storeVerdict, evictOutcome, evictVerdict, commitOutcome, commitVerdict}
+use Rattle.checks.specs.Laws.{line-running, line-named, store-line, store-room}
+use Rattle.checks.specs.Laws.{commit-running, commit-window, commit-early, scan-running, scan-waiting}
+use Rattle.checks.specs.Refusals.{boardRows, workRows, registerRows, lineRows, roomRows, bufferRows, epochRows, cursorRows, waitingRows}
+use Rattle.checks.specs.Refusals.{boardChecked, memoriesChecked, runningChecked, lineChecked, storeChecked, commitChecked, scanChecked}
+use Rattle.checks.specs.View.{viewOf, goodWork}
+use Rattle.picl.specs.Answers.{Outcome, answerOf}
+use Rattle.picl.specs.Calls as calls
+use Rattle.picl.specs.Calls.{Call, verdictOf, judged, dirtySlots, tallyVerdict}
+use Rattle.picl.specs.Calls.{loadOutcome, loadVerdict, storeOutcome, storeVerdict, evictOutcome, evictVerdict, commitOutcome, commitVerdict}
 use Rattle.picl.specs.Calls.{scanOutcome, scanVerdict}
-use Rattle.history.specs.Machine.{Reference}
-use Rattle.crash.specs.Statement as statement
-use Rattle.crash.specs.Statement.{Machine, answered, called}
+use Rattle.reference.specs.Machine.{Reference}
+use Rattle.refine.specs.Along.{along-none}
+use Rattle.crash.specs.Statement.{call, Machine, answered, made}
 use Rattle.crash.specs.State.{Holds, is-up, is-down}
-use Rattle.crash.specs.Answer.{Kept, refused-numbered, refused-kept}
-use Rattle.crash.specs.Calls.{down-stays, load-up, load-up-value, store-up, evict-up, commit-up, scan-up}
+use Rattle.crash.specs.Fares.{Refuses, tested-refuses, then-refuses, Fares, refuses, goes, Kept, fares-kept}
+use Rattle.crash.specs.Calls.{down-stays, load-goes, load-up-value, store-goes, evict-goes, commit-goes, scan-goes}
 
--- no row of the table refuses as 0
-pub line-numbered : (board work : List ℕ) (r : Registers) (a : ℕ) (s : Status) → Refused s ≡ lineChecked board work r a → eqb (numberOf s) 0 ≡ false
-unfolding lineChecked
-line-numbered board work r a s e =
-    refused-numbered (runningRows board work r ++ lineRows (viewOf board work) work r a) (viewOf board work) s
-    (refl, (refl, (refl, (refl, (refl, (refl, tt)))))) e
+-- ---- no check refuses as 0
 
-pub store-numbered : (board work : List ℕ) (r : Registers) (a : ℕ) (s : Status) → Refused s ≡ storeChecked board work r a → eqb (numberOf s) 0 ≡ false
-unfolding storeChecked
-store-numbered board work r a s e =
-    refused-numbered ((runningRows board work r ++ lineRows (viewOf board work) work r a) ++ roomRows (viewOf board work) work r a)
-    (viewOf board work) s (refl, (refl, (refl, (refl, (refl, (refl, (refl, tt))))))) e
+module _ (board work : List ℕ) (r : Registers) where
+  running-refuses : Refuses (runningChecked board work r)
+  unfolding runningChecked memoriesChecked boardChecked
+  running-refuses =
+      then-refuses (memoriesChecked board work) (λ v. registerRows v r)
+      (then-refuses (boardChecked board work) (λ v. workRows (length work))
+      (tested-refuses (boardRows (length board) (viewOf board work)) (viewOf board work) refl) (λ v. refl))
+      (λ v. refl)
 
-pub commit-numbered : (board work : List ℕ) (r : Registers) (s : Status) → Refused s ≡ commitChecked board work r → eqb (numberOf s) 0 ≡ false
-unfolding commitChecked
-commit-numbered board work r s e =
-    refused-numbered (runningRows board work r ++ commitRows (viewOf board work) work r) (viewOf board work) s
-    (refl, (refl, (refl, (refl, (refl, (refl, tt)))))) e
+  line-refuses : (a : ℕ) → Refuses (lineChecked board work r a)
+  unfolding lineChecked
+  line-refuses a = then-refuses (runningChecked board work r) (λ v. lineRows v work r a) running-refuses (λ v. refl)
 
-pub scan-numbered : (board work : List ℕ) (r : Registers) (s : Status) → Refused s ≡ scanChecked board work r → eqb (numberOf s) 0 ≡ false
-unfolding scanChecked
-scan-numbered board work r s e =
-    refused-numbered (runningRows board work r ++ scanRows (viewOf board work) work r) (viewOf board work) s
-    (refl, (refl, (refl, (refl, (refl, (refl, tt)))))) e
+  store-refuses : (a : ℕ) → Refuses (storeChecked board work r a)
+  unfolding storeChecked
+  store-refuses a = then-refuses (lineChecked board work r a) (λ v. roomRows v work r a) (line-refuses a) (λ v. refl)
+
+  commit-refuses : Refuses (commitChecked board work r)
+  unfolding commitChecked
+  commit-refuses = then-refuses (runningChecked board work r) (λ v. bufferRows v work r ++ epochRows v r) running-refuses (λ v. refl)
+
+  scan-refuses : Refuses (scanChecked board work r)
+  unfolding scanChecked
+  scan-refuses =
+      then-refuses (runningChecked board work r) (λ v. cursorRows v work r ++ bufferRows v work r ++ waitingRows v r) running-refuses (λ v. refl)
+
+-- ---- each call
 
 module _ {N L : ℕ} {m : Machine} {g : Reference} (h : Holds N L m g) where
-  pub load-kept : (a allowance : ℕ) → Kept N L (statement.load a allowance) g (length (m .work)) (called m (statement.load a allowance))
-  unfolding called loadVerdict
-  load-kept a allowance = go (lineChecked (m .board) (m .work) (m .registers) a) refl h
-    where
-      go : (x : Checked) → lineChecked (m .board) (m .work) (m .registers) a ≡ x → Holds N L m g
-          → Kept N L (statement.load a allowance) g (length (m .work))
-          (answered allowance (m .registers) (m .board) (m .work) (judged x (loadOutcome (m .board) (m .work) (m .registers) a)))
-      go (Refused s) e h =
-          refused-kept (statement.load a allowance) allowance m g h s 0 (line-numbered (m .board) (m .work) (m .registers) a s (sym e))
-      go (Passed v) e (is-down d) = absurd (down-stays d v (line-running (m .board) (m .work) (m .registers) a v (sym e)))
-      go (Passed v) e (is-up u) =
-          let same = line-view (m .board) (m .work) (m .registers) a v (sym e) in
-          rw same (load-up u a (rw same at (line-named (m .board) (m .work) (m .registers) a v (sym e))) allowance)
+  abbrev board : List ℕ
+  board = m .board
 
-  pub evict-kept : (a allowance : ℕ) → Kept N L (statement.evict a allowance) g (length (m .work)) (called m (statement.evict a allowance))
-  unfolding called evictVerdict
-  evict-kept a allowance = go (lineChecked (m .board) (m .work) (m .registers) a) refl h
-    where
-      go : (x : Checked) → lineChecked (m .board) (m .work) (m .registers) a ≡ x → Holds N L m g
-          → Kept N L (statement.evict a allowance) g (length (m .work))
-          (answered allowance (m .registers) (m .board) (m .work) (judged x (evictOutcome (m .work) (m .registers) a)))
-      go (Refused s) e h =
-          refused-kept (statement.evict a allowance) allowance m g h s 0 (line-numbered (m .board) (m .work) (m .registers) a s (sym e))
-      go (Passed v) e (is-down d) = absurd (down-stays d v (line-running (m .board) (m .work) (m .registers) a v (sym e)))
-      go (Passed v) e (is-up u) =
-          let same = line-view (m .board) (m .work) (m .registers) a v (sym e) in
-          rw same (evict-up u a (rw same at (line-named (m .board) (m .work) (m .registers) a v (sym e))) allowance)
+  abbrev work : List ℕ
+  work = m .work
 
-  pub store-kept : (a value allowance : ℕ) → Kept N L (statement.store a value allowance) g (length (m .work)) (called m (statement.store a value allowance))
-  unfolding called storeVerdict
-  store-kept a value allowance = go (storeChecked (m .board) (m .work) (m .registers) a) refl h
-    where
-      go : (x : Checked) → storeChecked (m .board) (m .work) (m .registers) a ≡ x → Holds N L m g
-          → Kept N L (statement.store a value allowance) g (length (m .work))
-          (answered allowance (m .registers) (m .board) (m .work) (judged x (storeOutcome (m .board) (m .work) (m .registers) a value)))
-      go (Refused s) e h =
-          refused-kept (statement.store a value allowance) allowance m g h s 0 (store-numbered (m .board) (m .work) (m .registers) a s (sym e))
-      go (Passed v) e (is-down d) =
-          absurd
-          (down-stays d v
-          (line-running (m .board) (m .work) (m .registers) a v (store-line (m .board) (m .work) (m .registers) a v (sym e))))
-      go (Passed v) e (is-up u) =
-          let line = store-line (m .board) (m .work) (m .registers) a v (sym e) in
-          let same = line-view (m .board) (m .work) (m .registers) a v line in
-          rw same
-          (store-up u a (rw same at (line-named (m .board) (m .work) (m .registers) a v line)) value allowance
-          (rw same at (store-room (m .board) (m .work) (m .registers) a v (sym e))))
+  abbrev r : Registers
+  r = m .registers
 
-  pub commit-kept : (allowance : ℕ) → Kept N L (statement.commit allowance) g (length (m .work)) (called m (statement.commit allowance))
-  unfolding called commitVerdict
-  commit-kept allowance = go (commitChecked (m .board) (m .work) (m .registers)) refl h
+  load-fares : (a : ℕ) → Fares N L m g (calls.load a) (loadVerdict board work r a)
+  unfolding loadVerdict
+  load-fares a = go (lineChecked board work r a) refl h
     where
-      go : (x : Checked) → commitChecked (m .board) (m .work) (m .registers) ≡ x → Holds N L m g
-          → Kept N L (statement.commit allowance) g (length (m .work))
-          (answered allowance (m .registers) (m .board) (m .work) (judged x (λ v. commitOutcome (m .work) (m .registers))))
-      go (Refused s) e h =
-          refused-kept (statement.commit allowance) allowance m g h s 0 (commit-numbered (m .board) (m .work) (m .registers) s (sym e))
-      go (Passed v) e (is-down d) = absurd (down-stays d v (commit-running (m .board) (m .work) (m .registers) v (sym e)))
+      go : (x : Checked) → lineChecked board work r a ≡ x → Holds N L m g
+          → Fares N L m g (calls.load a) (judged x (loadOutcome board work r a))
+      go (Refused s) e h = refuses s 0 (line-refuses board work r a s (sym e))
+      go (Passed v) e (is-down d) = absurd (down-stays d v (line-running board work r a v (sym e)))
       go (Passed v) e (is-up u) =
-          commit-up u allowance (commit-early (m .board) (m .work) (m .registers) v (sym e))
-          (rw (commit-view (m .board) (m .work) (m .registers) v (sym e)) at (commit-window (m .board) (m .work) (m .registers) v (sym e)))
+          let same = line-running board work r a v (sym e) .shaped .is in
+          rw same (load-goes u a (rw same at (line-named board work r a v (sym e))))
 
-  pub scan-kept : (allowance : ℕ) → Kept N L (statement.scan allowance) g (length (m .work)) (called m (statement.scan allowance))
-  unfolding called scanVerdict
-  scan-kept allowance = go (scanChecked (m .board) (m .work) (m .registers)) refl h
+  evict-fares : (a : ℕ) → Fares N L m g (calls.evict a) (evictVerdict board work r a)
+  unfolding evictVerdict
+  evict-fares a = go (lineChecked board work r a) refl h
     where
-      go : (x : Checked) → scanChecked (m .board) (m .work) (m .registers) ≡ x → Holds N L m g
-          → Kept N L (statement.scan allowance) g (length (m .work))
-          (answered allowance (m .registers) (m .board) (m .work) (judged x (scanOutcome (m .board) (m .work) (m .registers))))
-      go (Refused s) e h =
-          refused-kept (statement.scan allowance) allowance m g h s 0 (scan-numbered (m .board) (m .work) (m .registers) s (sym e))
-      go (Passed v) e (is-down d) = absurd (down-stays d v (scan-running (m .board) (m .work) (m .registers) v (sym e)))
+      go : (x : Checked) → lineChecked board work r a ≡ x → Holds N L m g → Fares N L m g (calls.evict a) (judged x (evictOutcome work r a))
+      go (Refused s) e h = refuses s 0 (line-refuses board work r a s (sym e))
+      go (Passed v) e (is-down d) = absurd (down-stays d v (line-running board work r a v (sym e)))
       go (Passed v) e (is-up u) =
-          let same = scan-view (m .board) (m .work) (m .registers) v (sym e) in
-          rw same (scan-up u allowance (rw same at (scan-waiting (m .board) (m .work) (m .registers) v (sym e))))
+          let same = line-running board work r a v (sym e) .shaped .is in
+          rw same (evict-goes u a (rw same at (line-named board work r a v (sym e))))
+
+  store-fares : (a value : ℕ) → Fares N L m g (calls.store a value) (storeVerdict board work r a value)
+  unfolding storeVerdict
+  store-fares a value = go (storeChecked board work r a) refl h
+    where
+      go : (x : Checked) → storeChecked board work r a ≡ x → Holds N L m g
+          → Fares N L m g (calls.store a value) (judged x (storeOutcome board work r a value))
+      go (Refused s) e h = refuses s 0 (store-refuses board work r a s (sym e))
+      go (Passed v) e (is-down d) = absurd (down-stays d v (line-running board work r a v (store-line board work r a v (sym e))))
+      go (Passed v) e (is-up u) =
+          let line = store-line board work r a v (sym e) in
+          let same = line-running board work r a v line .shaped .is in
+          rw same (store-goes u a (rw same at (line-named board work r a v line)) value (rw same at (store-room board work r a v (sym e))))
+
+  commit-fares : Fares N L m g calls.commit (commitVerdict board work r)
+  unfolding commitVerdict
+  commit-fares = go (commitChecked board work r) refl h
+    where
+      go : (x : Checked) → commitChecked board work r ≡ x → Holds N L m g → Fares N L m g calls.commit (judged x (λ v. commitOutcome work r))
+      go (Refused s) e h = refuses s 0 (commit-refuses board work r s (sym e))
+      go (Passed v) e (is-down d) = absurd (down-stays d v (commit-running board work r v (sym e)))
+      go (Passed v) e (is-up u) =
+          let same = commit-running board work r v (sym e) .shaped .is in
+          commit-goes u (commit-early board work r v (sym e)) (rw same at (commit-window board work r v (sym e)))
+
+  scan-fares : Fares N L m g calls.scan (scanVerdict board work r)
+  unfolding scanVerdict
+  scan-fares = go (scanChecked board work r) refl h
+    where
+      go : (x : Checked) → scanChecked board work r ≡ x → Holds N L m g → Fares N L m g calls.scan (judged x (scanOutcome board work r))
+      go (Refused s) e h = refuses s 0 (scan-refuses board work r s (sym e))
+      go (Passed v) e (is-down d) = absurd (down-stays d v (scan-running board work r v (sym e)))
+      go (Passed v) e (is-up u) =
+          let same = scan-running board work r v (sym e) .shaped .is in
+          rw same (scan-goes u (rw same at (scan-waiting board work r v (sym e))))
+
+  -- a tally leaves all as it is, with the current on or off
+  tally-fares : Fares N L m g calls.tally (tallyVerdict work r)
+  unfolding tallyVerdict applied
+  tally-fares = go (goodWork (length work))
+    where
+      counted : Outcome
+      counted = record { value = dirtySlots work (slotsOf (length work)); registers = r; work = work; stores = [] }
+
+      go : (t : Bool) → Fares N L m g calls.tally (cond t (due counted) (refused status.Work 0))
+      go true = goes counted (along-none N L board g) h refl (omega arith)
+      go false = refuses status.Work 0 refl
+
+  call-fares : (c : Call) → Fares N L m g c (verdictOf board work r c)
+  call-fares (calls.load a) = load-fares a
+  call-fares (calls.store a value) = store-fares a value
+  call-fares (calls.evict a) = evict-fares a
+  call-fares calls.commit = commit-fares
+  call-fares calls.scan = scan-fares
+  call-fares calls.tally = tally-fares
+
+  pub call-kept : (c : Call) (k : ℕ) → Kept N L m g c k (made m (call c k))
+  unfolding made
+  call-kept c k = fares-kept h (call-fares c) k
 
   -- an accepted load gives the uncached machine's line
-  pub load-value : (a allowance : ℕ) → called m (statement.load a allowance) .status ≡ status.Ok → called m (statement.load a allowance) .value ≡ g .lines a
-  unfolding called loadVerdict answerOf
-  load-value a allowance = go (lineChecked (m .board) (m .work) (m .registers) a) refl h
+  pub load-value : (a k : ℕ) → made m (call (calls.load a) k) .status ≡ status.Ok → made m (call (calls.load a) k) .value ≡ g .lines a
+  unfolding made loadVerdict answerOf
+  load-value a k = go (lineChecked board work r a) refl h
     where
-      go : (x : Checked) → lineChecked (m .board) (m .work) (m .registers) a ≡ x → Holds N L m g
-          → answered allowance (m .registers) (m .board) (m .work) (judged x (loadOutcome (m .board) (m .work) (m .registers) a)) .status ≡ status.Ok
-          → answered allowance (m .registers) (m .board) (m .work) (judged x (loadOutcome (m .board) (m .work) (m .registers) a)) .value ≡ g .lines a
-      go (Refused s) e h =
-          λ ok.
-          let n = line-numbered (m .board) (m .work) (m .registers) a s (sym e) in
-          absurd (false≢true (sym (rw ok at n)))
-      go (Passed v) e (is-down d) = absurd (down-stays d v (line-running (m .board) (m .work) (m .registers) a v (sym e)))
+      go : (x : Checked) → lineChecked board work r a ≡ x → Holds N L m g
+          → answered k r board work (judged x (loadOutcome board work r a)) .status ≡ status.Ok
+          → answered k r board work (judged x (loadOutcome board work r a)) .value ≡ g .lines a
+      go (Refused s) e h = λ ok. absurd (false≢true (sym (rw ok at (line-refuses board work r a s (sym e)))))
+      go (Passed v) e (is-down d) = absurd (down-stays d v (line-running board work r a v (sym e)))
       go (Passed v) e (is-up u) =
-          let same = line-view (m .board) (m .work) (m .registers) a v (sym e) in
-          rw same (load-up-value u a (rw same at (line-named (m .board) (m .work) (m .registers) a v (sym e))) allowance)
+          let same = line-running board work r a v (sym e) .shaped .is in
+          rw same (load-up-value u a (rw same at (line-named board work r a v (sym e))) k)

@@ -10,7 +10,7 @@ use lib.ListN.{drop}
 use Rattle.base.specs.Walk.{firstFrom}
 use Rattle.board.specs.Stores.{applied}
 use Rattle.layout.specs.Limits.{lastEpoch}
-use Rattle.undo.specs.declared.Undo.{Undo}
+use Rattle.undo.specs.declared.LogState.{LogState}
 use Rattle.undo.specs.Log as undo
 use Rattle.undo.specs.Log.{placeOf, entryIn, oldIn, expired, dropped, advanceStores}
 use Rattle.history.specs.Machine.{Durable, ended, dropEnded, advanced}
@@ -22,7 +22,7 @@ use Rattle.durable.specs.Seen.{control-reads}
 
 -- ---- the run of ended entries
 
-dropped-from : (board : List ℕ) (u : Undo) (target i n : ℕ)
+dropped-from : (board : List ℕ) (u : LogState) (target i n : ℕ)
     → firstFrom (expired board u target) i n ≡ i + ended target (listed (entryAt board u) i n)
 unfolding firstFrom expired ended listed entryAt
 dropped-from board u target i zero = omega arith
@@ -35,18 +35,18 @@ dropped-from board u target i (suc n) = go (leb (entryIn board u i .till) target
     go false e rest = rw e (omega arith)
 
 -- what the code counts on the ring is what the abstract log drops
-pub dropped-ended : (board : List ℕ) (u : Undo) (target : ℕ) → dropped board u target ≡ ended target (logOf board u)
+pub dropped-ended : (board : List ℕ) (u : LogState) (target : ℕ) → dropped board u target ≡ ended target (logOf board u)
 unfolding dropped
 dropped-ended board u target = dropped-from board u target 0 (u .control .length) ∙ zero-add (ended target (logOf board u))
 
-dropped-within : (board : List ℕ) (u : Undo) (target : ℕ) → dropped board u target ≤ u .control .length
+dropped-within : (board : List ℕ) (u : LogState) (target : ℕ) → dropped board u target ≤ u .control .length
 dropped-within board u target =
     omega (arith, dropped-ended board u target, ended-le target (logOf board u), length-listed (entryAt board u) 0 (u .control .length))
 
 -- ---- the ring, turned by the number of dropped entries
 
-module _ (board : List ℕ) (u : Undo) (target n : ℕ) where
-  abbrev turned : Undo
+module _ (board : List ℕ) (u : LogState) (target n : ℕ) where
+  abbrev turned : LogState
   turned = undoWith (undo.advanced u target n) (u .entries)
 
   place-turned : (k : ℕ) → placeOf turned k ≡ placeOf u (n + k)
@@ -66,7 +66,7 @@ module _ (board : List ℕ) (u : Undo) (target n : ℕ) where
 
 -- ---- the advance
 
-pub advance-reads : {N L : ℕ} {board : List ℕ} {d : Durable} (u : Undo) → Reads N L board (u .control) d → u .entries ≡ L
+pub advance-reads : {N L : ℕ} {board : List ℕ} {d : Durable} (u : LogState) → Reads N L board (u .control) d → u .entries ≡ L
     → (target : ℕ) → target < lastEpoch
     → Reads N L (applied board (advanceStores board u target)) (undo.advanced u target (dropped board u target)) (advanced d target)
 unfolding advanceStores

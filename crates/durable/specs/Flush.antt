@@ -11,12 +11,12 @@ use Rattle.board.specs.Stores.{Store, one, applied, each, shifted}
 use Rattle.board.specs.Laws.{applied-append, length-applied}
 use Rattle.layout.specs.Memory.{controlAt, logAt, linesAt}
 use Rattle.layout.specs.Words.{encodeControl, decodeEntry}
-use Rattle.undo.specs.declared.Undo.{Undo}
+use Rattle.undo.specs.declared.LogState.{LogState}
 use Rattle.undo.specs.Log as undo
 use Rattle.undo.specs.Log.{placeOf, entryIn, oldIn, bufferedIn, entryStores, flushStores}
-use Rattle.history.specs.Every.{Every, every-append, every-take}
+use Rattle.base.specs.Every.{Every, every-append, every-take}
 use Rattle.history.specs.Machine.{Entry, Durable, Volatile, flushed}
-use Rattle.history.specs.Recall.{below-or-not}
+use Rattle.base.specs.Cases.{below-or-not}
 use Rattle.durable.specs.Listed.{listed, listed-same, listed-append}
 use Rattle.durable.specs.Stores.{shifted-append}
 use Rattle.durable.specs.View.{undoWith, entryWith, entryAt, logOf, bufferedAt, bufferOf, Reads}
@@ -26,10 +26,10 @@ use Rattle.durable.specs.Seen.{free-reads, control-reads}
 
 -- ---- one entry's two stores
 
-abbrev stored : List ℕ → Undo → (i word old : ℕ) → List ℕ
+abbrev stored : List ℕ → LogState → (i word old : ℕ) → List ℕ
 stored board u i word old = set (set board (logAt + placeOf u i) word) (logAt + (placeOf u i + 1)) old
 
-module _ (board : List ℕ) (u : Undo) (i word old : ℕ) where
+module _ (board : List ℕ) (u : LogState) (i word old : ℕ) where
   stored-here : 0 < u .entries → linesAt (u .entries) ≤ length board
       → entryAt (stored board u i word old) u i ≡ entryWith (decodeEntry word) old
   unfolding entryAt entryIn oldIn
@@ -49,10 +49,10 @@ module _ (board : List ℕ) (u : Undo) (i word old : ℕ) where
 
 -- ---- the stores of the first n entries
 
-abbrev ringStores : Undo → List ℕ → ℕ → List Store
+abbrev ringStores : LogState → List ℕ → ℕ → List Store
 ringStores u buffer n = shifted logAt (each (entryStores u buffer) n)
 
-module _ (u : Undo) (buffer : List ℕ) where
+module _ (u : LogState) (buffer : List ℕ) where
   ring-next : (n : ℕ) → ringStores u buffer (suc n) ≡ ringStores u buffer n ++ shifted logAt (entryStores u buffer n)
   unfolding each
   ring-next n = shifted-append logAt (each (entryStores u buffer) n) (entryStores u buffer n)
@@ -93,7 +93,7 @@ module _ (u : Undo) (buffer : List ℕ) where
 
 -- ---- the flush
 
-module _ {N L : ℕ} {board : List ℕ} {d : Durable} (u : Undo) (r : Reads N L board (u .control) d) (same : u .entries ≡ L)
+module _ {N L : ℕ} {board : List ℕ} {d : Durable} (u : LogState) (r : Reads N L board (u .control) d) (same : u .entries ≡ L)
     (room : u .control .length + u .buffered ≤ u .entries) (buffer : List ℕ) where
   abbrev entries : List Store
   entries = ringStores u buffer (u .buffered)

@@ -4,20 +4,17 @@ use mathlib.Core.Path.{_≡_, ap, _∙_}
 use mathlib.Core.Logic.{_≢_}
 use mathlib.Core.List.{List, []}
 use native.Mathlib.Omega.{arith}
-use lib.ListN.{length, getD, set, length-set, length-replicate}
+use lib.ListN.{length, getD, length-set, length-replicate}
 use lib.Seq.{getD-set-same, getD-set-other}
 use Rattle.layout.specs.Limits.{mostLines, mostEntries}
-use Rattle.layout.specs.Memory.{controlAt, shapeAt, linesAt, boardWords, controlIn, shapeIn}
+use Rattle.layout.specs.Memory.{controlAt, shapeAt, linesAt, boardWords, shapeFor, formatted, controlIn, shapeIn}
 use Rattle.layout.specs.Words.{ShapeFits, encodeShape, decodeControl, decodeShape}
-use Rattle.layout.specs.Laws.{decode-encode-shape}
+use Rattle.layout.specs.Laws.{shape-laws}
+use Rattle.layout.specs.ZeroWord.{zeroControl, decode-zero-control}
 use Rattle.history.specs.Machine.{Durable}
 use Rattle.durable.specs.Listed.{listed}
-use Rattle.durable.specs.Zeros.{zeros, getD-zeros, zeroControl, decode-zero-control}
-use Rattle.durable.specs.View.{shapeFor, Reads}
-
--- "every board word zero, but for the shape word"
-abbrev pub formatted : (lines entries : ℕ) → List ℕ
-formatted lines entries = set (zeros (boardWords lines entries)) shapeAt (encodeShape (shapeFor lines entries))
+use Rattle.durable.specs.Zeros.{zeros, getD-zeros}
+use Rattle.durable.specs.View.{Reads}
 
 -- the board of history's `fresh 0 (λ a. 0)`
 abbrev pub blank : Durable
@@ -28,6 +25,7 @@ module _ (N L : ℕ) (some-lines : 0 < N) (most-lines : N ≤ mostLines) (some-e
   board = formatted N L
 
   zero-word : (p : ℕ) → p ≢ shapeAt → getD board p 0 ≡ 0
+  unfolding formatted
   zero-word p off =
       getD-set-other (zeros (boardWords N L)) shapeAt p (encodeShape (shapeFor N L)) 0 off ∙ getD-zeros (boardWords N L) p
 
@@ -35,14 +33,15 @@ module _ (N L : ℕ) (some-lines : 0 < N) (most-lines : N ≤ mostLines) (some-e
   format-control = ap decodeControl (zero-word controlAt (omega arith)) ∙ decode-zero-control
 
   format-shape : shapeIn board ≡ shapeFor N L
+  unfolding formatted
   format-shape =
       let fits : ShapeFits (shapeFor N L) = omega arith in
       let room : shapeAt < length (zeros (boardWords N L)) = simp length-replicate (omega arith) in
       ap decodeShape (getD-set-same (zeros (boardWords N L)) shapeAt (encodeShape (shapeFor N L)) 0 room)
-      ∙ decode-encode-shape (shapeFor N L) fits
+      ∙ shape-laws .decode-encode (shapeFor N L) fits
 
   pub format-reads : Reads N L (formatted N L) zeroControl blank
-  unfolding listed
+  unfolding listed formatted
   format-reads = record {
     sized = record {
       some-lines = some-lines;

@@ -7,7 +7,7 @@ use native.Mathlib.Nat.{zero-add, add-zero, suc-add, add-suc}
 use native.Mathlib.Omega.{arith}
 use lib.ListN.{length, drop}
 use lib.Seq.{drop-at}
-use Rattle.history.specs.Every.{Every}
+use Rattle.base.specs.Every.{Every}
 
 unfoldable pub listed : {A : Type 0} → (ℕ → A) → (i n : ℕ) → List A
 listed f i zero = []

@@ -7,25 +7,25 @@ use native.Mathlib.Omega.{arith}
 use lib.ListN.{getD}
 use Rattle.layout.specs.Memory.{logAt, linesAt}
 use Rattle.layout.specs.Words.{decodeEntry}
-use Rattle.undo.specs.declared.Undo.{Undo}
+use Rattle.undo.specs.declared.LogState.{LogState}
 use Rattle.undo.specs.Log.{placeOf, entryIn, oldIn}
-use Rattle.history.specs.Recall.{below-or-not}
+use Rattle.base.specs.Cases.{below-or-not}
 use Rattle.durable.specs.Listed.{listed-same}
 use Rattle.durable.specs.View.{undoWith, entryWith, entryAt, logOf}
 
 -- place p of the board is one of the two words of entry i
-pub record WordOf (u : Undo) (i p : ℕ) : Type 0 where
+pub record WordOf (u : LogState) (i p : ℕ) : Type 0 where
   pub from : logAt + placeOf u i ≤ p
   pub till : p ≤ logAt + placeOf u i + 1
 
 -- of an entry of the log
-pub record InLog (u : Undo) (p : ℕ) : Type 0 where
+pub record InLog (u : LogState) (p : ℕ) : Type 0 where
   pub entry : ℕ
   pub within : entry < u .control .length
   pub word : WordOf u entry p
 
 -- of none, but the ring has room for the entry
-pub record Free (u : Undo) (p : ℕ) : Type 0 where
+pub record Free (u : LogState) (p : ℕ) : Type 0 where
   pub entry : ℕ
   pub behind : u .control .length ≤ entry
   pub within : entry < u .entries
@@ -34,11 +34,11 @@ pub record Free (u : Undo) (p : ℕ) : Type 0 where
 -- ---- where the words are
 
 -- behind the two first words of the board
-pub word-behind : (u : Undo) (i p : ℕ) → WordOf u i p → logAt ≤ p
+pub word-behind : (u : LogState) (i p : ℕ) → WordOf u i p → logAt ≤ p
 word-behind u i p w = omega arith
 
 -- and before the lines
-pub word-before : (u : Undo) (i p : ℕ) → 0 < u .entries → WordOf u i p → p < linesAt (u .entries)
+pub word-before : (u : LogState) (i p : ℕ) → 0 < u .entries → WordOf u i p → p < linesAt (u .entries)
 unfolding placeOf
 word-before u i p some w = omega (arith, mod-lt (u .control .start + i) some)
 
@@ -49,7 +49,7 @@ mod-apart l x y h k e = below-or-not (x / l) (y / l)
     (λ q. omega (arith, div-add-mod' x l, div-add-mod' y l, mul-le-mul-right l q))
 
 -- so entries less than a round apart have no word in common
-pub words-apart : (u : Undo) (i j p : ℕ) → i < j → j < i + u .entries → WordOf u i p → WordOf u j p → ⊥
+pub words-apart : (u : LogState) (i j p : ℕ) → i < j → j < i + u .entries → WordOf u i p → WordOf u j p → ⊥
 unfolding placeOf
 words-apart u i j p lo hi v w =
     let start = u .control .start in
@@ -57,13 +57,13 @@ words-apart u i j p lo hi v w =
     mod-apart (u .entries) (start + i) (start + j) (omega arith) (omega arith) in
     omega arith
 
-pub free-apart : (u : Undo) (p : ℕ) → Free u p → InLog u p → ⊥
+pub free-apart : (u : LogState) (p : ℕ) → Free u p → InLog u p → ⊥
 free-apart u p f g =
     words-apart u (g .entry) (f .entry) p (omega (arith, g .within, f .behind)) (omega (arith, f .within)) (g .word) (f .word)
 
 -- ---- the same log
 
-pub entry-same : (board board′ : List ℕ) (u : Undo) (i : ℕ) → ((p : ℕ) → WordOf u i p → getD board′ p 0 ≡ getD board p 0)
+pub entry-same : (board board′ : List ℕ) (u : LogState) (i : ℕ) → ((p : ℕ) → WordOf u i p → getD board′ p 0 ≡ getD board p 0)
     → entryAt board′ u i ≡ entryAt board u i
 unfolding entryAt entryIn oldIn
 entry-same board board′ u i same =
@@ -71,13 +71,13 @@ entry-same board board′ u i same =
     (same (logAt + placeOf u i) (omega arith))
     (same (logAt + placeOf u i + 1) (omega arith))
 
-pub log-same : (board board′ : List ℕ) (u : Undo) → ((p : ℕ) → InLog u p → getD board′ p 0 ≡ getD board p 0)
+pub log-same : (board board′ : List ℕ) (u : LogState) → ((p : ℕ) → InLog u p → getD board′ p 0 ≡ getD board p 0)
     → logOf board′ u ≡ logOf board u
 log-same board board′ u same = listed-same (entryAt board′ u) (entryAt board u) 0 (u .control .length)
     (λ i lo hi. entry-same board board′ u i (λ p w. same p (record { entry = i; within = omega arith; word = w })))
 
 -- how many entries are buffered does not matter
-pub log-unbuffered : (board : List ℕ) (u : Undo) → logOf board (undoWith (u .control) (u .entries)) ≡ logOf board u
+pub log-unbuffered : (board : List ℕ) (u : LogState) → logOf board (undoWith (u .control) (u .entries)) ≡ logOf board u
 unfolding entryAt entryIn oldIn placeOf
 log-unbuffered board u =
     listed-same (entryAt board (undoWith (u .control) (u .entries))) (entryAt board u) 0 (u .control .length) (λ i lo hi. refl)

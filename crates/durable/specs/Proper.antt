@@ -6,10 +6,10 @@ use native.Mathlib.Nat.{zero-add}
 use native.Mathlib.Omega.{arith}
 use borrow.Author.Tests.{lt-ltb, le-leb}
 use Rattle.base.specs.Walk.{firstFrom}
-use Rattle.undo.specs.declared.Undo.{Undo}
+use Rattle.undo.specs.declared.LogState.{LogState}
 use Rattle.undo.specs.Entries.{properEntry}
 use Rattle.undo.specs.Log.{entryIn, olderTill, properAt, firstImproper}
-use Rattle.history.specs.Every.{Every, every-map}
+use Rattle.base.specs.Every.{Every, every-map}
 use Rattle.history.specs.Machine.{Entry, Durable}
 use Rattle.history.specs.Invariant.{ProperEntry, ProperLog}
 use Rattle.history.specs.Proper.{proper-every}
@@ -22,7 +22,7 @@ pub proper-named : (N W low high : ℕ) (log : List Entry) → ProperLog N W low
 proper-named N W low high log p =
     every-map (ProperEntry N W low high) (λ x. x .address < N) (λ x e. e .inside) log (proper-every N W low high log p)
 
-module _ (N W high : ℕ) (board : List ℕ) (u : Undo) where
+module _ (N W high : ℕ) (board : List ℕ) (u : LogState) where
   -- from entry i on, where `low` bounds the tills of the older ones
   proper-from : (low i n : ℕ) → u .control .persisted < low → olderTill board u i ≤ low
       → ProperLog N W low high (listed (entryAt board u) i n) → firstFrom (properAt board u N) i n ≡ i + n
@@ -45,7 +45,7 @@ module _ (N W high : ℕ) (board : List ℕ) (u : Undo) where
   proper-passes p =
       proper-from (suc (u .control .persisted)) 0 (u .control .length) (omega arith) (omega arith) p ∙ zero-add (u .control .length)
 
-pub reads-passes : {N L : ℕ} {board : List ℕ} {d : Durable} (u : Undo) → Reads N L board (u .control) d → u .entries ≡ L
+pub reads-passes : {N L : ℕ} {board : List ℕ} {d : Durable} (u : LogState) → Reads N L board (u .control) d → u .entries ≡ L
     → (W high : ℕ) → ProperLog N W (suc (d .persisted)) high (d .log) → firstImproper board u N ≡ u .control .length
 reads-passes {N} {L} {board} u r same W high p =
     proper-passes N W high board u (rw (reads-log u r same, reads-persisted r) p)

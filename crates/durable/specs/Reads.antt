@@ -6,7 +6,7 @@ use lib.ListN.{length, getD}
 use Rattle.layout.specs.declared.Control.{Control}
 use Rattle.layout.specs.Memory.{shapeAt, linesAt, controlIn}
 use Rattle.layout.specs.Words.{decodeShape}
-use Rattle.undo.specs.declared.Undo.{Undo}
+use Rattle.undo.specs.declared.LogState.{LogState}
 use Rattle.history.specs.Machine.{Durable}
 use Rattle.durable.specs.View.{logOf, durableWith, Bounded, Sized, Reads}
 use Rattle.durable.specs.Log.{InLog, log-same, log-unbuffered}
@@ -27,7 +27,7 @@ module _ {N L : ℕ} {board : List ℕ} where
   reads-persisted r = ap (λ (b : Durable). b .persisted) (reads-with r)
 
   -- its log, by the log's numbers that a call carries
-  pub reads-log : {d : Durable} (u : Undo) → Reads N L board (u .control) d → u .entries ≡ L → logOf board u ≡ d .log
+  pub reads-log : {d : Durable} (u : LogState) → Reads N L board (u .control) d → u .entries ≡ L → logOf board u ≡ d .log
   reads-log u r same = sym (log-unbuffered board u) ∙ rw same (ap (λ (b : Durable). b .log) (reads-with r))
 
 -- ---- another board
@@ -45,7 +45,7 @@ sized-again board′ s words shape control =
       control = control;
     }
 
-pub durable-same : (board board′ : List ℕ) (u : Undo) → ((p : ℕ) → InLog u p → getD board′ p 0 ≡ getD board p 0)
+pub durable-same : (board board′ : List ℕ) (u : LogState) → ((p : ℕ) → InLog u p → getD board′ p 0 ≡ getD board p 0)
     → ((a : ℕ) → getD board′ (linesAt (u .entries) + a) 0 ≡ getD board (linesAt (u .entries) + a) 0)
     → durableWith (u .control) (u .entries) board′ ≡ durableWith (u .control) (u .entries) board
 durable-same board board′ u words lines =

@@ -12,15 +12,15 @@ use Rattle.board.specs.Laws.{applied-append}
 use Rattle.layout.specs.declared.Control.{Control}
 use Rattle.layout.specs.Memory.{controlAt, linesAt}
 use Rattle.layout.specs.Words.{encodeControl}
-use Rattle.undo.specs.declared.Undo.{Undo}
+use Rattle.undo.specs.declared.LogState.{LogState}
 use Rattle.undo.specs.Entries as undo
 use Rattle.undo.specs.Log.{entryIn, restoreStores, restoreTurn, emptied, recoverStores}
-use Rattle.history.specs.Every.{Every, every-take}
+use Rattle.base.specs.Every.{Every, every-take}
 use Rattle.history.specs.Machine.{Entry, covers, Durable, cleared}
 use Rattle.history.specs.Restore.{due, patched, patchedBy, restoredAll, restoredPart, due-every}
-use Rattle.durable.specs.Listed.{listed, every-listed}
+use Rattle.durable.specs.Listed.{listed}
 use Rattle.durable.specs.Stores.{take-map}
-use Rattle.durable.specs.View.{entryAt, logOf, Reads}
+use Rattle.durable.specs.View.{entryAt, Reads}
 use Rattle.durable.specs.Reads.{reads-bounded, reads-as, reads-with, reads-persisted, reads-log}
 use Rattle.durable.specs.Seen.{line-reads, control-reads}
 
@@ -30,11 +30,11 @@ abbrev pub lineStore : (entries : ℕ) → Entry → Store
 lineStore entries x = record { at = linesAt entries + x .address; word = x .old }
 
 -- what the abstract power-up does of the entries xs
-abbrev dueStores : Undo → List Entry → List Store
+abbrev dueStores : LogState → List Entry → List Store
 dueStores u xs = map (lineStore (u .entries)) (due (u .control .persisted) xs)
 
 -- one entry more, older than those
-restore-due : (board : List ℕ) (u : Undo) (i : ℕ) (xs : List Entry)
+restore-due : (board : List ℕ) (u : LogState) (i : ℕ) (xs : List Entry)
     → dueStores u xs ++ restoreStores board u i ≡ dueStores u (entryAt board u i ∷ xs)
 unfolding restoreStores undo.covers covers due entryAt
 restore-due board u i xs = go (undo.covers (entryIn board u i) (u .control .persisted)) refl
@@ -45,7 +45,7 @@ restore-due board u i xs = go (undo.covers (entryIn board u i) (u .control .pers
     go false e = rw (e, append-nil)
 
 -- after j turns the newest j entries have been looked at
-turns-due : (board : List ℕ) (u : Undo) (j : ℕ) → j ≤ u .control .length
+turns-due : (board : List ℕ) (u : LogState) (j : ℕ) → j ≤ u .control .length
     → each (restoreTurn board u) j ≡ dueStores u (listed (entryAt board u) (u .control .length - j) j)
 unfolding each listed restoreTurn due
 turns-due board u zero within = refl
@@ -64,14 +64,7 @@ lines-read r (x ∷ xs) named = lines-read (line-reads r (x .address) (x .old) (
 
 -- ---- recovery
 
--- what power-up knows of the entries in the ring, said of the log
-pub named-log : (N : ℕ) (board : List ℕ) (u : Undo) → ((i : ℕ) → i < u .control .length → entryIn board u i .address < N)
-    → Every (λ x. x .address < N) (logOf board u)
-unfolding entryAt
-named-log N board u named =
-    every-listed (λ x. x .address < N) (entryAt board u) 0 (u .control .length) (λ i lo hi. named i (omega arith))
-
-module _ {N L : ℕ} {board : List ℕ} {d : Durable} (u : Undo) (r : Reads N L board (u .control) d) (same : u .entries ≡ L)
+module _ {N L : ℕ} {board : List ℕ} {d : Durable} (u : LogState) (r : Reads N L board (u .control) d) (same : u .entries ≡ L)
     (named : Every (λ x. x .address < N) (d .log)) where
   abbrev restored : List Entry
   restored = due (d .persisted) (d .log)

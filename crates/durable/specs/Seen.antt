@@ -12,11 +12,12 @@ use Rattle.board.specs.Laws.{length-applied}
 use Rattle.layout.specs.declared.Control.{Control}
 use Rattle.layout.specs.Memory.{controlAt, shapeAt, logAt, linesAt, controlIn}
 use Rattle.layout.specs.Words.{ControlFits, encodeControl, decodeControl}
-use Rattle.layout.specs.Laws.{decode-encode-control}
-use Rattle.undo.specs.declared.Undo.{Undo}
-use Rattle.history.specs.Every.{Every, every-map}
-use Rattle.history.specs.Machine.{Durable, update, written}
-use Rattle.history.specs.Recall.{here-or-there, update-same, update-other}
+use Rattle.layout.specs.Laws.{control-laws}
+use Rattle.undo.specs.declared.LogState.{LogState}
+use Rattle.base.specs.Every.{Every, every-map}
+use Rattle.history.specs.Machine.{Durable, written}
+use Rattle.base.specs.Cases.{update}
+use Rattle.base.specs.Cases.{here-or-there, update-same, update-other}
 use Rattle.durable.specs.Stores.{applied-away}
 use Rattle.durable.specs.View.{undoWith, logOf, durableWith, durableOf, Bounded, Sized, Reads}
 use Rattle.durable.specs.Log.{InLog, Free, word-behind, word-before, free-apart, log-same}
@@ -24,7 +25,7 @@ use Rattle.durable.specs.Reads.{sized-again, durable-same}
 
 -- ---- stores to free places of the ring
 
-module _ {N L : ℕ} {board : List ℕ} {d : Durable} (u : Undo) (r : Reads N L board (u .control) d) (same : u .entries ≡ L)
+module _ {N L : ℕ} {board : List ℕ} {d : Durable} (u : LogState) (r : Reads N L board (u .control) d) (same : u .entries ≡ L)
     (ss : List Store) (free : Every (λ s. Free u (s .at)) ss) where
   abbrev behind : List ℕ
   behind = applied board ss
@@ -95,7 +96,7 @@ unfolding applied
 control-reads {N} {L} {board} s c bounded =
     let fits : ControlFits c = omega (arith, s) in
     let control : controlIn board′ ≡ c =
-    ap decodeControl (getD-set-same board controlAt (encodeControl c) 0 (omega (arith, s .words))) ∙ decode-encode-control c fits in
+    ap decodeControl (getD-set-same board controlAt (encodeControl c) 0 (omega (arith, s .words))) ∙ control-laws .decode-encode c fits in
     record {
       sized = sized-again board′ s (length-set board controlAt (encodeControl c)) (kept shapeAt (omega arith)) (rw control bounded);
       control = control;

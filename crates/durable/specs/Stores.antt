@@ -6,7 +6,7 @@ use mathlib.Core.List.{List, [], _∷_, _++_, map}
 use lib.ListN.{getD, set, take}
 use lib.Seq.{getD-set-other}
 use Rattle.board.specs.Stores.{Store, applied, shifted}
-use Rattle.history.specs.Every.{Every}
+use Rattle.base.specs.Every.{Every}
 
 -- a word that no store goes to stays
 pub applied-away : (ss : List Store) (memory : List ℕ) (p : ℕ) → Every (λ s. p ≢ s .at) ss

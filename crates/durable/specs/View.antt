@@ -5,33 +5,28 @@ use mathlib.Core.Path.{_≡_}
 use mathlib.Core.List.{List}
 use lib.ListN.{length, getD}
 use Rattle.layout.specs.declared.Control.{Control}
-use Rattle.layout.specs.declared.Shape.{Shape}
 use Rattle.layout.specs.declared.Entry as packed
-use Rattle.layout.specs.Limits.{boardVersion, lastEpoch, mostLines, mostEntries}
-use Rattle.layout.specs.Memory.{linesAt, boardWords, controlIn, shapeIn}
-use Rattle.undo.specs.declared.Undo.{Undo}
+use Rattle.layout.specs.Limits.{lastEpoch, mostLines, mostEntries}
+use Rattle.layout.specs.Memory.{linesAt, boardWords, shapeFor, controlIn, shapeIn}
+use Rattle.undo.specs.declared.LogState.{LogState}
 use Rattle.undo.specs.Log.{entryIn, oldIn, bufferedIn}
 use Rattle.history.specs.Machine.{Entry, Durable}
 use Rattle.durable.specs.Listed.{listed}
 
 -- ---- the undo log
 
-abbrev pub undoWith : Control → (entries : ℕ) → Undo
+abbrev pub undoWith : Control → (entries : ℕ) → LogState
 undoWith c entries = record { control = c; entries = entries; buffered = 0 }
-
--- the log's numbers, as a call that begins reads them
-abbrev pub undoIn : List ℕ → (entries : ℕ) → Undo
-undoIn board entries = undoWith (controlIn board) entries
 
 -- the two words of an entry: the packed one, and the old data
 abbrev pub entryWith : packed.Entry → (old : ℕ) → Entry
 entryWith e old = record { address = e .address; from = e .from; till = e .till; old = old }
 
-unfoldable pub entryAt : List ℕ → Undo → ℕ → Entry
+unfoldable pub entryAt : List ℕ → LogState → ℕ → Entry
 entryAt board u i = entryWith (entryIn board u i) (oldIn board u i)
 
 -- the log, oldest entry first
-abbrev pub logOf : List ℕ → Undo → List Entry
+abbrev pub logOf : List ℕ → LogState → List Entry
 logOf board u = listed (entryAt board u) 0 (u .control .length)
 
 unfoldable pub bufferedAt : List ℕ → ℕ → Entry
@@ -56,9 +51,6 @@ abbrev pub durableOf : (entries : ℕ) → List ℕ → Durable
 durableOf entries board = durableWith (controlIn board) entries board
 
 -- ---- the sizes
-
-abbrev pub shapeFor : (lines entries : ℕ) → Shape
-shapeFor lines entries = record { version = boardVersion; lines = lines; entries = entries }
 
 -- a control word that the test of the board lets pass: not "P = 2^24 − 1; start ≥ L; length > L"
 pub record Bounded (entries : ℕ) (c : Control) : Type 0 where

@@ -1,12 +1,9 @@
--- A memory of zeros, and the control word that is zero. Assumes nothing.
+-- A memory of zeros. Assumes nothing.
 use Prim.Native.Nat.{ℕ}
-use mathlib.Core.Path.{_≡_, refl}
+use mathlib.Core.Path.{_≡_}
 use mathlib.Core.List.{List}
 use lib.ListN.{getD, replicate, length-replicate, getD-replicate, List·getD-eq-default}
-use Rattle.layout.specs.declared.Control.{Control}
-use Rattle.layout.specs.Fields.{unpack, width}
-use Rattle.layout.specs.Words.{decodeControl}
-use Rattle.history.specs.Recall.{below-or-not}
+use Rattle.base.specs.Cases.{below-or-not}
 
 abbrev pub zeros : ℕ → List ℕ
 zeros n = replicate n 0
@@ -16,10 +13,3 @@ pub getD-zeros : (n i : ℕ) → getD (zeros n) i 0 ≡ 0
 getD-zeros n i = below-or-not i n
     (λ inside. getD-replicate n i 0 0 inside)
     (λ outside. List·getD-eq-default (zeros n) 0 (simp length-replicate outside))
-
-abbrev pub zeroControl : Control
-zeroControl = record { persisted = 0; start = 0; length = 0 }
-
-pub decode-zero-control : decodeControl 0 ≡ zeroControl
-unfolding decodeControl unpack width
-decode-zero-control = refl

@@ -3,7 +3,8 @@
 use mathlib.Core.Path.{_≡_}
 use mathlib.Core.List.{List, [], _∷_, _++_}
 use Prim.Native.Nat.{ℕ, suc, _+_, _≤_, _<_}
-use Rattle.history.specs.Machine.{Entry, recall, Tells, Durable, Line, absent, clean, dirty, Volatile, Reference, State, up, down, recovered}
+use Rattle.history.specs.Machine.{Entry, recall, Tells, Durable, Line, absent, clean, dirty, Volatile, recovered}
+use Rattle.reference.specs.Machine.{Reference}
 
 -- ---- proper logs
 
@@ -80,9 +81,3 @@ Held b w g a l = Fits (b .persisted) (w .running) (entries b w) a (b .memory a) 
 pub record Live (N W : ℕ) (b : Durable) (w : Volatile) (g : Reference) : Type 0 where
   pub history : History N W (b .persisted) (w .running) (entries b w) g
   pub held : (a : ℕ) → Held b w g a (w .cache a)
-
--- ---- both
-
-abbrev pub Invariant : (N W : ℕ) → State → Type 0
-Invariant N W (up b w g) = Safe N W b g × Live N W b w g
-Invariant N W (down b g) = Safe N W b g

@@ -6,13 +6,17 @@ use mathlib.Core.List.{List, [], _∷_, _++_, append-assoc, append-nil}
 use Prim.Native.Nat.{ℕ, suc, _+_, _≤_, _<_}
 use native.Mathlib.Omega.{arith}
 use borrow.Author.Tests.{le-leb}
-use Rattle.history.specs.Machine.{Entry, recall, Tells, Told, dropEnded, update, Durable, Line, absent, clean, dirty, Volatile, Reference, State}
-use Rattle.history.specs.Machine.{stores, commits, persists, upTo, wakes, holding, undo, marked, flushed, unbuffered, written, nextEpoch, advanced}
-use Rattle.history.specs.Machine.{cleared, awake, Logged, Scanned, recovered, Restored, Action, PowerUp, Step}
-use Rattle.history.specs.Invariant.{ProperEntry, ProperLog, Safe, History, Fits, Held, Live, Invariant, entries}
-use Rattle.history.specs.Recall.{here-or-there, below-or-not, update-same, update-other, recall-append, recall-new, recall-new-away, recall-dropEnded}
+use Rattle.history.specs.Machine.{Entry, recall, Tells, dropEnded, Durable, Line, absent, clean, dirty, Volatile}
+use Rattle.base.specs.Cases.{update}
+use Rattle.reference.specs.Machine.{Reference}
+use Rattle.reference.specs.Machine.{stores, commits, persists, upTo, wakes}
+use Rattle.history.specs.Machine.{holding, undo, marked, flushed, unbuffered, written, nextEpoch, advanced}
+use Rattle.history.specs.Machine.{cleared, awake, Logged, Scanned, recovered, Restored}
+use Rattle.history.specs.Invariant.{ProperEntry, ProperLog, Safe, History, Fits, Held, Live, entries}
+use Rattle.base.specs.Cases.{here-or-there, below-or-not, update-same, update-other}
+use Rattle.history.specs.Recall.{recall-append, recall-new, recall-new-away, recall-dropEnded}
 use Rattle.history.specs.Proper.{entry-wider, proper-wider, proper-new, proper-dropEnded, proper-silent}
-use Rattle.history.specs.Lines.{written-recovered, held-update, fits-later, held-as, undone-memory, undo-proper}
+use Rattle.history.specs.Lines.{held-update, fits-later, held-as, undone-memory, undo-proper}
 
 -- ---- what a cut leaves, by itself
 
@@ -24,9 +28,6 @@ module _ {N W : ℕ} {b : Durable} {g : Reference} (safe : Safe N W b g) where
   -- all three stores: only the current lines move
   pub store-safe : (a v : ℕ) → Safe N W b (stores g a v)
   store-safe a v = safe-for refl (λ c. refl)
-
-  pub restore-safe : (a v : ℕ) → Told (b .log) (b .persisted) a → Safe N W (written b a v) g
-  restore-safe a v told = record { named = safe .named; proper = safe .proper; recovers = λ c. written-recovered b a v told c ∙ safe .recovers c }
 
   -- memory is the copy: with no log, no cache and no epoch but P there is nothing to undo
   module _ (restored : Restored b) where
@@ -248,26 +249,3 @@ module _ {N W : ℕ} {b : Durable} {w : Volatile} {g : Reference} (live : Live N
           (omega arith) (omega arith) (λ t d p waits. scanned a t d p) (λ e z lo hi. recall-dropEnded q (b .log) e a z lo) (λ e hi. refl)
           (rw flat at (live .held a)));
     }
-
--- ---- every action
-
-action-keeps : {N W : ℕ} {b : Durable} {w : Volatile} {g : Reference} {st : State} → Action N W b w g st → Safe N W b g → Live N W b w g → Invariant N W st
-action-keeps (Action.fill a p) safe live = (safe, fill-live live a p)
-action-keeps (Action.discard a p) safe live = (safe, discard-live live a p)
-action-keeps (Action.store-clean a v p inside) safe live = (store-safe safe a v, store-clean-live live a v p inside)
-action-keeps (Action.store-committed a v p earlier inside) safe live = (store-safe safe a v, store-committed-live live a v p earlier inside)
-action-keeps (Action.store-transient a v p) safe live = (store-safe safe a v, store-transient-live live a v p)
-action-keeps Action.flush safe live = (flush-safe live safe, flush-live live)
-action-keeps (Action.write-out a p silent) safe live = (write-out-safe live safe a p silent, write-out-live live a p)
-action-keeps (Action.commit room) safe live = (commit-safe live safe, commit-live live room)
-action-keeps (Action.advance q after before empty scanned) safe live =
-    (advance-safe live q after before empty scanned, advance-live live q after before empty scanned)
-action-keeps Action.cut safe live = safe
-
-power-up-keeps : {N W : ℕ} {b : Durable} {g : Reference} {st : State} → 0 < W → PowerUp b g st → Safe N W b g → Invariant N W st
-power-up-keeps positive (PowerUp.restore a v told) safe = restore-safe safe a v told
-power-up-keeps positive (PowerUp.wake restored) safe = (wake-safe safe restored, wake-live safe restored positive)
-
-pub step-keeps : {N W : ℕ} {st st′ : State} → 0 < W → Step N W st st′ → Invariant N W st → Invariant N W st′
-step-keeps positive (Step.running s) (safe, live) = action-keeps s safe live
-step-keeps positive (Step.recovering s) safe = power-up-keeps positive s safe

@@ -1,12 +1,14 @@
 -- What the invariant says of one line and of one entry. Assumes nothing.
 use mathlib.Core.Path.{_≡_, refl, sym, _∙_}
 use mathlib.Core.List.{List}
-use Prim.Native.Nat.{ℕ, suc, _+_, _-_, _≤_, _<_}
+use Prim.Native.Nat.{ℕ, suc, _-_, _≤_, _<_}
 use native.Mathlib.Omega.{arith}
-use Rattle.history.specs.Every.{Every}
-use Rattle.history.specs.Machine.{Entry, recall, Told, update, Durable, Line, absent, clean, dirty, Volatile, Reference, loaded, undo, written, recovered}
-use Rattle.history.specs.Invariant.{ProperEntry, Safe, Fits, Held, Live, entries}
-use Rattle.history.specs.Recall.{here-or-there, update-same, update-other}
+use Rattle.base.specs.Every.{Every}
+use Rattle.history.specs.Machine.{Entry, recall, Told, Durable, Line, absent, clean, dirty, Volatile, undo, written, recovered}
+use Rattle.base.specs.Cases.{update}
+use Rattle.reference.specs.Machine.{Reference}
+use Rattle.history.specs.Invariant.{ProperEntry, Fits, Held, Live, entries}
+use Rattle.base.specs.Cases.{here-or-there, update-same, update-other}
 use Rattle.history.specs.Proper.{proper-every}
 
 -- ---- recovery of a line
@@ -46,15 +48,6 @@ module _ {N W : ℕ} {b : Durable} {w : Volatile} {g : Reference} (live : Live N
   pub held-as : (a : ℕ) {l : Line} → w .cache a ≡ l → Held b w g a l
   held-as a p = rw p at (live .held a)
 
-  -- a load gives the reference machine's line
-  pub load-reads : (a : ℕ) → loaded (b .memory a) (w .cache a) ≡ g .lines a
-  load-reads a = go (w .cache a) (live .held a)
-    where
-      go : (l : Line) → Held b w g a l → loaded (b .memory a) l ≡ g .lines a
-      go absent f = f
-      go (clean d) f = f .0
-      go (dirty t d) f = f .current
-
   -- Memory, undone back to epoch e, is its copy, if no store of e or before waits in the cache: why a flush is safe (e is P), and
   -- an advance (e is q).
   pub undone-memory : (a e : ℕ) → b .persisted ≤ e → e < w .running → ((t d : ℕ) → w .cache a ≡ dirty t d → e < t)
@@ -76,7 +69,3 @@ module _ {N W : ℕ} {b : Durable} {w : Volatile} {g : Reference} (live : Live N
   pub undo-proper : (a f d : ℕ) → a < N → b .persisted ≤ f → f < w .running
       → ProperEntry N (w .running - b .persisted) (suc (b .persisted)) (w .running) (undo (w .running) a f d)
   undo-proper a f d inside lo hi = record { inside = inside; nonempty = hi; narrow = omega arith; after = live .history .ahead; before = omega arith }
-
--- every entry that a cut leaves ends after P and not after P + W
-pub log-proper : {N W : ℕ} {b : Durable} {g : Reference} → Safe N W b g → Every (ProperEntry N W (suc (b .persisted)) (b .persisted + W)) (b .log)
-log-proper {N} {W} {b} safe = proper-every N W (suc (b .persisted)) (b .persisted + W) (b .log) (safe .proper)

@@ -1,4 +1,4 @@
--- The abstract cache log: what a cut leaves, what a cut loses, the reference machine that judges recovery, and the actions.
+-- The abstract cache log: what a cut leaves, what a cut loses, and the actions, each beside what the reference machine does.
 -- Memory, cache and copies are functions of the address: no slot, ring, length or packed word stands here.
 -- Quoted text is document 01's; "PiCL" names the paper of Nguyen and Wentzlaff. Assumes nothing.
 use mathlib.Core.Path.{_≡_}
@@ -7,6 +7,7 @@ use mathlib.Core.Bool.{Bool, cond, _&&_}
 use Prim.Native.Nat.{ℕ, suc, _+_, _<_}
 use lib.Dec.{ltb, leb, eqb}
 use lib.ListN.{drop}
+use Rattle.base.specs.Cases.{update}
 
 -- ---- the undo log
 
@@ -55,10 +56,6 @@ dropEnded q log = drop (ended q log) log
 
 -- ---- the states
 
--- f, but v at a
-unfoldable pub update : {A : Type 0} → (ℕ → A) → ℕ → A → ℕ → A
-update f a v b = cond (eqb b a) v (f b)
-
 -- What a cut leaves: the board memory. `persisted` is P, PiCL's PersistedEID.
 pub record Durable : Type 0 where
   pub persisted : ℕ
@@ -77,48 +74,7 @@ pub record Volatile : Type 0 where
   pub buffer : List Entry
   pub cache : ℕ → Line
 
--- The reference machine. Document 01 calls it the uncached loom: "N lines, running epoch e, persisted epoch p, copies of the
--- lines by epoch." It has neither cache nor log. Of the copies, those of ended epochs alone mean anything.
-pub record Reference : Type 0 where
-  pub running : ℕ
-  pub persisted : ℕ
-  pub lines : ℕ → ℕ
-  pub copies : ℕ → ℕ → ℕ
-
--- Both machines, with the current on or off.
-pub data State : Type 0 where
-  up : Durable → Volatile → Reference → State
-  down : Durable → Reference → State
-
--- ---- what the reference machine does
-
--- "Store: line a becomes the value."
-abbrev pub stores : Reference → (a v : ℕ) → Reference
-stores g a v = record { running = g .running; persisted = g .persisted; lines = update (g .lines) a v; copies = g .copies }
-
--- "Commit: the lines become copy e; e rises by one."
-abbrev pub commits : Reference → Reference
-commits g = record { running = suc (g .running); persisted = g .persisted; lines = g .lines; copies = update (g .copies) (g .running) (g .lines) }
-
--- "Scan with a value not 0: p is that value."
-abbrev pub persists : Reference → ℕ → Reference
-persists g q = record { running = g .running; persisted = q; lines = g .lines; copies = g .copies }
-
--- the copies up to epoch p; a later one reads as zeros
-unfoldable pub upTo : ℕ → (ℕ → ℕ → ℕ) → ℕ → ℕ → ℕ
-upTo p copies e a = cond (leb e p) (copies e a) 0
-
--- "Power-up: the lines become copy p; later copies are forgotten; e = p + 1."
-abbrev pub wakes : Reference → Reference
-wakes g = record { running = suc (g .persisted); persisted = g .persisted; lines = g .copies (g .persisted); copies = upTo (g .persisted) (g .copies) }
-
 -- ---- what the cached machine does
-
--- Load: "a held line gives its data"; another is filled from the word m that memory has.
-abbrev pub loaded : ℕ → Line → ℕ
-loaded m absent = m
-loaded m (clean d) = d
-loaded m (dirty t d) = d
 
 -- line a becomes l
 abbrev pub holding : Volatile → ℕ → Line → Volatile
@@ -179,41 +135,3 @@ recovered b a = recall (b .log) (b .persisted) a (b .memory a)
 -- To clear the log: memory is already what power-up makes of it.
 abbrev pub Restored : Durable → Type 0
 Restored b = (a : ℕ) → recovered b a ≡ b .memory a
-
--- ---- the actions
-
--- What a running machine with N lines does, where s − P is at most W (16 in document 01). An action makes at most one store that
--- recovery sees, so whatever a cut leaves, some list of actions has left. Each asks for no more than the proof needs.
-pub data Action (N W : ℕ) (b : Durable) (w : Volatile) (g : Reference) : State → Type 0 where
-  -- Load: "filled clean from memory"
-  fill : (a : ℕ) → w .cache a ≡ absent → Action N W b w g (up b (holding w a (clean (b .memory a))) g)
-  -- "an empty or clean slot costs no store"
-  discard : (a : ℕ) {d : ℕ} → w .cache a ≡ clean d → Action N W b w g (up b (holding w a absent) g)
-  -- Store: "a clean line makes the entry P, s with the old data"
-  store-clean : (a v : ℕ) {d : ℕ} → w .cache a ≡ clean d → a < N → Action N W b w g (up b (marked w a (b .persisted) d v) (stores g a v))
-  -- "a dirty line with tag t < s makes t, s". PiCL calls this line committed.
-  store-committed : (a v : ℕ) {t d : ℕ} → w .cache a ≡ dirty t d → t < w .running → a < N → Action N W b w g (up b (marked w a t d v) (stores g a v))
-  -- "tag s makes none". PiCL calls this line transient.
-  store-transient : (a v : ℕ) {d : ℕ} → w .cache a ≡ dirty (w .running) d → Action N W b w g (up b (holding w a (dirty (w .running) v)) (stores g a v))
-  -- at any time
-  flush : Action N W b w g (up (flushed b w) (unbuffered w) g)
-  -- "Writing out a line: if any buffered entry has its address, flush first; then one store to the line."
-  write-out : (a : ℕ) {t d : ℕ} → w .cache a ≡ dirty t d → Logged b w a → Action N W b w g (up (written b a d) (holding w a (clean d)) g)
-  -- refused as waiting where "s − P = 16"
-  commit : w .running < b .persisted + W → Action N W b w g (up b (nextEpoch w) (commits g))
-  -- Scan's end: "it flushes, then stores one control word with P = target". The target is any epoch that waits (request 8/13).
-  advance : (q : ℕ) → b .persisted < q → q < w .running → w .buffer ≡ [] → Scanned w q → Action N W b w g (up (advanced b q) w (persists g q))
-  -- the current goes, at any time
-  cut : Action N W b w g (down b g)
-
--- What power-up does, from a cut on.
-pub data PowerUp (b : Durable) (g : Reference) : State → Type 0 where
-  -- A store to a line that the log tells at P. Recovery has that line from the log, so any value is safe.
-  restore : (a v : ℕ) → Told (b .log) (b .persisted) a → PowerUp b g (down (written b a v) g)
-  -- the last store, "the control word"
-  wake : Restored b → PowerUp b g (up (cleared b) (awake b) (wakes g))
-
--- one action, with the current on or off
-pub data Step (N W : ℕ) : State → State → Type 0 where
-  running : {b : Durable} {w : Volatile} {g : Reference} {st : State} → Action N W b w g st → Step N W (up b w g) st
-  recovering : {b : Durable} {g : Reference} {st : State} → PowerUp b g st → Step N W (down b g) st

@@ -6,7 +6,7 @@ use Prim.Native.Nat.{ℕ, suc, _≤_}
 use native.Mathlib.Omega.{arith}
 use lib.Dec.{leb}
 use borrow.Author.Tests.{leb-false}
-use Rattle.history.specs.Every.{Every}
+use Rattle.base.specs.Every.{Every}
 use Rattle.history.specs.Machine.{Entry, recall, Silent, ended, dropEnded}
 use Rattle.history.specs.Invariant.{ProperEntry, ProperLog}
 use Rattle.history.specs.Recall.{coversAt-ended}

@@ -1,43 +1,15 @@
--- The laws of `update`, `recall` and `ended`. Assumes nothing.
-use mathlib.Core.Path.{_≡_, refl, sym, ap, subst}
+-- The laws of `recall` and `ended`. Assumes nothing.
+use mathlib.Core.Path.{_≡_, refl, ap}
 use mathlib.Core.Logic.{_≢_}
 use mathlib.Core.List.{List, [], _∷_, _++_}
 use mathlib.Core.Bool.{Bool, true, false, cond, _&&_}
 use Prim.Native.Nat.{ℕ, _≤_, _<_}
 use native.Mathlib.Omega.{arith}
-use lib.Dec.{ltb, leb, eqb}
+use lib.Dec.{leb, eqb}
 use lib.ListN.{length}
-use borrow.Author.Tests.{ltb-true, ltb-false, leb-true, eqb-true, eqb-false, lt-ltb, le-ltb, le-leb, eq-eqb, ne-eqb}
-use Rattle.history.specs.Every.{Every}
-use Rattle.history.specs.Machine.{Entry, covers, coversAt, recall, Silent, ended, dropEnded, update}
-
--- ---- by cases
-
--- a claim about every address, or every epoch: at a, and elsewhere
-pub here-or-there : (a : ℕ) (Q : ℕ → Type 0) → Q a → ((b : ℕ) → b ≢ a → Q b) → (b : ℕ) → Q b
-here-or-there a Q here there b = go (eqb b a) refl
-  where
-    go : (t : Bool) → eqb b a ≡ t → Q b
-    go true e = subst Q (sym (eqb-true b a e)) here
-    go false e = there b (eqb-false b a e)
-
-pub below-or-not : {C : Type 0} (m n : ℕ) → (m < n → C) → (n ≤ m → C) → C
-below-or-not {C} m n below not-below = go (ltb m n) refl
-  where
-    go : (t : Bool) → ltb m n ≡ t → C
-    go true e = below (ltb-true m n e)
-    go false e = not-below (ltb-false m n e)
-
--- ---- one place updated
-
-module _ {A : Type 0} (f : ℕ → A) (a : ℕ) (v : A) where
-  pub update-same : update f a v a ≡ v
-  unfolding update
-  update-same = rw (eq-eqb a a refl)
-
-  pub update-other : (b : ℕ) → b ≢ a → update f a v b ≡ f b
-  unfolding update
-  update-other b n = rw (ne-eqb b a n)
+use borrow.Author.Tests.{leb-true, lt-ltb, le-ltb, le-leb, eq-eqb, ne-eqb}
+use Rattle.base.specs.Every.{Every}
+use Rattle.history.specs.Machine.{Entry, covers, coversAt, recall, Silent, ended, dropEnded}
 
 -- ---- one entry
 

@@ -5,10 +5,13 @@ use mathlib.Core.List.{List, [], _∷_, _++_}
 use mathlib.Core.Bool.{Bool, true, false, cond}
 use Prim.Native.Nat.{ℕ, _<_}
 use lib.ListN.{take}
-use Rattle.history.specs.Machine.{Entry, covers, coversAt, recall, Told, update, Durable, Reference, wakes, written, cleared, awake, recovered, Restored}
+use Rattle.history.specs.Machine.{Entry, covers, coversAt, recall, Told, Durable, written, cleared, awake, recovered, Restored}
+use Rattle.base.specs.Cases.{update}
+use Rattle.reference.specs.Machine.{Reference, wakes}
 use Rattle.history.specs.Invariant.{Safe, Live}
-use Rattle.history.specs.Every.{Every, every-map, every-append, every-take}
-use Rattle.history.specs.Recall.{here-or-there, update-same, update-other, coversAt-own, coversAt-none, coversAt-away, recall-twice}
+use Rattle.base.specs.Every.{Every, every-map, every-append, every-take}
+use Rattle.base.specs.Cases.{here-or-there, update-same, update-other}
+use Rattle.history.specs.Recall.{coversAt-own, coversAt-none, coversAt-away, recall-twice}
 use Rattle.history.specs.Lines.{written-recovered}
 use Rattle.history.specs.Keeps.{wake-safe, wake-live}
 

@@ -7,9 +7,9 @@ use borrow.Author.Tests.{ltb-true, ltb-false, leb-true, leb-false, eqb-true, eqb
 use lib.Dec.{ltb, leb, eqb}
 use lib.Pow.{mod-pow-add}
 use Rattle.layout.specs.Limits.{wordBits, epochBits, addressBits, flagBits}
-use Rattle.layout.specs.Fields.{width, unpack}
+use Rattle.layout.specs.Fields.{width, unpack, decode}
 use Rattle.layout.specs.Words.{decodeEntry, decodeSlot}
-use Rattle.layout.specs.Laws.{decoded-fits-entry}
+use Rattle.layout.specs.Laws.{entry-laws}
 
 -- tests that hold together and fail together
 same : (t u : Bool) → (t ≡ true → u ≡ true) → (t ≡ false → u ≡ false) → t ≡ u
@@ -19,7 +19,7 @@ same false u holds fails = sym (fails refl)
 -- a word is at most the last that has the line before in its address
 pub address-below : (w lines : ℕ) → w < 2 ^ wordBits → 1 ≤ lines
     → leb w ((lines - 1) * 2 ^ (epochBits + epochBits) + (2 ^ (epochBits + epochBits) - 1)) ≡ ltb (decodeEntry w .address) lines
-unfolding decodeEntry unpack width
+unfolding decode unpack width
 address-below w lines h some =
     same _ _
     (λ e. let l = leb-true w _ e in lt-ltb _ lines (omega arith))
@@ -31,7 +31,7 @@ module _ (w : ℕ) where
   tillTop = w * 2 ^ (wordBits - epochBits) % 2 ^ wordBits
 
   till-alone : tillTop ≡ decodeEntry w .till * 2 ^ (wordBits - epochBits)
-  unfolding decodeEntry unpack width
+  unfolding decode unpack width
   till-alone = omega arith
 
   -- and with its ValidFrom shifted there, below which ValidTill stands
@@ -39,11 +39,11 @@ module _ (w : ℕ) where
   fromTop = w * 2 ^ addressBits % 2 ^ wordBits
 
   from-first : fromTop ≡ decodeEntry w .from * 2 ^ (wordBits - epochBits) + decodeEntry w .till * 2 ^ addressBits
-  unfolding decodeEntry unpack width
+  unfolding decode unpack width
   from-first = omega (arith, mod-pow-add w epochBits epochBits)
 
 pub till-at-most : (w epoch : ℕ) → epoch < 2 ^ epochBits → leb (tillTop w) (tillTop epoch) ≡ leb (decodeEntry w .till) epoch
-unfolding decodeEntry unpack width
+unfolding decode unpack width
 till-at-most w epoch h =
     same _ _
     (λ e. let l = leb-true (tillTop w) (tillTop epoch) e in le-leb (decodeEntry w .till) epoch (omega arith))
@@ -57,7 +57,7 @@ below-first from till h =
     (λ e. let l = ltb-false _ (till * 2 ^ (wordBits - epochBits)) e in le-ltb from till (omega arith))
 
 pub range : (w : ℕ) → ltb (fromTop w) (tillTop w) ≡ ltb (decodeEntry w .from) (decodeEntry w .till)
-range w = ap₂ ltb (from-first w) (till-alone w) ∙ below-first (decodeEntry w .from) (decodeEntry w .till) (decoded-fits-entry w .till)
+range w = ap₂ ltb (from-first w) (till-alone w) ∙ below-first (decodeEntry w .from) (decodeEntry w .till) (entry-laws .decoded-fits w .till)
 
 -- a slot word's two flags are its topmost fields
 abbrev bothFlags : ℕ
@@ -76,5 +76,5 @@ module _ (w : ℕ) (h : w < 2 ^ wordBits) where
   flags false dirty v d = lt-leb bothFlags w (omega (arith, eqb-false validBit 1 v))
 
   pub dirty-word : leb bothFlags w ≡ decodeSlot w .valid && decodeSlot w .dirty
-  unfolding decodeSlot unpack width
+  unfolding decode unpack width
   dirty-word = flags _ _ refl refl

@@ -22,6 +22,18 @@ unfoldable pub unpack : List ℕ → ℕ → List ℕ
 unpack [] x = []
 unpack (w ∷ ws) x = x / 2 ^ width ws % 2 ^ w ∷ unpack ws x
 
+-- A packed word that holds an A: its fields' widths, the values of an A in them, and the A that has such values.
+pub record Packing (A : Type 0) : Type 0 where
+  pub widths : List ℕ
+  pub fields : A → List ℕ
+  pub of : List ℕ → A
+
+unfoldable pub encode : {A : Type 0} → Packing A → A → ℕ
+encode p x = pack (p .widths) (p .fields x)
+
+unfoldable pub decode : {A : Type 0} → Packing A → ℕ → A
+decode p w = p .of (unpack (p .widths) w)
+
 -- a value for each width, and none too large for its field
 unfoldable pub Fit : List ℕ → List ℕ → Type 0
 Fit [] [] = Unit {0}

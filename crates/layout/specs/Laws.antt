@@ -1,94 +1,57 @@
 -- The laws of the packed words: what their users cite. Each word has the same four.
---     decode-encode     fields that fit come back from their word
---     encode-decode     every word of 64 bits comes back from its fields
---     decoded-fits      the fields of any word fit
---     encode-below      fields that fit make a word of 64 bits
-use Prim.Native.Nat.{ℕ, _^_, _<_}
-use mathlib.Core.Path.{_≡_, refl, sym, ap, ap₂, _∙_}
+use Prim.Native.Nat.{ℕ, zero, suc, _^_, _<_}
+use mathlib.Core.Path.{_≡_, refl, ap, ap₂, _∙_}
 use mathlib.Core.Bool.{Bool, true, false}
-use mathlib.Core.List.{List, _∷_}
+use mathlib.Core.List.{_∷_}
+use mathlib.Core.Logic.{_↔_}
 use native.Mathlib.Omega.{arith}
 use native.Mathlib.Nat.{mod-eq-of-lt}
-use borrow.Author.Tests.{eqb-true, eqb-false}
 use lib.Dec.{eqb}
 use lib.ListN.{drop}
-use Rattle.layout.specs.declared.Control.{Control}
-use Rattle.layout.specs.declared.Shape.{Shape}
-use Rattle.layout.specs.declared.Entry.{Entry}
-use Rattle.layout.specs.declared.Slot.{Slot}
 use Rattle.layout.specs.Limits.{wordBits, flagBits}
-use Rattle.layout.specs.Fields.{width, pack, unpack, Fit, pack-below, unpack-fit, pack-unpack, unpack-pack}
-use Rattle.layout.specs.Words.{bit, controlWidths, controlFields, controlOf, encodeControl, decodeControl, ControlFits}
-use Rattle.layout.specs.Words.{shapeWidths, shapeFields, shapeOf, encodeShape, decodeShape, ShapeFits}
-use Rattle.layout.specs.Words.{entryWidths, entryFields, entryOf, encodeEntry, decodeEntry, EntryFits}
-use Rattle.layout.specs.Words.{slotWidths, slotFields, slotOf, emptySlot, encodeSlot, decodeSlot, SlotFits}
+use Rattle.layout.specs.Fields.{width, pack, unpack, Packing, encode, decode, Fit, pack-below, unpack-fit, pack-unpack, unpack-pack}
+use Rattle.layout.specs.Words.{controlPacking, ControlFits, shapePacking, ShapeFits, entryPacking, EntryFits, bit, slotPacking, SlotFits}
 
--- a word of 64 bits, unpacked and packed again
-again : (ws : List ℕ) (w : ℕ) → w < 2 ^ width ws → pack ws (unpack ws w) ≡ w
-again ws w h = pack-unpack ws w ∙ mod-eq-of-lt h
+pub record Laws {A : Type 0} (p : Packing A) (Fits : A → Type 0) : Type 0 where
+  -- fields that fit come back from their word
+  pub decode-encode : (x : A) → Fits x → decode p (encode p x) ≡ x
+  -- every word of 64 bits comes back from its fields
+  pub encode-decode : (w : ℕ) → w < 2 ^ wordBits → encode p (decode p w) ≡ w
+  -- the fields of any word fit
+  pub decoded-fits : (w : ℕ) → Fits (decode p w)
+  -- fields that fit make a word of 64 bits
+  pub encode-below : (x : A) → Fits x → encode p x < 2 ^ wordBits
 
--- the control word
-control-fit : (x : Control) → ControlFits x → Fit controlWidths (controlFields x)
-unfolding Fit
-control-fit x h = (h .persisted, (h .start, (h .length, tt)))
+-- What a word has to show for them.
+pub record Lawful {A : Type 0} (p : Packing A) (Fits : A → Type 0) : Type 0 where
+  -- its fields fill it
+  pub whole : width (p .widths) ≡ wordBits
+  -- they fit where each has room in its width
+  pub fit : (x : A) → Fits x ↔ Fit (p .widths) (p .fields x)
+  -- an A comes back from its values, and a word's values come back from their A
+  pub of-fields : (x : A) → p .of (p .fields x) ≡ x
+  pub fields-of : (w : ℕ) → p .fields (p .of (unpack (p .widths) w)) ≡ unpack (p .widths) w
 
-pub decode-encode-control : (x : Control) → ControlFits x → decodeControl (encodeControl x) ≡ x
-unfolding encodeControl decodeControl
-decode-encode-control x h = ap controlOf (unpack-pack controlWidths (controlFields x) (control-fit x h))
+pub laws : {A : Type 0} {p : Packing A} {Fits : A → Type 0} → Lawful p Fits → Laws p Fits
+unfolding encode decode
+laws {p} l = record {
+  decode-encode = λ x h. ap (p .of) (unpack-pack (p .widths) (p .fields x) (l .fit x .0 h)) ∙ l .of-fields x;
+  encode-decode = λ w h. ap (pack (p .widths)) (l .fields-of w) ∙ pack-unpack (p .widths) w ∙ mod-eq-of-lt (rw (l .whole) h);
+  decoded-fits = λ w. l .fit _ .1 (rw (l .fields-of) (unpack-fit (p .widths) w));
+  encode-below = λ x h. rw (l .whole) at (pack-below (p .widths) (p .fields x) (l .fit x .0 h));
+}
 
-pub encode-decode-control : (w : ℕ) → w < 2 ^ wordBits → encodeControl (decodeControl w) ≡ w
-unfolding encodeControl decodeControl unpack width
-encode-decode-control w h = again controlWidths w h
+pub control-laws : Laws controlPacking ControlFits
+unfolding width unpack Fit
+control-laws = laws (record { whole = refl; fit = λ x. omega arith; of-fields = λ x. refl; fields-of = λ w. refl })
 
-pub decoded-fits-control : (w : ℕ) → ControlFits (decodeControl w)
-unfolding decodeControl unpack width
-decoded-fits-control w = omega arith
+pub shape-laws : Laws shapePacking ShapeFits
+unfolding width unpack Fit
+shape-laws = laws (record { whole = refl; fit = λ x. omega arith; of-fields = λ x. refl; fields-of = λ w. refl })
 
-pub encode-below-control : (x : Control) → ControlFits x → encodeControl x < 2 ^ wordBits
-unfolding encodeControl width
-encode-below-control x h = pack-below controlWidths (controlFields x) (control-fit x h)
-
--- the shape word
-shape-fit : (x : Shape) → ShapeFits x → Fit shapeWidths (shapeFields x)
-unfolding Fit
-shape-fit x h = (h .version, (h .lines, (h .entries, tt)))
-
-pub decode-encode-shape : (x : Shape) → ShapeFits x → decodeShape (encodeShape x) ≡ x
-unfolding encodeShape decodeShape
-decode-encode-shape x h = ap shapeOf (unpack-pack shapeWidths (shapeFields x) (shape-fit x h))
-
-pub encode-decode-shape : (w : ℕ) → w < 2 ^ wordBits → encodeShape (decodeShape w) ≡ w
-unfolding encodeShape decodeShape unpack width
-encode-decode-shape w h = again shapeWidths w h
-
-pub decoded-fits-shape : (w : ℕ) → ShapeFits (decodeShape w)
-unfolding decodeShape unpack width
-decoded-fits-shape w = omega arith
-
-pub encode-below-shape : (x : Shape) → ShapeFits x → encodeShape x < 2 ^ wordBits
-unfolding encodeShape width
-encode-below-shape x h = pack-below shapeWidths (shapeFields x) (shape-fit x h)
-
--- an entry's first word
-entry-fit : (x : Entry) → EntryFits x → Fit entryWidths (entryFields x)
-unfolding Fit
-entry-fit x h = (h .address, (h .from, (h .till, tt)))
-
-pub decode-encode-entry : (x : Entry) → EntryFits x → decodeEntry (encodeEntry x) ≡ x
-unfolding encodeEntry decodeEntry
-decode-encode-entry x h = ap entryOf (unpack-pack entryWidths (entryFields x) (entry-fit x h))
-
-pub encode-decode-entry : (w : ℕ) → w < 2 ^ wordBits → encodeEntry (decodeEntry w) ≡ w
-unfolding encodeEntry decodeEntry unpack width
-encode-decode-entry w h = again entryWidths w h
-
-pub decoded-fits-entry : (w : ℕ) → EntryFits (decodeEntry w)
-unfolding decodeEntry unpack width
-decoded-fits-entry w = omega arith
-
-pub encode-below-entry : (x : Entry) → EntryFits x → encodeEntry x < 2 ^ wordBits
-unfolding encodeEntry width
-encode-below-entry x h = pack-below entryWidths (entryFields x) (entry-fit x h)
+pub entry-laws : Laws entryPacking EntryFits
+unfolding width unpack Fit
+entry-laws = laws (record { whole = refl; fit = λ x. omega arith; of-fields = λ x. refl; fields-of = λ w. refl })
 
 -- the slot word, whose first two fields are flags
 bit-below : (b : Bool) → bit b < 2 ^ flagBits
@@ -100,47 +63,17 @@ bit-read true = refl
 bit-read false = refl
 
 bit-again : (v : ℕ) → v < 2 ^ flagBits → bit (eqb v 1) ≡ v
-bit-again v h = go (eqb v 1) refl
-  where
-    go : (t : Bool) → eqb v 1 ≡ t → bit t ≡ v
-    go true e = sym (eqb-true v 1 e)
-    go false e = let n : v ≡ 1 → ⊥ = eqb-false v 1 e in omega arith
+bit-again zero h = refl
+bit-again (suc zero) h = refl
+bit-again (suc (suc v)) h = absurd (omega arith)
 
-slot-fit : (x : Slot) → SlotFits x → Fit slotWidths (slotFields x)
-unfolding Fit
-slot-fit x h = (bit-below (x .valid), (bit-below (x .dirty), (h .address, (h .tag, (h .spare, tt)))))
-
--- a slot's own fields read back as the slot
-slot-same : (x : Slot) → slotOf (slotFields x) ≡ x
-slot-same x =
-    λ i. record {
-      valid = bit-read (x .valid) i;
-      dirty = bit-read (x .dirty) i;
-      address = x .address;
-      tag = x .tag;
-      spare = x .spare;
-    }
-
-pub decode-encode-slot : (x : Slot) → SlotFits x → decodeSlot (encodeSlot x) ≡ x
-unfolding encodeSlot decodeSlot
-decode-encode-slot x h = ap slotOf (unpack-pack slotWidths (slotFields x) (slot-fit x h)) ∙ slot-same x
-
-pub encode-decode-slot : (w : ℕ) → w < 2 ^ wordBits → encodeSlot (decodeSlot w) ≡ w
-unfolding encodeSlot decodeSlot unpack width Fit
-encode-decode-slot w h =
-    let f = unpack-fit slotWidths w in
-    ap₂ (λ (v d : ℕ). pack slotWidths (v ∷ d ∷ drop 2 (unpack slotWidths w))) (bit-again _ (f .0)) (bit-again _ (f .1 .0))
-    ∙ again slotWidths w h
-
-pub decoded-fits-slot : (w : ℕ) → SlotFits (decodeSlot w)
-unfolding decodeSlot unpack width
-decoded-fits-slot w = omega arith
-
-pub encode-below-slot : (x : Slot) → SlotFits x → encodeSlot x < 2 ^ wordBits
-unfolding encodeSlot width
-encode-below-slot x h = pack-below slotWidths (slotFields x) (slot-fit x h)
-
--- "A proper slot word is zero, or .."
-pub decode-zero-slot : decodeSlot 0 ≡ emptySlot
-unfolding decodeSlot unpack width
-decode-zero-slot = refl
+pub slot-laws : Laws slotPacking SlotFits
+unfolding width unpack Fit
+slot-laws = laws (record {
+  whole = refl;
+  fit = λ x. (λ h. omega (arith, bit-below (x .valid), bit-below (x .dirty)), omega arith);
+  of-fields = λ x i. record { valid = bit-read (x .valid) i; dirty = bit-read (x .dirty) i; address = x .address; tag = x .tag; spare = x .spare };
+  fields-of = λ w.
+      let f = unpack-fit (slotPacking .widths) w in
+      ap₂ (λ (v d : ℕ). v ∷ d ∷ drop 2 (unpack (slotPacking .widths) w)) (bit-again _ (f .0)) (bit-again _ (f .1 .0));
+})

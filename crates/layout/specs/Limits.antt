@@ -1,4 +1,5 @@
--- The paper's widths and limits. Each number has its name here and nowhere else.
+-- The paper's widths and limits. The constants of the code have the same values: a contract that names one of these is proved of code
+-- that uses the constant.
 use Prim.Native.Nat.{ℕ, _+_, _-_, _*_, _^_}
 
 -- "All words are 64 bits, unsigned."

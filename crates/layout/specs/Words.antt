@@ -2,7 +2,7 @@
 use Prim.Native.Nat.{ℕ, _^_, _<_}
 use mathlib.Core.Path.{_≡_}
 use mathlib.Core.Bool.{Bool, true, false}
-use mathlib.Core.List.{List, [], _∷_}
+use mathlib.Core.List.{[], _∷_}
 use lib.Dec.{eqb}
 use lib.ListN.{getD}
 use Rattle.layout.specs.declared.Control.{Control}
@@ -10,7 +10,7 @@ use Rattle.layout.specs.declared.Shape.{Shape}
 use Rattle.layout.specs.declared.Entry.{Entry}
 use Rattle.layout.specs.declared.Slot.{Slot}
 use Rattle.layout.specs.Limits.{epochBits, addressBits, ringBits, versionBits, sizeBits, flagBits, spareBits}
-use Rattle.layout.specs.Fields.{pack, unpack}
+use Rattle.layout.specs.Fields.{Packing, encode, decode}
 
 -- What a decoding gives: the fields that its definition gives, each within its width.
 pub record Decoded {A : Type 0} (Fits : A → Type 0) (fields r : A) : Type 0 where
@@ -18,20 +18,18 @@ pub record Decoded {A : Type 0} (Fits : A → Type 0) (fields r : A) : Type 0 wh
   pub fits : Fits r
 
 -- "Control word: P 24, log start 20, log length 20."
-abbrev pub controlWidths : List ℕ
-controlWidths = epochBits ∷ ringBits ∷ ringBits ∷ []
+abbrev pub controlPacking : Packing Control
+controlPacking = record {
+  widths = epochBits ∷ ringBits ∷ ringBits ∷ [];
+  fields = λ c. c .persisted ∷ c .start ∷ c .length ∷ [];
+  of = λ vs. record { persisted = getD vs 0 0; start = getD vs 1 0; length = getD vs 2 0 };
+}
 
-abbrev pub controlFields : Control → List ℕ
-controlFields c = c .persisted ∷ c .start ∷ c .length ∷ []
+abbrev pub encodeControl : Control → ℕ
+encodeControl = encode controlPacking
 
-abbrev pub controlOf : List ℕ → Control
-controlOf vs = record { persisted = getD vs 0 0; start = getD vs 1 0; length = getD vs 2 0 }
-
-unfoldable pub encodeControl : Control → ℕ
-encodeControl c = pack controlWidths (controlFields c)
-
-unfoldable pub decodeControl : ℕ → Control
-decodeControl w = controlOf (unpack controlWidths w)
+abbrev pub decodeControl : ℕ → Control
+decodeControl = decode controlPacking
 
 pub record ControlFits (c : Control) : Type 0 where
   pub persisted : c .persisted < 2 ^ epochBits
@@ -39,20 +37,18 @@ pub record ControlFits (c : Control) : Type 0 where
   pub length : c .length < 2 ^ ringBits
 
 -- "Shape word: zero 24, N 20, L 20." The first field tells one board format from another.
-abbrev pub shapeWidths : List ℕ
-shapeWidths = versionBits ∷ sizeBits ∷ sizeBits ∷ []
+abbrev pub shapePacking : Packing Shape
+shapePacking = record {
+  widths = versionBits ∷ sizeBits ∷ sizeBits ∷ [];
+  fields = λ s. s .version ∷ s .lines ∷ s .entries ∷ [];
+  of = λ vs. record { version = getD vs 0 0; lines = getD vs 1 0; entries = getD vs 2 0 };
+}
 
-abbrev pub shapeFields : Shape → List ℕ
-shapeFields s = s .version ∷ s .lines ∷ s .entries ∷ []
+abbrev pub encodeShape : Shape → ℕ
+encodeShape = encode shapePacking
 
-abbrev pub shapeOf : List ℕ → Shape
-shapeOf vs = record { version = getD vs 0 0; lines = getD vs 1 0; entries = getD vs 2 0 }
-
-unfoldable pub encodeShape : Shape → ℕ
-encodeShape s = pack shapeWidths (shapeFields s)
-
-unfoldable pub decodeShape : ℕ → Shape
-decodeShape w = shapeOf (unpack shapeWidths w)
+abbrev pub decodeShape : ℕ → Shape
+decodeShape = decode shapePacking
 
 pub record ShapeFits (s : Shape) : Type 0 where
   pub version : s .version < 2 ^ versionBits
@@ -60,30 +56,25 @@ pub record ShapeFits (s : Shape) : Type 0 where
   pub entries : s .entries < 2 ^ sizeBits
 
 -- "L log entries of two words: address 16, ValidFrom 24, ValidTill 24; then the old data." This is the first word.
-abbrev pub entryWidths : List ℕ
-entryWidths = addressBits ∷ epochBits ∷ epochBits ∷ []
+abbrev pub entryPacking : Packing Entry
+entryPacking = record {
+  widths = addressBits ∷ epochBits ∷ epochBits ∷ [];
+  fields = λ e. e .address ∷ e .from ∷ e .till ∷ [];
+  of = λ vs. record { address = getD vs 0 0; from = getD vs 1 0; till = getD vs 2 0 };
+}
 
-abbrev pub entryFields : Entry → List ℕ
-entryFields e = e .address ∷ e .from ∷ e .till ∷ []
+abbrev pub encodeEntry : Entry → ℕ
+encodeEntry = encode entryPacking
 
-abbrev pub entryOf : List ℕ → Entry
-entryOf vs = record { address = getD vs 0 0; from = getD vs 1 0; till = getD vs 2 0 }
-
-unfoldable pub encodeEntry : Entry → ℕ
-encodeEntry e = pack entryWidths (entryFields e)
-
-unfoldable pub decodeEntry : ℕ → Entry
-decodeEntry w = entryOf (unpack entryWidths w)
+abbrev pub decodeEntry : ℕ → Entry
+decodeEntry = decode entryPacking
 
 pub record EntryFits (e : Entry) : Type 0 where
   pub address : e .address < 2 ^ addressBits
   pub from : e .from < 2 ^ epochBits
   pub till : e .till < 2 ^ epochBits
 
--- "per slot a slot word (valid 1, dirty 1, address 16, tag 24, zero 22)"
-abbrev pub slotWidths : List ℕ
-slotWidths = flagBits ∷ flagBits ∷ addressBits ∷ epochBits ∷ spareBits ∷ []
-
+-- A flag as a field of one bit has it.
 abbrev pub bit : Bool → ℕ
 bit true = 1
 bit false = 0
@@ -92,29 +83,21 @@ pub record IsBit (flag : Bool) (r : ℕ) : Type 0 where
   pub is : r ≡ bit flag
   pub below : r < 2 ^ flagBits
 
-abbrev pub slotFields : Slot → List ℕ
-slotFields s = bit (s .valid) ∷ bit (s .dirty) ∷ s .address ∷ s .tag ∷ s .spare ∷ []
+-- "per slot a slot word (valid 1, dirty 1, address 16, tag 24, zero 22)"
+abbrev pub slotPacking : Packing Slot
+slotPacking = record {
+  widths = flagBits ∷ flagBits ∷ addressBits ∷ epochBits ∷ spareBits ∷ [];
+  fields = λ s. bit (s .valid) ∷ bit (s .dirty) ∷ s .address ∷ s .tag ∷ s .spare ∷ [];
+  of = λ vs. record { valid = eqb (getD vs 0 0) 1; dirty = eqb (getD vs 1 0) 1; address = getD vs 2 0; tag = getD vs 3 0; spare = getD vs 4 0 };
+}
 
-abbrev pub slotOf : List ℕ → Slot
-slotOf vs =
-    record {
-      valid = eqb (getD vs 0 0) 1;
-      dirty = eqb (getD vs 1 0) 1;
-      address = getD vs 2 0;
-      tag = getD vs 3 0;
-      spare = getD vs 4 0;
-    }
+abbrev pub encodeSlot : Slot → ℕ
+encodeSlot = encode slotPacking
 
-unfoldable pub encodeSlot : Slot → ℕ
-encodeSlot s = pack slotWidths (slotFields s)
-
-unfoldable pub decodeSlot : ℕ → Slot
-decodeSlot w = slotOf (unpack slotWidths w)
+abbrev pub decodeSlot : ℕ → Slot
+decodeSlot = decode slotPacking
 
 pub record SlotFits (s : Slot) : Type 0 where
   pub address : s .address < 2 ^ addressBits
   pub tag : s .tag < 2 ^ epochBits
   pub spare : s .spare < 2 ^ spareBits
-
-abbrev pub emptySlot : Slot
-emptySlot = record { valid = false; dirty = false; address = 0; tag = 0; spare = 0 }

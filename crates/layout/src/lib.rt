@@ -5,8 +5,8 @@ ghost use Rattle.layout.specs.Words.{encodeControl, decodeControl, Contr
 ghost use Rattle.layout.specs.Words.{encodeShape, decodeShape, ShapeFits};
 ghost use Rattle.layout.specs.Words.{encodeEntry, decodeEntry, EntryFits};
 ghost use Rattle.layout.specs.Words.{encodeSlot, decodeSlot, SlotFits, IsBit};
-ghost use Rattle.layout.specs.Limits.{epochBits, mostLines, mostEntries};
-ghost use Rattle.layout.specs.Memory.{linesAt};
+ghost use Rattle.layout.specs.Limits.{epochBits, mostLines, mostEntries, mostSlots};
+ghost use Rattle.layout.specs.Memory.{linesAt, boardWords, bufferWords, workWords, slotsOf, bufferAt};
 ghost use Prim.Native.Nat.{_^_, _<_, _≤_};
 ghost use lib.Dec.{ltb, leb};
 ghost use mathlib.Core.Bool.{_&&_};
@@ -73,11 +73,51 @@ pub fn lines_at(entries: u64) -> usize
     LOG_AT + ENTRY_WORDS * entries as usize
 }
 
+// The words of a board of so many lines, whose log has place for so many entries.
+pub fn board_words(lines: u64, entries: u64) -> usize
+    requires { ⌜ lines ≤ mostLines ⌝ }
+    requires { ⌜ entries ≤ mostEntries ⌝ }
+    ensures { λ r. ⌜ r ≡ boardWords lines entries ⌝ }
+{
+    lines_at(entries) + lines as usize
+}
+
 // A slot of the work memory: its slot word, then the line's data.
 pub const SLOT_WORDS: usize = 2;
 
-// The words of the buffer, which is the end of the work memory.
+// The buffer of undo entries, behind the slots.
 pub const BUFFER_WORDS: usize = ENTRY_WORDS * BUFFER_PLACES;
+
+// The words of a work memory with one slot, and with the most.
+pub const LEAST_WORK: usize = SLOT_WORDS + BUFFER_WORDS;
+
+pub const MOST_WORK: usize = SLOT_WORDS * MOST_SLOTS + BUFFER_WORDS;
+
+// The words of a work memory of so many slots.
+pub fn work_words(slots: usize) -> usize
+    requires { ⌜ slots ≤ mostSlots ⌝ }
+    ensures { λ r. ⌜ r ≡ workWords slots ⌝ }
+{
+    SLOT_WORDS * slots + BUFFER_WORDS
+}
+
+// The number of slots of a work memory of so many words.
+pub fn slots_of(words: usize) -> usize
+    ensures { λ r. ⌜ r ≡ slotsOf words ⌝ }
+{
+    if words < BUFFER_WORDS {
+        return 0;
+    }
+    (words - BUFFER_WORDS) / SLOT_WORDS
+}
+
+// Where the buffer of a work memory of so many words begins.
+pub fn buffer_at(words: usize) -> usize
+    requires { ⌜ bufferWords ≤ words ⌝ }
+    ensures { λ r. ⌜ r ≡ bufferAt words ⌝ }
+{
+    words - BUFFER_WORDS
+}
 
 // The control word: the persisted epoch, and where in the ring the log starts and how many entries it has.
 pub struct Control {

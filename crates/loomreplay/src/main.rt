@@ -1,50 +1,47 @@
 // Replays a script from standard input on a bench of its own, and prints a line for each call. The script may be of any length,
 // and so may its lines: input and output go through buffers of a fixed size.
-ghost use Prim.Native.Nat.{_+_, _≤_};
+ghost use mathlib.Core.Path.{_≡_};
+ghost use Prim.Native.Nat.{_<_, _≤_};
 ghost use lib.ListN.{length};
-ghost use Rattle.replay.specs.Contracts.{benchBoard, benchWork};
+ghost use Rattle.benchboard.specs.Sizes.{benchBoard, benchWork};
+ghost use Rattle.loomreplay.specs.Pieces.{Pieced};
 ghost use Rattle.transcript.specs.Printing.{longest};
-ghost use Rattle.transcript.specs.Session.{Ready, Roomy};
+ghost use Rattle.transcript.specs.Session.{Ready, emptiedSession};
+use benchboard::BOARD_WORDS;
+use benchboard::WORK_WORDS;
 use libc::STDIN_FILENO;
 use libc::STDOUT_FILENO;
-use replay::BOARD_WORDS;
-use replay::WORK_WORDS;
-use transcript::LONGEST_LINE;
+use transcript::Fed;
 use transcript::Session;
 
-// Writes out what has been printed, where the next line may not fit behind it.
-fn make_room(session: Session, out: &[u8]) -> Session
+// Writes out what has been printed.
+fn write_out(session: Session, out: &[u8]) -> Session
     requires { ⌜ session .used ≤ length (now out) ⌝ }
-    ensures { λ r. ⌜ Roomy session (now (out .entry)) r ⌝ }
+    ensures { λ r. ⌜ r ≡ emptiedSession session ⌝ }
 {
     let used = session.used;
-    if out.len() - used >= LONGEST_LINE {
-        return session;
-    }
     io::write_all(STDOUT_FILENO, &out[0..used]);
     session.emptied()
 }
 
-fn replay_byte(
+// As much of the input as there is room for, which is some of it.
+fn replay_piece(
     session: Session,
-    byte: u8,
+    input: &[u8],
     board: &mut [u64],
     work: &mut [u64],
     out: &mut [u8],
-) -> Session
+) -> Fed
     requires { ⌜ Ready session (now board) (now work) (now out) ⌝ }
-    ensures { λ r. ⌜ Ready r (now (board .exit)) (now (work .exit)) (now (out .exit)) ⌝ }
+    requires { ⌜ 0 < length (now input) ⌝ }
+    ensures { λ r. ⌜ Pieced (now (input .entry)) (now (board .exit)) (now (work .exit)) (now (out .exit)) r ⌝ }
 {
-    let fed = transcript::feed(session, byte, board, work, out);
-    make_room(fed, out)
-}
-
-fn replay_end(session: Session, board: &mut [u64], work: &mut [u64], out: &mut [u8]) -> Session
-    requires { ⌜ Ready session (now board) (now work) (now out) ⌝ }
-    ensures { λ r. ⌜ Ready r (now (board .exit)) (now (work .exit)) (now (out .exit)) ⌝ }
-{
-    let finished = transcript::finish(session, board, work, out);
-    make_room(finished, out)
+    let fed = transcript::feed_bytes(session, input, board, work, out);
+    let after = fed.session;
+    Fed {
+        session: write_out(after, out),
+        taken: fed.taken,
+    }
 }
 
 fn replay_bytes(
@@ -58,12 +55,21 @@ fn replay_bytes(
     ensures { λ r. ⌜ Ready r (now (board .exit)) (now (work .exit)) (now (out .exit)) ⌝ }
 {
     let mut s = session;
-    let mut i = 0;
-    while i < input.len() {
-        s = replay_byte(s, input[i], board, work, out);
-        i += 1;
+    let mut at = 0;
+    while at < input.len() {
+        let fed = replay_piece(s, &input[at..], board, work, out);
+        s = fed.session;
+        at += fed.taken;
     }
     s
+}
+
+fn replay_end(session: Session, board: &mut [u64], work: &mut [u64], out: &mut [u8]) -> Session
+    requires { ⌜ Ready session (now board) (now work) (now out) ⌝ }
+    ensures { λ r. ⌜ Ready r (now (board .exit)) (now (work .exit)) (now (out .exit)) ⌝ }
+{
+    let finished = transcript::finish(session, board, work, out);
+    write_out(finished, out)
 }
 
 // Reads once. Where nothing comes the script is at its end.
@@ -95,8 +101,6 @@ fn replay_all(board: &mut [u64], work: &mut [u64], out: &mut [u8])
         session = replay_some(session, board, work, out);
         turns -= 1;
     }
-    let used = session.used;
-    io::write_all(STDOUT_FILENO, &out[0..used]);
 }
 
 fn main() {

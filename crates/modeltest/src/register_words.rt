@@ -12,11 +12,7 @@ pub const BUFFERED: usize = 1;
 pub const CURSOR: usize = 2;
 
 pub fn library_registers(words: [u64; REGISTERS]) -> Registers {
-    Registers {
-        epoch: words[EPOCH],
-        buffered: words[BUFFERED],
-        cursor: words[CURSOR],
-    }
+    Registers::given(words[EPOCH], words[BUFFERED], words[CURSOR])
 }
 
 pub fn library_words(r: Registers) -> [u64; REGISTERS] {

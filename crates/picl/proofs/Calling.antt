@@ -1,7 +1,7 @@
 -- The calls: one law for each way out of a function.
 use Prim.Native.Nat.{ℕ, _+_, _*_, _<_, _≤_}
 use mathlib.Core.Path.{_≡_, refl, ap}
-use mathlib.Core.List.{List}
+use mathlib.Core.List.{List, _++_}
 use borrow.Author.Tests.{lt-ltb, le-ltb}
 use lib.ListN.{length, getD}
 use Rattle.board.specs.declared.Meter.{Meter}
@@ -11,24 +11,25 @@ use Rattle.layout.specs.Memory.{dataIn}
 use Rattle.layout.specs.Words.{bit, IsBit}
 use Rattle.status.specs.declared.Status.{Status}
 use Rattle.status.specs.declared.Status.the-variants as status
-use Rattle.undo.specs.declared.Undo.{Undo}
+use Rattle.undo.specs.declared.LogState.{LogState}
 use Rattle.undo.specs.declared.Progress.{Progress}
-use Rattle.cache.specs.declared.Spot.{Spot}
-use Rattle.cache.specs.Effects.{loading, storing, evicting, visiting, persisting}
-use Rattle.cache.specs.Contracts.{Acts, Carries}
-use Rattle.cache.specs.Slots.{spotOf}
+use Rattle.slots.specs.declared.Spot.{Spot}
+use Rattle.steps.specs.Effects.{loading, storing, evicting, scanTarget, visiting, persisting}
+use Rattle.steps.specs.Contracts.{Acts, Carries}
+use Rattle.slots.specs.Slots.{spotOf}
 use Rattle.checks.specs.declared.Checked.{Checked}
 use Rattle.checks.specs.declared.Checked.the-variants.{Refused, Passed}
 use Rattle.checks.specs.declared.Registers.{Registers}
 use Rattle.checks.specs.declared.View.{View}
 use Rattle.checks.specs.Laws.{line-running, line-named, line-proper, store-line, store-room, running}
 use Rattle.checks.specs.Laws.{scan-running, scan-proper, scan-waiting}
-use Rattle.checks.specs.Refusals.{tested, commitRows, runningChecked, lineChecked, storeChecked, commitChecked, scanChecked}
-use Rattle.checks.specs.Registers.{buffering, committed, stepped, restarted}
+use Rattle.checks.specs.Refusals.{tested, bufferRows, epochRows, runningChecked, lineChecked, storeChecked, commitChecked, scanChecked}
+use Rattle.checks.specs.Registers.{leaving, committed, stepped, restarted}
 use Rattle.checks.specs.Stages.{commit-passed}
 use Rattle.checks.specs.View.{undoOf}
 use Rattle.picl.specs.declared.Answer.{Answer}
-use Rattle.picl.specs.Answers.{Outcome, due, refusal}
+use Rattle.picl.specs.Answers.{Outcome, answer, refusal}
+use Rattle.board.specs.Verdict.{due}
 use Rattle.picl.specs.Calls.{loadAt, loadOutcome, storeAt, storeOutcome, evictAt, evictOutcome}
 use Rattle.picl.specs.Calls.{judged, carried, commitOutcome, commitVerdict, scanOutcome}
 use Rattle.picl.specs.Contracts.{Answers, Finishes, LinePassed, StorePassed, ScanPassed}
@@ -44,9 +45,9 @@ module _ (allowance : ℕ) (board work : List ℕ) (r : Registers) (k : Checked)
   judged-passed v board′ work′ a e x = rw (← e) x
 
 -- load
-pub load-done : (allowance : ℕ) (board work : List ℕ) (r : Registers) (u : Undo) (address : ℕ) (spot : Spot) (m : Meter) (p : Progress)
+pub load-done : (allowance : ℕ) (board work : List ℕ) (r : Registers) (u : LogState) (address : ℕ) (spot : Spot) (m : Meter) (p : Progress)
     (board′ work′ work″ : List ℕ) (after : Registers) (a : Answer) → m ≡ full allowance
-    → Carries board m (loading board u work address spot) board′ work′ p → length work′ ≡ length work → after ≡ buffering r (p .undo .buffered)
+    → Carries board m (loading board u work address spot) board′ work′ p → length work′ ≡ length work → after ≡ leaving r (p .undo)
     → Finishes work′ (p .meter) allowance (getD work′ (2 * spot .slot + 1) 0) after work″ a
     → Answers allowance r board work (due (loadAt board work r u address spot)) board′ work″ a
 unfolding loadAt
@@ -55,7 +56,7 @@ load-done allowance board work r u address spot m p board′ work′ work″ aft
     carries-answers allowance r board work e m p board′ work′ work″ (dataIn (e .work) (spot .slot)) r after
     (getD work′ (2 * spot .slot + 1) 0) a new c l (λ x. ap (λ (w : List ℕ). getD w (2 * spot .slot + 1) 0) x) q f
 
-pub load-found : (allowance : ℕ) (board work : List ℕ) (r : Registers) (address : ℕ) (v : View) (spot : Spot) (u : Undo) (board′ work′ : List ℕ)
+pub load-found : (allowance : ℕ) (board work : List ℕ) (r : Registers) (address : ℕ) (v : View) (spot : Spot) (u : LogState) (board′ work′ : List ℕ)
     (a : Answer) → spot ≡ spotOf work (v .slots) address → u ≡ undoOf v r
     → Answers allowance r board work (due (loadAt board work r u address spot)) board′ work′ a
     → Answers allowance r board work (due (loadOutcome board work r address v)) board′ work′ a
@@ -73,9 +74,9 @@ line-told board work r address v p =
     }
 
 -- evict
-pub evict-done : (allowance : ℕ) (board work : List ℕ) (r : Registers) (u : Undo) (spot : Spot) (m : Meter) (p : Progress)
+pub evict-done : (allowance : ℕ) (board work : List ℕ) (r : Registers) (u : LogState) (spot : Spot) (m : Meter) (p : Progress)
     (board′ work′ work″ : List ℕ) (after : Registers) (held : ℕ) (a : Answer) → m ≡ full allowance
-    → Acts board m (evicting u work spot) board′ work′ p → length work′ ≡ length work → after ≡ buffering r (p .undo .buffered)
+    → Acts board m (evicting u work spot) board′ work′ p → length work′ ≡ length work → after ≡ leaving r (p .undo)
     → IsBit (spot .held) held → Finishes work′ (p .meter) allowance held after work″ a
     → Answers allowance r board work (due (evictAt work r u spot)) board′ work″ a
 unfolding evictAt
@@ -83,7 +84,7 @@ evict-done allowance board work r u spot m p board′ work′ work″ after held
     carries-answers allowance r board work (evicting u work spot) m p board′ work′ work″ (bit (spot .held)) r after held a new (acted c) l
     (λ x. b .is) q f
 
-pub evict-found : (allowance : ℕ) (board work : List ℕ) (r : Registers) (address : ℕ) (v : View) (spot : Spot) (u : Undo) (board′ work′ : List ℕ)
+pub evict-found : (allowance : ℕ) (board work : List ℕ) (r : Registers) (address : ℕ) (v : View) (spot : Spot) (u : LogState) (board′ work′ : List ℕ)
     (a : Answer) → spot ≡ spotOf work (v .slots) address → u ≡ undoOf v r
     → Answers allowance r board work (due (evictAt work r u spot)) board′ work′ a
     → Answers allowance r board work (due (evictOutcome work r address v)) board′ work′ a
@@ -91,17 +92,17 @@ unfolding evictOutcome
 evict-found allowance board work r address v spot u board′ work′ a at is x = rw (at, is) at x
 
 -- store
-pub store-done : (allowance : ℕ) (board work : List ℕ) (r : Registers) (u : Undo) (address : ℕ) (spot : Spot) (value : ℕ) (m : Meter) (p : Progress)
+pub store-done : (allowance : ℕ) (board work : List ℕ) (r : Registers) (u : LogState) (address : ℕ) (spot : Spot) (value : ℕ) (m : Meter) (p : Progress)
     (board′ work′ work″ : List ℕ) (after : Registers) (a : Answer) → m ≡ full allowance
     → Carries board m (storing board u work address spot (r .epoch) value) board′ work′ p → length work′ ≡ length work
-    → after ≡ buffering r (p .undo .buffered) → Finishes work′ (p .meter) allowance 0 after work″ a
+    → after ≡ leaving r (p .undo) → Finishes work′ (p .meter) allowance 0 after work″ a
     → Answers allowance r board work (due (storeAt board work r u address spot value)) board′ work″ a
 unfolding storeAt
 store-done allowance board work r u address spot value m p board′ work′ work″ after a new c l q f =
     carries-answers allowance r board work (storing board u work address spot (r .epoch) value) m p board′ work′ work″ 0 r after 0 a new c l
     (λ x. refl) q f
 
-pub store-found : (allowance : ℕ) (board work : List ℕ) (r : Registers) (address value : ℕ) (v : View) (spot : Spot) (u : Undo)
+pub store-found : (allowance : ℕ) (board work : List ℕ) (r : Registers) (address value : ℕ) (v : View) (spot : Spot) (u : LogState)
     (board′ work′ : List ℕ) (a : Answer) → spot ≡ spotOf work (v .slots) address → u ≡ undoOf v r
     → Answers allowance r board work (due (storeAt board work r u address spot value)) board′ work′ a
     → Answers allowance r board work (due (storeOutcome board work r address value v)) board′ work′ a
@@ -121,17 +122,17 @@ pub commit-within : (board work : List ℕ) (r : Registers) (v : View) → Passe
 commit-within board work r v p = running board work r v p .epoch-most
 
 pub commit-answered : (allowance : ℕ) (board work : List ℕ) (r : Registers) (v w : View) (k : Checked) (a : Answer)
-    → Passed v ≡ runningChecked board work r → k ≡ tested (commitRows v work r) v → k ≡ Passed w → a ≡ refusal status.Ok 0 (committed r)
-    → Answers allowance r board work (commitVerdict board work r) board work a
+    → Passed v ≡ runningChecked board work r → k ≡ tested (bufferRows v work r ++ epochRows v r) v → k ≡ Passed w
+    → a ≡ answer status.Ok 0 0 (committed r) → Answers allowance r board work (commitVerdict board work r) board work a
 unfolding commitVerdict commitOutcome
 commit-answered allowance board work r v w k a run is e x =
     judged-passed allowance board work r (commitChecked board work r) (λ u. commitOutcome work r) v board work a
     (commit-passed board work r v run k is w e) (answers-nothing allowance r board work (committed r) a x)
 
 -- scan
-module _ (allowance : ℕ) (board work : List ℕ) (r next after : Registers) (u : Undo) (target : ℕ) (m : Meter) (p : Progress)
+module _ (allowance : ℕ) (board work : List ℕ) (r next after : Registers) (u : LogState) (target : ℕ) (m : Meter) (p : Progress)
     (board′ work′ work″ : List ℕ) (a : Answer) (new : m ≡ full allowance) (same : length work′ ≡ length work)
-    (counts : after ≡ buffering next (p .undo .buffered)) where
+    (counts : after ≡ leaving next (p .undo)) where
   pub visit-done : (k : ℕ) → Acts board m (visiting u work k target) board′ work′ p → Finishes work′ (p .meter) allowance 0 after work″ a
       → Answers allowance r board work (due (carried 0 next (visiting u work k target))) board′ work″ a
   visit-done k c f =
@@ -143,19 +144,19 @@ module _ (allowance : ℕ) (board work : List ℕ) (r next after : Registers) (u
       carries-answers allowance r board work (persisting board u work target) m p board′ work′ work″ target next after target a new c same
       (λ x. refl) counts f
 
-module _ (allowance : ℕ) (board work : List ℕ) (r next : Registers) (v : View) (u : Undo) (board′ work′ : List ℕ) (a : Answer)
-    (is : u ≡ undoOf v r) where
+module _ (allowance : ℕ) (board work : List ℕ) (r next : Registers) (v : View) (u : LogState) (target : ℕ) (board′ work′ : List ℕ) (a : Answer)
+    (is : u ≡ undoOf v r) (aim : target ≡ scanTarget (v .control .persisted)) where
   pub scan-visits : r .cursor < v .slots → next ≡ stepped r
-      → Answers allowance r board work (due (carried 0 next (visiting u work (r .cursor) (v .control .persisted + 1)))) board′ work′ a
+      → Answers allowance r board work (due (carried 0 next (visiting u work (r .cursor) target))) board′ work′ a
       → Answers allowance r board work (due (scanOutcome board work r v)) board′ work′ a
   unfolding scanOutcome
-  scan-visits h n x = rw (lt-ltb (r .cursor) (v .slots) h) (rw (n, is) at x)
+  scan-visits h n x = rw (lt-ltb (r .cursor) (v .slots) h) (rw (n, is, aim) at x)
 
   pub scan-persists : v .slots ≤ r .cursor → next ≡ restarted r
-      → Answers allowance r board work (due (carried (v .control .persisted + 1) next (persisting board u work (v .control .persisted + 1)))) board′ work′ a
+      → Answers allowance r board work (due (carried target next (persisting board u work target))) board′ work′ a
       → Answers allowance r board work (due (scanOutcome board work r v)) board′ work′ a
   unfolding scanOutcome
-  scan-persists h n x = rw (le-ltb (r .cursor) (v .slots) h) (rw (n, is) at x)
+  scan-persists h n x = rw (le-ltb (r .cursor) (v .slots) h) (rw (n, is, aim) at x)
 
 pub scan-told : (board work : List ℕ) (r : Registers) (v : View) → Passed v ≡ scanChecked board work r → ScanPassed board work r v
 scan-told board work r v p =

@@ -12,14 +12,14 @@ use Rattle.board.specs.Stores.{full, applied, Ran, wasCut}
 use Rattle.board.specs.Outcome.{ran-board, ran-within, ran-cut-off, ran-whole, ran-count, allowed-full}
 use Rattle.status.specs.declared.Status.{Status}
 use Rattle.status.specs.declared.Status.the-variants as status
-use Rattle.undo.specs.declared.Undo.{Undo}
 use Rattle.undo.specs.declared.Progress.{Progress}
-use Rattle.cache.specs.Effects.{Effect}
-use Rattle.cache.specs.Contracts.{Acts, Carries}
+use Rattle.steps.specs.Effects.{Effect}
+use Rattle.steps.specs.Contracts.{Acts, Carries}
 use Rattle.checks.specs.declared.Registers.{Registers}
-use Rattle.checks.specs.Registers.{zero, buffering}
+use Rattle.checks.specs.Registers.{zero, leaving}
 use Rattle.picl.specs.declared.Answer.{Answer}
-use Rattle.picl.specs.Answers.{Outcome, refused, due, refusal, answerOf, boardAfter, workAfter}
+use Rattle.picl.specs.Answers.{Outcome, answer, refusal, answerOf}
+use Rattle.board.specs.Verdict.{refused, due, boardAfter, workAfter}
 use Rattle.picl.specs.Calls.{carried}
 use Rattle.picl.specs.Contracts.{Answers, Finishes}
 
@@ -39,7 +39,7 @@ unfolding answerOf boardAfter workAfter
 answers-refused allowance given board work why value a e = record { answer = e; board-left = refl; work-left = refl }
 
 -- a call that owes no store
-pub answers-nothing : (allowance : ℕ) (given : Registers) (board work : List ℕ) (r : Registers) (a : Answer) → a ≡ refusal status.Ok 0 r
+pub answers-nothing : (allowance : ℕ) (given : Registers) (board work : List ℕ) (r : Registers) (a : Answer) → a ≡ answer status.Ok 0 0 r
     → Answers allowance given board work (due (record { value = 0; registers = r; work = work; stores = [] })) board work a
 unfolding answerOf boardAfter workAfter applied
 answers-nothing allowance given board work r a e =
@@ -87,11 +87,11 @@ acted x = record { ran = x .ran; undo = λ h. x .undo; memory = λ h. x .memory 
 
 pub carries-answers : (allowance : ℕ) (given : Registers) (board work : List ℕ) (e : Effect) (m : Meter) (r : Progress) (board′ work′ work″ : List ℕ)
     (value : ℕ) (base after : Registers) (told : ℕ) (a : Answer) → m ≡ full allowance → Carries board m e board′ work′ r → length work′ ≡ length work
-    → (work′ ≡ e .work → told ≡ value) → after ≡ buffering base (r .undo .buffered) → Finishes work′ (r .meter) allowance told after work″ a
+    → (work′ ≡ e .work → told ≡ value) → after ≡ leaving base (r .undo) → Finishes work′ (r .meter) allowance told after work″ a
     → Answers allowance given board work (due (carried value base e)) board′ work″ a
 carries-answers allowance given board work e m r board′ work′ work″ value base after told a new c l v q f =
     let p : Ran board (full allowance) (e .stores) board′ (r .meter) = rw new at (c .ran) in
     let undo : length (e .stores) ≤ allowance → r .undo ≡ e .undo = rw (new, allowed-full) at (c .undo) in
     let memory : length (e .stores) ≤ allowance → work′ ≡ e .work = rw (new, allowed-full) at (c .memory) in
     answers-due allowance given board work (carried value base e) (r .meter) board′ work′ work″ told after a p l memory (λ h. v (memory h))
-    (λ h. q ∙ ap (λ (u : Undo). buffering base (u .buffered)) (undo h)) f
+    (λ h. q ∙ ap (leaving base) (undo h)) f

@@ -1,13 +1,14 @@
 -- What a call's passed tests give its steps.
-use Prim.Native.Nat.{ℕ, _+_, _<_}
+use Prim.Native.Nat.{ℕ, _<_}
 use mathlib.Core.Path.{_≡_}
 use mathlib.Core.List.{List}
 use native.Mathlib.Omega.{arith}
-use Rattle.undo.specs.declared.Undo.{Undo}
-use Rattle.cache.specs.declared.Spot.{Spot}
-use Rattle.cache.specs.Contracts.{Ready, SlotReady, FillReady, StoreReady, PersistReady}
-use Rattle.cache.specs.Laws.{spot-below, spot-named, proper-named}
-use Rattle.cache.specs.Slots.{spotOf}
+use Rattle.undo.specs.declared.LogState.{LogState}
+use Rattle.slots.specs.declared.Spot.{Spot}
+use Rattle.steps.specs.Effects.{scanTarget}
+use Rattle.steps.specs.Contracts.{Ready, SlotReady, FillReady, StoreReady, PersistReady}
+use Rattle.slots.specs.Laws.{spot-below, spot-named, proper-named}
+use Rattle.slots.specs.Slots.{spotOf}
 use Rattle.checks.specs.declared.Registers.{Registers}
 use Rattle.checks.specs.declared.View.{View}
 use Rattle.checks.specs.Contracts.{Running}
@@ -22,7 +23,7 @@ ready-of board work r v h =
       work-words = omega (arith, h .shaped .work-words);
     }
 
-module _ (board work : List ℕ) (r : Registers) (address : ℕ) (v : View) (spot : Spot) (u : Undo) (at : spot ≡ spotOf work (v .slots) address)
+module _ (board work : List ℕ) (r : Registers) (address : ℕ) (v : View) (spot : Spot) (u : LogState) (at : spot ≡ spotOf work (v .slots) address)
     (is : u ≡ undoOf v r) where
   pub fill-ready : LinePassed board work r address v → FillReady board work u (spot .slot) address
   fill-ready p =
@@ -55,7 +56,7 @@ module _ (board work : List ℕ) (r : Registers) (address : ℕ) (v : View) (spo
   pub evict-ready : LinePassed board work r address v → SlotReady board work u (spot .slot)
   evict-ready p = fill-ready p .slot
 
-module _ (board work : List ℕ) (r : Registers) (v : View) (u : Undo) (is : u ≡ undoOf v r) where
+module _ (board work : List ℕ) (r : Registers) (v : View) (u : LogState) (is : u ≡ undoOf v r) where
   pub visit-ready : ScanPassed board work r v → r .cursor < v .slots → SlotReady board work u (r .cursor)
   visit-ready p h =
       let run = p .running in
@@ -67,5 +68,5 @@ module _ (board work : List ℕ) (r : Registers) (v : View) (u : Undo) (is : u �
             (arith, run .shaped .board-words, proper-named (boundsOf v r) work (r .cursor) (run .shaped .lines-some) (p .slot h));
       }
 
-  pub persist-ready : ScanPassed board work r v → PersistReady board work u (v .control .persisted + 1)
-  persist-ready p = rw is record { ready = ready-of board work r v (p .running); fits = omega (arith, p .waiting, p .running .epoch-most) }
+  pub persist-ready : (target : ℕ) → target ≡ scanTarget (v .control .persisted) → ScanPassed board work r v → PersistReady board work u target
+  persist-ready target aim p = rw is record { ready = ready-of board work r v (p .running); fits = omega (arith, p .waiting, p .running .epoch-most) }

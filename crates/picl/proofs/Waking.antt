@@ -17,7 +17,7 @@ use Rattle.layout.specs.Memory.{shapeAt, linesAt, boardWords, slotIn, slotsOf}
 use Rattle.layout.specs.Words.{ShapeFits, IsBit, bit, encodeShape, decodeSlot}
 use Rattle.status.specs.declared.Status.{Status}
 use Rattle.status.specs.declared.Status.the-variants as status
-use Rattle.undo.specs.declared.Undo.{Undo}
+use Rattle.undo.specs.declared.LogState.{LogState}
 use Rattle.undo.specs.Contracts.{RecoverReady}
 use Rattle.undo.specs.Log.{Sound, properAt, firstImproper, recoverStores}
 use Rattle.checks.specs.declared.Checked.{Checked}
@@ -31,18 +31,20 @@ use Rattle.checks.specs.Registers as registers
 use Rattle.checks.specs.View.{goodSizes, goodWork, undoOf}
 use Rattle.picl.specs.declared.Answer.{Answer}
 use Rattle.picl.specs.declared.Report.{Report}
-use Rattle.picl.specs.Answers.{due, refusal}
-use Rattle.picl.specs.Calls.{wakeAt, wakeVerdict, powerUpVerdict, formatted, shapeOf, report, formatReport, formatAfter}
-use Rattle.picl.specs.Calls.{dirtySlots, tallyReport}
+use Rattle.board.specs.Verdict.{due}
+use Rattle.picl.specs.Answers.{refusal, answerOf}
+use Rattle.picl.specs.Calls.{wakeAt, wakeVerdict, powerUpVerdict, report, formatReport, formatAfter}
+use Rattle.layout.specs.Memory.{formatted, shapeFor}
+use Rattle.picl.specs.Calls.{dirtySlots, tallyVerdict, tallyReport}
 use Rattle.picl.specs.Contracts.{Answers, Formats, Finishes, CountsDirty}
 use Rattle.picl.proofs.Finishing.{answers-refused, answers-due}
 
 -- power-up
-pub wake-within : (allowance : ℕ) (board board′ : List ℕ) (u : Undo) (m m′ : Meter) → m ≡ full allowance
+pub wake-within : (allowance : ℕ) (board board′ : List ℕ) (u : LogState) (m m′ : Meter) → m ≡ full allowance
     → Ran board m (recoverStores board u) board′ m′ → m′ .left ≤ allowance + 1
 wake-within allowance board board′ u m m′ new x = ran-within allowance (recoverStores board u) (rw new at x)
 
-pub wake-done : (allowance : ℕ) (board work : List ℕ) (u : Undo) (m m′ : Meter) (board′ work′ work″ : List ℕ) (r : Registers) (a : Answer)
+pub wake-done : (allowance : ℕ) (board work : List ℕ) (u : LogState) (m m′ : Meter) (board′ work′ work″ : List ℕ) (r : Registers) (a : Answer)
     → m ≡ full allowance → Ran board m (recoverStores board u) board′ m′ → work′ ≡ replicate (length work) 0
     → r ≡ registers.woken (u .control .persisted) → Finishes work′ m′ allowance 0 r work″ a
     → Answers allowance registers.zero board work (due (wakeAt board work u)) board′ work″ a
@@ -51,7 +53,7 @@ wake-done allowance board work u m m′ board′ work′ work″ r a new x z e f
     answers-due allowance registers.zero board work (wakeAt board work u) m′ board′ work′ work″ 0 r a (rw new at x)
     (ap length z ∙ length-replicate (length work) 0) (λ h. z) (λ h. refl) (λ h. e) f
 
-module _ (board work : List ℕ) (v : View) (u : Undo) (zero : Registers) (none : zero ≡ registers.zero) (is : u ≡ undoOf v zero) where
+module _ (board work : List ℕ) (v : View) (u : LogState) (zero : Registers) (none : zero ≡ registers.zero) (is : u ≡ undoOf v zero) where
   same : u ≡ undoOf v registers.zero
   same = is ∙ ap (undoOf v) none
 
@@ -106,7 +108,7 @@ module _ (allowance : ℕ) (board work : List ℕ) (k : Checked) (is : k ≡ mem
     power-up-answered board′ work′ a x = rw (← is, e) x
 
 -- format
-fits-of : (words lines entries : ℕ) → goodSizes words lines entries ≡ true → ShapeFits (shapeOf lines entries)
+fits-of : (words lines entries : ℕ) → goodSizes words lines entries ≡ true → ShapeFits (shapeFor lines entries)
 unfolding goodSizes
 fits-of words lines entries h =
     let a : lines ≤ mostLines = search held depth 12 in
@@ -126,13 +128,13 @@ module _ (board : List ℕ) (lines entries : ℕ) (t : Bool) (test : t ≡ goodS
     sizes : goodSizes (length board) lines entries ≡ true
     sizes = sym test ∙ not-false t good
 
-    pub format-fits : ShapeFits (shapeOf lines entries)
+    pub format-fits : ShapeFits (shapeFor lines entries)
     format-fits = fits-of (length board) lines entries sizes
 
     pub format-within : (board′ : List ℕ) → length board′ ≡ length board → shapeAt < length board′
     format-within board′ l = omega (arith, words-of board lines entries sizes)
 
-    pub format-made : (r : Report) (board′ : List ℕ) (w : ℕ) → board′ ≡ replicate (length board) 0 → w ≡ encodeShape (shapeOf lines entries)
+    pub format-made : (r : Report) (board′ : List ℕ) (w : ℕ) → board′ ≡ replicate (length board) 0 → w ≡ encodeShape (shapeFor lines entries)
         → r ≡ report status.Ok 0 → Formats board lines entries (set board′ shapeAt w) r
     unfolding formatReport formatAfter formatted
     format-made r board′ w z e x =
@@ -176,10 +178,10 @@ count-end work slots at count c h = let e : c .slot ≡ slots = omega (arith, c 
 
 module _ (work : List ℕ) (t : Bool) (test : t ≡ goodWork (length work)) (r : Report) where
   pub tally-refused : not t ≡ true → r ≡ report status.Work 0 → r ≡ tallyReport work
-  unfolding tallyReport
+  unfolding tallyReport tallyVerdict answerOf
   tally-refused h x = rw (← test, not-true t h) x
 
   pub tally-counted : (slots count : ℕ) → not t ≡ false → slots ≡ slotsOf (length work) → count ≡ dirtySlots work slots → r ≡ report status.Ok count
       → r ≡ tallyReport work
-  unfolding tallyReport
+  unfolding tallyReport tallyVerdict answerOf
   tally-counted slots count h e c x = rw (← test, not-false t h, ← e, ← c) x

@@ -1,20 +1,19 @@
--- The eight calls: what each comes to on any memories, registers and arguments.
+-- The calls: what each comes to on any memories, registers and arguments.
 use Prim.Native.Nat.{ℕ, zero, suc, _+_}
 use mathlib.Core.Bool.{cond, _&&_}
 use mathlib.Core.List.{List, []}
 use lib.Dec.{ltb}
-use lib.ListN.{length, set, replicate}
+use lib.ListN.{length, replicate}
 use Rattle.layout.specs.declared.Shape.{Shape}
-use Rattle.layout.specs.Limits.{boardVersion}
-use Rattle.layout.specs.Memory.{shapeAt, boardWords, slotsOf, slotIn, dataIn}
-use Rattle.layout.specs.Words.{bit, encodeShape}
+use Rattle.layout.specs.Memory.{slotsOf, slotIn, dataIn, formatted}
+use Rattle.layout.specs.Words.{bit}
 use Rattle.status.specs.declared.Status.{Status}
 use Rattle.status.specs.declared.Status.the-variants as status
-use Rattle.undo.specs.declared.Undo.{Undo}
+use Rattle.undo.specs.declared.LogState.{LogState}
 use Rattle.undo.specs.Log.{firstImproper, recoverStores}
-use Rattle.cache.specs.declared.Spot.{Spot}
-use Rattle.cache.specs.Slots.{spotOf}
-use Rattle.cache.specs.Effects.{Effect, loading, storing, evicting, visiting, persisting}
+use Rattle.slots.specs.declared.Spot.{Spot}
+use Rattle.slots.specs.Slots.{spotOf}
+use Rattle.steps.specs.Effects.{Effect, loading, storing, evicting, visiting, persisting, scanTarget}
 use Rattle.checks.specs.declared.Checked.{Checked}
 use Rattle.checks.specs.declared.Checked.the-variants.{Refused, Passed}
 use Rattle.checks.specs.declared.Registers.{Registers}
@@ -23,19 +22,20 @@ use Rattle.checks.specs.Registers as registers
 use Rattle.checks.specs.View.{goodSizes, goodWork, undoOf}
 use Rattle.checks.specs.Refusals.{memoriesChecked, lineChecked, storeChecked, commitChecked, scanChecked}
 use Rattle.picl.specs.declared.Report.{Report}
-use Rattle.picl.specs.Answers.{Outcome, Verdict, refused, due}
+use Rattle.picl.specs.Answers.{Outcome, Verdict, answerOf}
+use Rattle.board.specs.Verdict.{refused, due}
 
 -- refused by its first row that holds, or else due
 abbrev pub judged : Checked → (View → Outcome) → Verdict
 judged (Refused why) outcome = refused why 0
 judged (Passed v) outcome = due (outcome v)
 
--- what an effect on log and cache comes to, with the registers counting what is then buffered
+-- what an effect on log and cache comes to, with the registers taking over what it leaves
 abbrev pub carried : (value : ℕ) → Registers → Effect → Outcome
-carried value r e = record { value = value; registers = registers.buffering r (e .undo .buffered); work = e .work; stores = e .stores }
+carried value r e = record { value = value; registers = registers.leaving r (e .undo); work = e .work; stores = e .stores }
 
 -- "Load (a): a held line gives its data. Otherwise the slot is emptied, then filled clean from memory."
-unfoldable pub loadAt : (board work : List ℕ) → Registers → Undo → (address : ℕ) → Spot → Outcome
+unfoldable pub loadAt : (board work : List ℕ) → Registers → LogState → (address : ℕ) → Spot → Outcome
 loadAt board work r u address spot =
     let e = loading board u work address spot in carried (dataIn (e .work) (spot .slot)) r e
 
@@ -46,7 +46,7 @@ unfoldable pub loadVerdict : (board work : List ℕ) → Registers → (address 
 loadVerdict board work r address = judged (lineChecked board work r address) (loadOutcome board work r address)
 
 -- "Store (a, value): as load if not held. Then .."
-unfoldable pub storeAt : (board work : List ℕ) → Registers → Undo → (address : ℕ) → Spot → (value : ℕ) → Outcome
+unfoldable pub storeAt : (board work : List ℕ) → Registers → LogState → (address : ℕ) → Spot → (value : ℕ) → Outcome
 storeAt board work r u address spot value = carried 0 r (storing board u work address spot (r .epoch) value)
 
 unfoldable pub storeOutcome : (board work : List ℕ) → Registers → (address value : ℕ) → View → Outcome
@@ -56,7 +56,7 @@ unfoldable pub storeVerdict : (board work : List ℕ) → Registers → (address
 storeVerdict board work r address value = judged (storeChecked board work r address) (storeOutcome board work r address value)
 
 -- "Evict (a): empties the slot if it holds a; otherwise nothing, value 0. Value 1 if held."
-unfoldable pub evictAt : (work : List ℕ) → Registers → Undo → Spot → Outcome
+unfoldable pub evictAt : (work : List ℕ) → Registers → LogState → Spot → Outcome
 evictAt work r u spot = carried (bit (spot .held)) r (evicting u work spot)
 
 unfoldable pub evictOutcome : (work : List ℕ) → Registers → (address : ℕ) → View → Outcome
@@ -65,38 +65,34 @@ evictOutcome work r address v = evictAt work r (undoOf v r) (spotOf work (v .slo
 unfoldable pub evictVerdict : (board work : List ℕ) → Registers → (address : ℕ) → Verdict
 evictVerdict board work r address = judged (lineChecked board work r address) (evictOutcome work r address)
 
+-- a call that leaves both memories as they are
+abbrev pub unstored : (value : ℕ) → Registers → (work : List ℕ) → Outcome
+unstored value r work = record { value = value; registers = r; work = work; stores = [] }
+
 -- "Commit: s becomes s + 1."
 unfoldable pub commitOutcome : (work : List ℕ) → Registers → Outcome
-commitOutcome work r = record { value = 0; registers = registers.committed r; work = work; stores = [] }
+commitOutcome work r = unstored 0 (registers.committed r) work
 
 unfoldable pub commitVerdict : (board work : List ℕ) → Registers → Verdict
 commitVerdict board work r = judged (commitChecked board work r) (λ v. commitOutcome work r)
-
--- "Scan: target P + 1."
-abbrev pub targetOf : View → ℕ
-targetOf v = v .control .persisted + 1
 
 -- "With c < S it visits slot c: ..; c rises by one. .. With c = S it flushes, then stores one control word with P = target ..;
 -- c = 0; value is the new P."
 unfoldable pub scanOutcome : (board work : List ℕ) → Registers → View → Outcome
 scanOutcome board work r v =
     cond (ltb (r .cursor) (v .slots))
-    (carried 0 (registers.stepped r) (visiting (undoOf v r) work (r .cursor) (targetOf v)))
-    (carried (targetOf v) (registers.restarted r) (persisting board (undoOf v r) work (targetOf v)))
+    (carried 0 (registers.stepped r) (visiting (undoOf v r) work (r .cursor) (scanTarget (v .control .persisted))))
+    (carried (scanTarget (v .control .persisted)) (registers.restarted r)
+    (persisting board (undoOf v r) work (scanTarget (v .control .persisted))))
 
 unfoldable pub scanVerdict : (board work : List ℕ) → Registers → Verdict
 scanVerdict board work r = judged (scanChecked board work r) (scanOutcome board work r)
 
 -- "Power-up: from the newest log entry to the oldest, each entry with ValidFrom ≤ P < ValidTill has its data stored to its line.
 -- Then the control word .. Then work memory all zero, s = P + 1, b = 0, c = 0."
-unfoldable pub wakeAt : (board work : List ℕ) → Undo → Outcome
+unfoldable pub wakeAt : (board work : List ℕ) → LogState → Outcome
 wakeAt board work u =
-    record {
-      value = 0;
-      registers = registers.woken (u .control .persisted);
-      work = replicate (length work) 0;
-      stores = recoverStores board u;
-    }
+    record { value = 0; registers = registers.woken (u .control .persisted); work = replicate (length work) 0; stores = recoverStores board u }
 
 -- "3 entry: a log entry is not proper; value is i of the first, oldest counted 0"
 unfoldable pub wakeVerdict : (board work : List ℕ) → View → Verdict
@@ -105,34 +101,54 @@ wakeVerdict board work v =
     let i = firstImproper board u (v .shape .lines) in
     cond (ltb i (v .control .length)) (refused status.Entry i) (due (wakeAt board work u))
 
-abbrev pub woken : (board work : List ℕ) → Checked → Verdict
-woken board work (Refused why) = refused why 0
-woken board work (Passed v) = wakeVerdict board work v
+abbrev pub wakeJudged : (board work : List ℕ) → Checked → Verdict
+wakeJudged board work (Refused why) = refused why 0
+wakeJudged board work (Passed v) = wakeVerdict board work v
 
 unfoldable pub powerUpVerdict : (board work : List ℕ) → Verdict
-powerUpVerdict board work = woken board work (memoriesChecked board work)
-
--- "Format (N, L): every board word zero, but for the shape word. .. reports 0 stores."
-abbrev pub shapeOf : (lines entries : ℕ) → Shape
-shapeOf lines entries = record { version = boardVersion; lines = lines; entries = entries }
-
-unfoldable pub formatted : (lines entries : ℕ) → List ℕ
-formatted lines entries = set (replicate (boardWords lines entries) 0) shapeAt (encodeShape (shapeOf lines entries))
-
-abbrev pub report : Status → (value : ℕ) → Report
-report why value = record { status = why; value = value; stores = 0 }
-
--- "Format's shape test reads its arguments and the word count only."
-unfoldable pub formatReport : (board : List ℕ) → (lines entries : ℕ) → Report
-formatReport board lines entries = report (cond (goodSizes (length board) lines entries) status.Ok status.Shape) 0
-
-unfoldable pub formatAfter : (board : List ℕ) → (lines entries : ℕ) → List ℕ
-formatAfter board lines entries = cond (goodSizes (length board) lines entries) (formatted lines entries) board
+powerUpVerdict board work = wakeJudged board work (memoriesChecked board work)
 
 -- "Tally: the number of slot words whose valid and dirty bits are both 1, whatever else they hold."
 unfoldable pub dirtySlots : List ℕ → ℕ → ℕ
 dirtySlots work zero = 0
 dirtySlots work (suc k) = dirtySlots work k + bit (slotIn work k .valid && slotIn work k .dirty)
 
+unfoldable pub tallyVerdict : (work : List ℕ) → Registers → Verdict
+tallyVerdict work r =
+    cond (goodWork (length work)) (due (unstored (dirtySlots work (slotsOf (length work))) r work)) (refused status.Work 0)
+
+-- ---- the calls of a controller that runs, with their arguments
+
+pub data Call : Type 0 where
+  load : (address : ℕ) → Call
+  store : (address value : ℕ) → Call
+  evict : (address : ℕ) → Call
+  commit : Call
+  scan : Call
+  tally : Call
+
+abbrev pub verdictOf : (board work : List ℕ) → Registers → Call → Verdict
+verdictOf board work r (load address) = loadVerdict board work r address
+verdictOf board work r (store address value) = storeVerdict board work r address value
+verdictOf board work r (evict address) = evictVerdict board work r address
+verdictOf board work r commit = commitVerdict board work r
+verdictOf board work r scan = scanVerdict board work r
+verdictOf board work r tally = tallyVerdict work r
+
+-- ---- "format and tally do neither" take nor return registers: they report
+
+abbrev pub report : Status → (value : ℕ) → Report
+report why value = record { status = why; value = value; stores = 0 }
+
+-- "Format's shape test reads its arguments and the word count only." "reports 0 stores"
+unfoldable pub formatReport : (board : List ℕ) → (lines entries : ℕ) → Report
+formatReport board lines entries = report (cond (goodSizes (length board) lines entries) status.Ok status.Shape) 0
+
+unfoldable pub formatAfter : (board : List ℕ) → (lines entries : ℕ) → List ℕ
+formatAfter board lines entries = cond (goodSizes (length board) lines entries) (formatted lines entries) board
+
+-- a tally owes no store, so that no allowance is too small for it
 unfoldable pub tallyReport : (work : List ℕ) → Report
-tallyReport work = cond (goodWork (length work)) (report status.Ok (dirtySlots work (slotsOf (length work)))) (report status.Work 0)
+tallyReport work =
+    let a = answerOf 0 registers.zero (tallyVerdict work registers.zero) in
+    record { status = a .status; value = a .value; stores = a .stores }

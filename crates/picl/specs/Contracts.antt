@@ -8,22 +8,27 @@ use Rattle.board.specs.declared.Meter.{Meter}
 use Rattle.board.specs.Stores.{wasCut}
 use Rattle.layout.specs.Words.{bit, decodeSlot}
 use Rattle.status.specs.declared.Status.the-variants as status
-use Rattle.cache.specs.Slots.{properAt, properFor, spotOf}
-use Rattle.cache.specs.Effects.{undoDue}
+use Rattle.slots.specs.Slots.{properAt, properFor, spotOf}
+use Rattle.slots.specs.Slots.{undoDue}
 use Rattle.checks.specs.declared.View.{View}
 use Rattle.checks.specs.Contracts.{Running}
 use Rattle.checks.specs.View.{boundsOf}
 use Rattle.checks.specs.declared.Registers.{Registers}
 use Rattle.picl.specs.declared.Answer.{Answer}
 use Rattle.picl.specs.declared.Report.{Report}
-use Rattle.picl.specs.Answers.{Verdict, cutOff, answerOf, boardAfter, workAfter}
-use Rattle.picl.specs.Calls.{formatReport, formatAfter}
+use Rattle.picl.specs.Answers.{Verdict, cutOff, answerOf}
+use Rattle.board.specs.Verdict.{boardAfter, workAfter}
+use Rattle.picl.specs.Calls.{Call, verdictOf, formatReport, formatAfter}
 
 -- The answer and both memories at exit are what the verdict gives under the allowance.
 pub record Answers (allowance : ℕ) (given : Registers) (board work : List ℕ) (v : Verdict) (board′ work′ : List ℕ) (a : Answer) : Type 0 where
   pub answer : a ≡ answerOf allowance given v
   pub board-left : board′ ≡ boardAfter allowance board v
   pub work-left : work′ ≡ workAfter allowance work v
+
+-- A call of a controller that runs.
+abbrev pub Calls : Call → (allowance : ℕ) → (given : Registers) → (board work board′ work′ : List ℕ) → Answer → Type 0
+Calls c allowance r board work board′ work′ a = Answers allowance r board work (verdictOf board work r c) board′ work′ a
 
 pub record Formats (board : List ℕ) (lines entries : ℕ) (board′ : List ℕ) (r : Report) : Type 0 where
   pub report : r ≡ formatReport board lines entries

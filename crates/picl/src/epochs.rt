@@ -1,21 +1,22 @@
-// Commit and scan, and power-up: the calls that end, persist and restore epochs. Commit and scan test in stages, as the calls of lines do.
-ghost use Prim.Native.Nat.{_+_, _<_, _≤_};
+// Commit, scan and power-up: the calls that end, persist and restore epochs. The names of their functions tell how far a call has come, as
+// those of the calls of lines do.
+ghost use Prim.Native.Nat.{_<_, _≤_};
 ghost use lib.ListN.{length};
 ghost use mathlib.Core.Path.{_≡_};
-ghost use Rattle.cache.specs.Contracts.{SlotReady, PersistReady};
-ghost use Rattle.cache.specs.Effects.{visiting, persisting};
+ghost use Rattle.board.specs.Verdict.{due};
 ghost use Rattle.checks.specs.declared.Checked.the-variants.{Passed};
-ghost use Rattle.checks.specs.Refusals.{memoriesChecked, runningChecked};
+ghost use Rattle.checks.specs.Refusals.{runningChecked};
+ghost use Rattle.steps.specs.Contracts.{SlotReady, PersistReady};
+ghost use Rattle.steps.specs.Effects.{visiting, persisting};
 ghost use Rattle.checks.specs.Registers.{zero, committed};
 ghost use Rattle.checks.specs.Contracts.{Shaped};
 ghost use Rattle.layout.specs.Limits.{lastEpoch};
 ghost use Rattle.status.specs.declared.Status.the-variants as status;
 ghost use Rattle.undo.specs.Contracts.{RecoverReady};
-ghost use Rattle.picl.specs.Answers.{due, refusal as refused};
-ghost use Rattle.picl.specs.Calls.{scanOutcome, carried};
-ghost use Rattle.picl.specs.Calls.{commitVerdict, scanVerdict, wakeVerdict};
-ghost use Rattle.picl.specs.Calls.{wakeAt, powerUpVerdict};
-ghost use Rattle.picl.specs.Contracts.{Answers, ScanPassed};
+ghost use Rattle.picl.specs.Answers.{answer};
+ghost use Rattle.picl.specs.Calls as call;
+ghost use Rattle.picl.specs.Calls.{scanOutcome, carried, wakeAt, wakeVerdict, powerUpVerdict};
+ghost use Rattle.picl.specs.Contracts.{Answers, Calls, ScanPassed};
 use crate::Answer;
 use crate::finish;
 use crate::refusal;
@@ -24,13 +25,18 @@ use checks::Checked;
 use checks::Registers;
 use checks::View;
 use status::Status;
-use undo::Undo;
+use undo::LogState;
 
 fn commit_passed(registers: Registers) -> Answer
     requires { ⌜ registers .epoch ≤ lastEpoch ⌝ }
-    ensures { λ r. ⌜ r ≡ refused status.Ok 0 (committed registers) ⌝ }
+    ensures { λ r. ⌜ r ≡ answer status.Ok 0 0 (committed registers) ⌝ }
 {
-    refusal(Status::Ok, 0, registers.committed())
+    Answer {
+        status: Status::Ok,
+        value: 0,
+        stores: 0,
+        registers: registers.committed(),
+    }
 }
 
 fn commit_running(
@@ -41,7 +47,7 @@ fn commit_running(
     allowance: u32,
 ) -> Answer
     requires { ⌜ Passed view ≡ runningChecked (now board) (now work) registers ⌝ }
-    ensures { λ r. ⌜ Answers allowance registers (now (board .entry)) (now (work .entry)) (commitVerdict (now (board .entry)) (now (work .entry)) registers) (now (board .entry)) (now (work .entry)) r ⌝ }
+    ensures { λ r. ⌜ Calls call.commit allowance registers (now (board .entry)) (now (work .entry)) (now (board .entry)) (now (work .entry)) r ⌝ }
 {
     let checked = checks::check_commit(view, work, registers);
     match checked {
@@ -50,75 +56,60 @@ fn commit_running(
     }
 }
 
-fn commit_shaped(
-    board: &[u64],
-    work: &[u64],
-    registers: Registers,
-    view: View,
-    allowance: u32,
-) -> Answer
-    requires { ⌜ Passed view ≡ memoriesChecked (now board) (now work) ⌝ }
-    ensures { λ r. ⌜ Answers allowance registers (now (board .entry)) (now (work .entry)) (commitVerdict (now (board .entry)) (now (work .entry)) registers) (now (board .entry)) (now (work .entry)) r ⌝ }
-{
-    let checked = checks::check_registers(view, registers);
-    match checked {
-        Checked::Refused(status) => refusal(status, 0, registers),
-        Checked::Passed(_) => commit_running(board, work, registers, view, allowance),
-    }
-}
-
 // The end of the running epoch. It makes no store, so no allowance is too small, and it cannot write either memory.
 pub fn commit(board: &[u64], work: &[u64], registers: Registers, allowance: u32) -> Answer
-    ensures { λ r. ⌜ Answers allowance registers (now (board .entry)) (now (work .entry)) (commitVerdict (now (board .entry)) (now (work .entry)) registers) (now (board .entry)) (now (work .entry)) r ⌝ }
+    ensures { λ r. ⌜ Calls call.commit allowance registers (now (board .entry)) (now (work .entry)) (now (board .entry)) (now (work .entry)) r ⌝ }
 {
-    let checked = checks::check_memories(board, work);
-    match checked {
+    let memories = checks::check_memories(board, work);
+    match memories {
         Checked::Refused(status) => refusal(status, 0, registers),
-        Checked::Passed(view) => commit_shaped(board, work, registers, view, allowance),
+        Checked::Passed(view) => {
+            let running = checks::check_registers(view, registers);
+            match running {
+                Checked::Refused(status) => refusal(status, 0, registers),
+                Checked::Passed(_) => commit_running(board, work, registers, view, allowance),
+            }
+        }
     }
 }
 
+// The slot at the cursor; `next` are the registers with the cursor moved on.
 fn visit_at(
     board: &mut [u64],
     work: &mut [u64],
     registers: Registers,
     next: Registers,
-    undo: Undo,
+    undo: LogState,
     k: usize,
     target: u64,
     allowance: u32,
 ) -> Answer
     requires { ⌜ SlotReady (now board) (now work) undo k ⌝ }
-    ensures { λ r. ⌜ Answers allowance registers (now (board .entry)) (now (work .entry)) (due (carried 0 next (visiting undo (now (work .entry)) k target))) (now (board .exit)) (now (work .exit)) r ⌝ }
+    ensures { λ r. ⌜ Answers allowance registers (now (board .entry)) (now (work .entry))
+        (due (carried 0 next (visiting undo (now (work .entry)) k target))) (now (board .exit)) (now (work .exit)) r ⌝ }
 {
     let done = steps::visit(board, work, undo, k, target, Meter::new(allowance));
-    let after = done.undo;
     let meter = done.meter;
-    finish(work, meter, allowance, 0, next.buffering(after.buffered))
+    finish(work, meter, allowance, 0, next.leaving(done))
 }
 
+// The end of a pass; `next` are the registers with the cursor moved back.
 fn persist_at(
     board: &mut [u64],
     work: &mut [u64],
     registers: Registers,
     next: Registers,
-    undo: Undo,
+    undo: LogState,
     target: u64,
     allowance: u32,
 ) -> Answer
     requires { ⌜ PersistReady (now board) (now work) undo target ⌝ }
-    ensures { λ r. ⌜ Answers allowance registers (now (board .entry)) (now (work .entry)) (due (carried target next (persisting (now (board .entry)) undo (now (work .entry)) target))) (now (board .exit)) (now (work .exit)) r ⌝ }
+    ensures { λ r. ⌜ Answers allowance registers (now (board .entry)) (now (work .entry))
+        (due (carried target next (persisting (now (board .entry)) undo (now (work .entry)) target))) (now (board .exit)) (now (work .exit)) r ⌝ }
 {
     let done = steps::persist(board, work, undo, target, Meter::new(allowance));
-    let after = done.undo;
     let meter = done.meter;
-    finish(
-        work,
-        meter,
-        allowance,
-        target,
-        next.buffering(after.buffered),
-    )
+    finish(work, meter, allowance, target, next.leaving(done))
 }
 
 fn scan_passed(
@@ -129,10 +120,11 @@ fn scan_passed(
     allowance: u32,
 ) -> Answer
     requires { ⌜ ScanPassed (now board) (now work) registers view ⌝ }
-    ensures { λ r. ⌜ Answers allowance registers (now (board .entry)) (now (work .entry)) (due (scanOutcome (now (board .entry)) (now (work .entry)) registers view)) (now (board .exit)) (now (work .exit)) r ⌝ }
+    ensures { λ r. ⌜ Answers allowance registers (now (board .entry)) (now (work .entry))
+        (due (scanOutcome (now (board .entry)) (now (work .entry)) registers view)) (now (board .exit)) (now (work .exit)) r ⌝ }
 {
     let undo = view.undo(registers);
-    let target = view.control.persisted + 1;
+    let target = steps::scan_target(view.control.persisted);
     if registers.cursor < view.slots as u64 {
         return visit_at(
             board,
@@ -164,7 +156,7 @@ fn scan_running(
     allowance: u32,
 ) -> Answer
     requires { ⌜ Passed view ≡ runningChecked (now board) (now work) registers ⌝ }
-    ensures { λ r. ⌜ Answers allowance registers (now (board .entry)) (now (work .entry)) (scanVerdict (now (board .entry)) (now (work .entry)) registers) (now (board .exit)) (now (work .exit)) r ⌝ }
+    ensures { λ r. ⌜ Calls call.scan allowance registers (now (board .entry)) (now (work .entry)) (now (board .exit)) (now (work .exit)) r ⌝ }
 {
     let checked = checks::check_scan(view, work, registers);
     match checked {
@@ -173,35 +165,25 @@ fn scan_running(
     }
 }
 
-fn scan_shaped(
-    board: &mut [u64],
-    work: &mut [u64],
-    registers: Registers,
-    view: View,
-    allowance: u32,
-) -> Answer
-    requires { ⌜ Passed view ≡ memoriesChecked (now board) (now work) ⌝ }
-    ensures { λ r. ⌜ Answers allowance registers (now (board .entry)) (now (work .entry)) (scanVerdict (now (board .entry)) (now (work .entry)) registers) (now (board .exit)) (now (work .exit)) r ⌝ }
-{
-    let checked = checks::check_registers(view, registers);
-    match checked {
-        Checked::Refused(status) => refusal(status, 0, registers),
-        Checked::Passed(_) => scan_running(board, work, registers, view, allowance),
-    }
-}
-
 // One step of persisting the oldest epoch that waits.
 pub fn scan(board: &mut [u64], work: &mut [u64], registers: Registers, allowance: u32) -> Answer
-    ensures { λ r. ⌜ Answers allowance registers (now (board .entry)) (now (work .entry)) (scanVerdict (now (board .entry)) (now (work .entry)) registers) (now (board .exit)) (now (work .exit)) r ⌝ }
+    ensures { λ r. ⌜ Calls call.scan allowance registers (now (board .entry)) (now (work .entry)) (now (board .exit)) (now (work .exit)) r ⌝ }
 {
-    let checked = checks::check_memories(board, work);
-    match checked {
+    let memories = checks::check_memories(board, work);
+    match memories {
         Checked::Refused(status) => refusal(status, 0, registers),
-        Checked::Passed(view) => scan_shaped(board, work, registers, view, allowance),
+        Checked::Passed(view) => {
+            let running = checks::check_registers(view, registers);
+            match running {
+                Checked::Refused(status) => refusal(status, 0, registers),
+                Checked::Passed(_) => scan_running(board, work, registers, view, allowance),
+            }
+        }
     }
 }
 
-fn wake(board: &mut [u64], work: &mut [u64], undo: Undo, lines: u64, allowance: u32) -> Answer
+// A log that is proper: recovery, and an empty work memory.
+fn wake(board: &mut [u64], work: &mut [u64], undo: LogState, lines: u64, allowance: u32) -> Answer
     requires { ⌜ RecoverReady (now board) undo lines ⌝ }
     requires { ⌜ undo .control .persisted < lastEpoch ⌝ }
     ensures { λ r. ⌜ Answers allowance zero (now (board .entry)) (now (work .entry)) (due (wakeAt (now (board .entry)) (now (work .entry)) undo)) (now (board .exit)) (now (work .exit)) r ⌝ }
@@ -217,6 +199,7 @@ fn wake(board: &mut [u64], work: &mut [u64], undo: Undo, lines: u64, allowance: 
     )
 }
 
+// 1 and 2 have passed: 3, and then the recovery.
 fn wake_passed(board: &mut [u64], work: &mut [u64], view: View, allowance: u32) -> Answer
     requires { ⌜ Shaped (now board) (now work) view ⌝ }
     ensures { λ r. ⌜ Answers allowance zero (now (board .entry)) (now (work .entry)) (wakeVerdict (now (board .entry)) (now (work .entry)) view) (now (board .exit)) (now (work .exit)) r ⌝ }

@@ -35,6 +35,7 @@ pub struct Report {
     pub stores: u32,
 }
 
+// The answer of a call that has changed nothing.
 fn refusal(status: Status, value: u64, registers: Registers) -> Answer
     ensures { λ r. ⌜ r ≡ refused status value registers ⌝ }
 {

@@ -1,51 +1,44 @@
-// Load, store and evict: the calls that name a line.
-//
-// A call tests in stages. Each stage is a function with one caller, so that compilers join them, and its name tells what passed before it:
-// shaped, rows 1 and 2 of the paper's table; running, 4 as well; named, store's 5 to 7 as well; passed, all rows.
+// Load, store and evict: the calls that name a line. Each makes its tests in the order of the paper's table, in functions with one caller
+// each, so that compilers join them. Their names tell how far it has come: running, 1, 2 and 4 have passed; named, store's 5 to 7 too; passed,
+// all rows; at, and the line's slot and the log's numbers are known.
 ghost use Prim.Native.Nat.{_+_, _*_};
 ghost use mathlib.Core.Path.{_≡_};
-ghost use Rattle.cache.specs.Contracts.{FillReady, SlotReady, StoreReady};
 ghost use Rattle.checks.specs.declared.Checked.the-variants.{Passed};
-ghost use Rattle.checks.specs.Refusals.{memoriesChecked, runningChecked, lineChecked};
-ghost use Rattle.picl.specs.Answers.{due};
+ghost use Rattle.checks.specs.Refusals.{runningChecked, lineChecked};
+ghost use Rattle.steps.specs.Contracts.{FillReady, SlotReady, StoreReady};
+ghost use Rattle.board.specs.Verdict.{due};
+ghost use Rattle.picl.specs.Calls as call;
 ghost use Rattle.picl.specs.Calls.{loadAt, storeAt, evictAt, loadOutcome, storeOutcome, evictOutcome};
-ghost use Rattle.picl.specs.Calls.{loadVerdict, storeVerdict, evictVerdict};
-ghost use Rattle.picl.specs.Contracts.{Answers, LinePassed, StorePassed};
+ghost use Rattle.picl.specs.Contracts.{Answers, Calls, LinePassed, StorePassed};
 use crate::Answer;
 use crate::finish;
 use crate::refusal;
 use board::Meter;
-use cache::Spot;
 use checks::Checked;
 use checks::Registers;
 use checks::View;
 use layout::SLOT_WORDS;
-use undo::Undo;
+use slots::Spot;
+use undo::LogState;
 
 fn load_at(
     board: &mut [u64],
     work: &mut [u64],
     registers: Registers,
-    undo: Undo,
+    undo: LogState,
     address: u64,
     spot: Spot,
     allowance: u32,
 ) -> Answer
     requires { ⌜ FillReady (now board) (now work) undo (spot .slot) address ⌝ }
-    ensures { λ r. ⌜ Answers allowance registers (now (board .entry)) (now (work .entry)) (due (loadAt (now (board .entry)) (now (work .entry)) registers undo address spot)) (now (board .exit)) (now (work .exit)) r ⌝ }
+    ensures { λ r. ⌜ Answers allowance registers (now (board .entry)) (now (work .entry))
+        (due (loadAt (now (board .entry)) (now (work .entry)) registers undo address spot)) (now (board .exit)) (now (work .exit)) r ⌝ }
 {
     let at = SLOT_WORDS * spot.slot + 1;
     let done = steps::load(board, work, undo, address, spot, Meter::new(allowance));
-    let after = done.undo;
     let meter = done.meter;
     let value = work[at];
-    finish(
-        work,
-        meter,
-        allowance,
-        value,
-        registers.buffering(after.buffered),
-    )
+    finish(work, meter, allowance, value, registers.leaving(done))
 }
 
 fn load_passed(
@@ -57,9 +50,10 @@ fn load_passed(
     allowance: u32,
 ) -> Answer
     requires { ⌜ LinePassed (now board) (now work) registers address view ⌝ }
-    ensures { λ r. ⌜ Answers allowance registers (now (board .entry)) (now (work .entry)) (due (loadOutcome (now (board .entry)) (now (work .entry)) registers address view)) (now (board .exit)) (now (work .exit)) r ⌝ }
+    ensures { λ r. ⌜ Answers allowance registers (now (board .entry)) (now (work .entry))
+        (due (loadOutcome (now (board .entry)) (now (work .entry)) registers address view)) (now (board .exit)) (now (work .exit)) r ⌝ }
 {
-    let spot = cache::find(work, view.slots, address);
+    let spot = slots::find(work, view.slots, address);
     let undo = view.undo(registers);
     load_at(board, work, registers, undo, address, spot, allowance)
 }
@@ -73,30 +67,12 @@ fn load_running(
     allowance: u32,
 ) -> Answer
     requires { ⌜ Passed view ≡ runningChecked (now board) (now work) registers ⌝ }
-    ensures { λ r. ⌜ Answers allowance registers (now (board .entry)) (now (work .entry)) (loadVerdict (now (board .entry)) (now (work .entry)) registers address) (now (board .exit)) (now (work .exit)) r ⌝ }
+    ensures { λ r. ⌜ Calls (call.load address) allowance registers (now (board .entry)) (now (work .entry)) (now (board .exit)) (now (work .exit)) r ⌝ }
 {
     let checked = checks::check_line(view, work, registers, address);
     match checked {
         Checked::Refused(status) => refusal(status, 0, registers),
         Checked::Passed(_) => load_passed(board, work, registers, address, view, allowance),
-    }
-}
-
-fn load_shaped(
-    board: &mut [u64],
-    work: &mut [u64],
-    registers: Registers,
-    address: u64,
-    view: View,
-    allowance: u32,
-) -> Answer
-    requires { ⌜ Passed view ≡ memoriesChecked (now board) (now work) ⌝ }
-    ensures { λ r. ⌜ Answers allowance registers (now (board .entry)) (now (work .entry)) (loadVerdict (now (board .entry)) (now (work .entry)) registers address) (now (board .exit)) (now (work .exit)) r ⌝ }
-{
-    let checked = checks::check_registers(view, registers);
-    match checked {
-        Checked::Refused(status) => refusal(status, 0, registers),
-        Checked::Passed(_) => load_running(board, work, registers, address, view, allowance),
     }
 }
 
@@ -108,12 +84,25 @@ pub fn load(
     address: u64,
     allowance: u32,
 ) -> Answer
-    ensures { λ r. ⌜ Answers allowance registers (now (board .entry)) (now (work .entry)) (loadVerdict (now (board .entry)) (now (work .entry)) registers address) (now (board .exit)) (now (work .exit)) r ⌝ }
+    ensures { λ r. ⌜ Calls (call.load address) allowance registers (now (board .entry)) (now (work .entry)) (now (board .exit)) (now (work .exit)) r ⌝ }
 {
-    let checked = checks::check_memories(board, work);
-    match checked {
+    let memories = checks::check_memories(board, work);
+    match memories {
         Checked::Refused(status) => refusal(status, 0, registers),
-        Checked::Passed(view) => load_shaped(board, work, registers, address, view, allowance),
+        Checked::Passed(view) => {
+            let running = checks::check_registers(view, registers);
+            match running {
+                Checked::Refused(status) => refusal(status, 0, registers),
+                Checked::Passed(_) => load_running(
+                    board,
+                    work,
+                    registers,
+                    address,
+                    view,
+                    allowance,
+                ),
+            }
+        }
     }
 }
 
@@ -121,14 +110,15 @@ fn store_at(
     board: &mut [u64],
     work: &mut [u64],
     registers: Registers,
-    undo: Undo,
+    undo: LogState,
     address: u64,
     spot: Spot,
     value: u64,
     allowance: u32,
 ) -> Answer
     requires { ⌜ StoreReady (now board) (now work) undo address spot (registers .epoch) ⌝ }
-    ensures { λ r. ⌜ Answers allowance registers (now (board .entry)) (now (work .entry)) (due (storeAt (now (board .entry)) (now (work .entry)) registers undo address spot value)) (now (board .exit)) (now (work .exit)) r ⌝ }
+    ensures { λ r. ⌜ Answers allowance registers (now (board .entry)) (now (work .entry))
+        (due (storeAt (now (board .entry)) (now (work .entry)) registers undo address spot value)) (now (board .exit)) (now (work .exit)) r ⌝ }
 {
     let done = steps::store(
         board,
@@ -140,15 +130,8 @@ fn store_at(
         value,
         Meter::new(allowance),
     );
-    let after = done.undo;
     let meter = done.meter;
-    finish(
-        work,
-        meter,
-        allowance,
-        0,
-        registers.buffering(after.buffered),
-    )
+    finish(work, meter, allowance, 0, registers.leaving(done))
 }
 
 fn store_passed(
@@ -161,9 +144,10 @@ fn store_passed(
     allowance: u32,
 ) -> Answer
     requires { ⌜ StorePassed (now board) (now work) registers address view ⌝ }
-    ensures { λ r. ⌜ Answers allowance registers (now (board .entry)) (now (work .entry)) (due (storeOutcome (now (board .entry)) (now (work .entry)) registers address value view)) (now (board .exit)) (now (work .exit)) r ⌝ }
+    ensures { λ r. ⌜ Answers allowance registers (now (board .entry)) (now (work .entry))
+        (due (storeOutcome (now (board .entry)) (now (work .entry)) registers address value view)) (now (board .exit)) (now (work .exit)) r ⌝ }
 {
-    let spot = cache::find(work, view.slots, address);
+    let spot = slots::find(work, view.slots, address);
     let undo = view.undo(registers);
     store_at(
         board,
@@ -187,7 +171,7 @@ fn store_named(
     allowance: u32,
 ) -> Answer
     requires { ⌜ Passed view ≡ lineChecked (now board) (now work) registers address ⌝ }
-    ensures { λ r. ⌜ Answers allowance registers (now (board .entry)) (now (work .entry)) (storeVerdict (now (board .entry)) (now (work .entry)) registers address value) (now (board .exit)) (now (work .exit)) r ⌝ }
+    ensures { λ r. ⌜ Calls (call.store address value) allowance registers (now (board .entry)) (now (work .entry)) (now (board .exit)) (now (work .exit)) r ⌝ }
 {
     let checked = checks::check_room(view, work, registers, address);
     match checked {
@@ -206,39 +190,12 @@ fn store_running(
     allowance: u32,
 ) -> Answer
     requires { ⌜ Passed view ≡ runningChecked (now board) (now work) registers ⌝ }
-    ensures { λ r. ⌜ Answers allowance registers (now (board .entry)) (now (work .entry)) (storeVerdict (now (board .entry)) (now (work .entry)) registers address value) (now (board .exit)) (now (work .exit)) r ⌝ }
+    ensures { λ r. ⌜ Calls (call.store address value) allowance registers (now (board .entry)) (now (work .entry)) (now (board .exit)) (now (work .exit)) r ⌝ }
 {
     let checked = checks::check_line(view, work, registers, address);
     match checked {
         Checked::Refused(status) => refusal(status, 0, registers),
         Checked::Passed(_) => store_named(board, work, registers, address, value, view, allowance),
-    }
-}
-
-fn store_shaped(
-    board: &mut [u64],
-    work: &mut [u64],
-    registers: Registers,
-    address: u64,
-    value: u64,
-    view: View,
-    allowance: u32,
-) -> Answer
-    requires { ⌜ Passed view ≡ memoriesChecked (now board) (now work) ⌝ }
-    ensures { λ r. ⌜ Answers allowance registers (now (board .entry)) (now (work .entry)) (storeVerdict (now (board .entry)) (now (work .entry)) registers address value) (now (board .exit)) (now (work .exit)) r ⌝ }
-{
-    let checked = checks::check_registers(view, registers);
-    match checked {
-        Checked::Refused(status) => refusal(status, 0, registers),
-        Checked::Passed(_) => store_running(
-            board,
-            work,
-            registers,
-            address,
-            value,
-            view,
-            allowance,
-        ),
     }
 }
 
@@ -251,20 +208,26 @@ pub fn store(
     value: u64,
     allowance: u32,
 ) -> Answer
-    ensures { λ r. ⌜ Answers allowance registers (now (board .entry)) (now (work .entry)) (storeVerdict (now (board .entry)) (now (work .entry)) registers address value) (now (board .exit)) (now (work .exit)) r ⌝ }
+    ensures { λ r. ⌜ Calls (call.store address value) allowance registers (now (board .entry)) (now (work .entry)) (now (board .exit)) (now (work .exit)) r ⌝ }
 {
-    let checked = checks::check_memories(board, work);
-    match checked {
+    let memories = checks::check_memories(board, work);
+    match memories {
         Checked::Refused(status) => refusal(status, 0, registers),
-        Checked::Passed(view) => store_shaped(
-            board,
-            work,
-            registers,
-            address,
-            value,
-            view,
-            allowance,
-        ),
+        Checked::Passed(view) => {
+            let running = checks::check_registers(view, registers);
+            match running {
+                Checked::Refused(status) => refusal(status, 0, registers),
+                Checked::Passed(_) => store_running(
+                    board,
+                    work,
+                    registers,
+                    address,
+                    value,
+                    view,
+                    allowance,
+                ),
+            }
+        }
     }
 }
 
@@ -272,7 +235,7 @@ fn evict_at(
     board: &mut [u64],
     work: &mut [u64],
     registers: Registers,
-    undo: Undo,
+    undo: LogState,
     spot: Spot,
     allowance: u32,
 ) -> Answer
@@ -280,15 +243,9 @@ fn evict_at(
     ensures { λ r. ⌜ Answers allowance registers (now (board .entry)) (now (work .entry)) (due (evictAt (now (work .entry)) registers undo spot)) (now (board .exit)) (now (work .exit)) r ⌝ }
 {
     let done = steps::evict(board, work, undo, spot, Meter::new(allowance));
-    let after = done.undo;
     let meter = done.meter;
-    finish(
-        work,
-        meter,
-        allowance,
-        layout::bit(spot.held),
-        registers.buffering(after.buffered),
-    )
+    let held = layout::bit(spot.held);
+    finish(work, meter, allowance, held, registers.leaving(done))
 }
 
 fn evict_passed(
@@ -302,7 +259,7 @@ fn evict_passed(
     requires { ⌜ LinePassed (now board) (now work) registers address view ⌝ }
     ensures { λ r. ⌜ Answers allowance registers (now (board .entry)) (now (work .entry)) (due (evictOutcome (now (work .entry)) registers address view)) (now (board .exit)) (now (work .exit)) r ⌝ }
 {
-    let spot = cache::find(work, view.slots, address);
+    let spot = slots::find(work, view.slots, address);
     let undo = view.undo(registers);
     evict_at(board, work, registers, undo, spot, allowance)
 }
@@ -316,30 +273,12 @@ fn evict_running(
     allowance: u32,
 ) -> Answer
     requires { ⌜ Passed view ≡ runningChecked (now board) (now work) registers ⌝ }
-    ensures { λ r. ⌜ Answers allowance registers (now (board .entry)) (now (work .entry)) (evictVerdict (now (board .entry)) (now (work .entry)) registers address) (now (board .exit)) (now (work .exit)) r ⌝ }
+    ensures { λ r. ⌜ Calls (call.evict address) allowance registers (now (board .entry)) (now (work .entry)) (now (board .exit)) (now (work .exit)) r ⌝ }
 {
     let checked = checks::check_line(view, work, registers, address);
     match checked {
         Checked::Refused(status) => refusal(status, 0, registers),
         Checked::Passed(_) => evict_passed(board, work, registers, address, view, allowance),
-    }
-}
-
-fn evict_shaped(
-    board: &mut [u64],
-    work: &mut [u64],
-    registers: Registers,
-    address: u64,
-    view: View,
-    allowance: u32,
-) -> Answer
-    requires { ⌜ Passed view ≡ memoriesChecked (now board) (now work) ⌝ }
-    ensures { λ r. ⌜ Answers allowance registers (now (board .entry)) (now (work .entry)) (evictVerdict (now (board .entry)) (now (work .entry)) registers address) (now (board .exit)) (now (work .exit)) r ⌝ }
-{
-    let checked = checks::check_registers(view, registers);
-    match checked {
-        Checked::Refused(status) => refusal(status, 0, registers),
-        Checked::Passed(_) => evict_running(board, work, registers, address, view, allowance),
     }
 }
 
@@ -351,11 +290,24 @@ pub fn evict(
     address: u64,
     allowance: u32,
 ) -> Answer
-    ensures { λ r. ⌜ Answers allowance registers (now (board .entry)) (now (work .entry)) (evictVerdict (now (board .entry)) (now (work .entry)) registers address) (now (board .exit)) (now (work .exit)) r ⌝ }
+    ensures { λ r. ⌜ Calls (call.evict address) allowance registers (now (board .entry)) (now (work .entry)) (now (board .exit)) (now (work .exit)) r ⌝ }
 {
-    let checked = checks::check_memories(board, work);
-    match checked {
+    let memories = checks::check_memories(board, work);
+    match memories {
         Checked::Refused(status) => refusal(status, 0, registers),
-        Checked::Passed(view) => evict_shaped(board, work, registers, address, view, allowance),
+        Checked::Passed(view) => {
+            let running = checks::check_registers(view, registers);
+            match running {
+                Checked::Refused(status) => refusal(status, 0, registers),
+                Checked::Passed(_) => evict_running(
+                    board,
+                    work,
+                    registers,
+                    address,
+                    view,
+                    allowance,
+                ),
+            }
+        }
     }
 }

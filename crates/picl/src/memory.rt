@@ -2,8 +2,8 @@
 ghost use Prim.Native.Nat.{_+_, _*_, _<_, _≤_};
 ghost use lib.ListN.{length};
 ghost use mathlib.Core.Path.{_≡_};
-ghost use Rattle.checks.specs.Registers.{zero};
 ghost use Rattle.status.specs.declared.Status.the-variants as status;
+ghost use Rattle.layout.specs.Memory.{slotWords};
 ghost use Rattle.picl.specs.Calls.{report as reported, dirtySlots, tallyReport};
 ghost use Rattle.picl.specs.Contracts.{Formats, CountsDirty};
 use crate::Report;
@@ -13,6 +13,7 @@ use layout::SLOT_WORDS;
 use layout::Shape;
 use status::Status;
 
+// A report of 0 stores.
 fn reporting(status: Status, value: u64) -> Report
     ensures { λ r. ⌜ r ≡ reported status value ⌝ }
 {
@@ -40,6 +41,7 @@ pub fn format(board: &mut [u64], lines: u64, entries: u64) -> Report
     reporting(Status::Ok, 0)
 }
 
+// 1 for the word of a dirty slot, 0 for any other.
 fn dirty_at(work: &[u64], at: usize) -> u64
     requires { ⌜ at < length (now work) ⌝ }
     ensures { λ r. ⌜ CountsDirty (now (work .entry)) at r ⌝ }
@@ -47,8 +49,9 @@ fn dirty_at(work: &[u64], at: usize) -> u64
     layout::bit(layout::is_dirty_word(work[at]))
 }
 
+// The dirty ones of the first slots.
 fn count_dirty(work: &[u64], slots: usize) -> u64
-    requires { ⌜ 2 * slots ≤ length (now work) ⌝ }
+    requires { ⌜ slotWords * slots ≤ length (now work) ⌝ }
     ensures { λ r. ⌜ r ≡ dirtySlots (now (work .entry)) slots ⌝ }
 {
     let end = SLOT_WORDS * slots;
@@ -68,6 +71,6 @@ pub fn tally(work: &[u64]) -> Report
     if !checks::is_good_work(work.len()) {
         return reporting(Status::Work, 0);
     }
-    let slots = checks::slots_of(work.len());
+    let slots = layout::slots_of(work.len());
     reporting(Status::Ok, count_dirty(work, slots))
 }

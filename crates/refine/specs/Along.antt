@@ -7,9 +7,9 @@ use lib.ListN.{length, take, length-append}
 use lib.Seq.{take-append-le, take-all}
 use Rattle.board.specs.Laws.{applied-append, take-append}
 use Rattle.board.specs.Stores.{Store, one, applied}
-use Rattle.history.specs.Machine.{Reference}
+use Rattle.reference.specs.Machine.{Reference}
 use Rattle.history.specs.Keeps.{safe-for}
-use Rattle.history.specs.Recall.{below-or-not}
+use Rattle.base.specs.Cases.{below-or-not}
 use Rattle.refine.specs.State.{Off}
 
 abbrev pub Along : (N L : ℕ) → List ℕ → Reference → List Store → Type 0

@@ -8,23 +8,25 @@ use Rattle.layout.specs.declared.Slot.{Slot}
 use Rattle.layout.specs.Limits.{mostAhead}
 use Rattle.layout.specs.Memory.{bufferIn, slotIn, dataIn}
 use Rattle.board.specs.Stores.{applied}
-use Rattle.undo.specs.declared.Undo.{Undo}
+use Rattle.undo.specs.declared.LogState.{LogState}
 use Rattle.undo.specs.Log as undo
 use Rattle.undo.specs.Log.{buffers}
-use Rattle.cache.specs.declared.Bounds.{Bounds}
-use Rattle.cache.specs.Effects.{nothing, flushingIf, writingOut, clearing, emptying}
-use Rattle.cache.specs.Slots.{holds, cleanSlot, dirtySlot}
-use Rattle.history.specs.Machine.{Line, absent, clean, dirty, update, Volatile, Reference, written}
+use Rattle.slots.specs.declared.Bounds.{Bounds}
+use Rattle.steps.specs.Effects.{nothing, flushingIf, writingOut, writingBack, emptying}
+use Rattle.slots.specs.Slots.{holds, cleanSlot, dirtySlot}
+use Rattle.history.specs.Machine.{Line, absent, clean, dirty, Volatile, written}
+use Rattle.base.specs.Cases.{update}
+use Rattle.reference.specs.Machine.{Reference}
 use Rattle.history.specs.Invariant.{Live}
 use Rattle.history.specs.Keeps.{discard-live}
-use Rattle.history.specs.Recall.{here-or-there, update-same, update-other}
+use Rattle.base.specs.Cases.{here-or-there, update-same, update-other}
 use Rattle.volatile.specs.Cache.{cacheOf, cache-clean}
 use Rattle.volatile.specs.Proper.{AtHome, is-clean, is-dirty, ProperSlot, is-empty, is-full, full-holds}
 use Rattle.volatile.specs.Slotted.{slot-kind}
 use Rattle.volatile.specs.Stores.{Stored, zeroed-empty, zeroed-held}
-use Rattle.volatile.specs.Swept.{swept-stored, clean-after}
 use Rattle.layout.specs.ZeroWord.{emptySlot}
 use Rattle.volatile.specs.View.{volatileOf, withLines}
+use Rattle.refine.specs.Pass.{pass-cleaned}
 use Rattle.refine.specs.State.{Ok}
 use Rattle.refine.specs.Along.{along-none}
 use Rattle.refine.specs.Flush.{Keeps}
@@ -37,7 +39,7 @@ update-again f a x y =
     (update-same (update f a x) a y ∙ sym (update-same f a y))
     (λ c away. update-other (update f a x) a y c away ∙ update-other f a x c away ∙ sym (update-other f a y c away)) c i
 
-module _ {L : ℕ} {b : Bounds} {c : ℕ} {board work : List ℕ} {u : Undo} {g : Reference} (o : Ok L b c board work u g) (k : ℕ)
+module _ {L : ℕ} {b : Bounds} {c : ℕ} {board work : List ℕ} {u : LogState} {g : Reference} (o : Ok L b c board work u g) (k : ℕ)
     (below : k < b .slots) where
   abbrev w : Volatile
   w = volatileOf work (b .slots) (b .epoch) (u .buffered)
@@ -47,21 +49,21 @@ module _ {L : ℕ} {b : Bounds} {c : ℕ} {board work : List ℕ} {u : Undo} {g 
       → Live (b .lines) mostAhead (o .durable) (withLines w lines) g
       → Keeps L b c board g (record { stores = []; undo = u; work = work′ }) c g
   unfolding applied
-  quiet {s} st clean-slot live =
+  quiet st clean-slot live =
       record {
         along = along-none (b .lines) L board g;
         after =
-            ok-with o st c (o .cursor) (o .busy) (swept-stored st c (b .persisted + 1) (clean-after (b .persisted + 1) s clean-slot) (o .swept)) board
+            ok-with o st c (pass-cleaned (o .pass) st clean-slot) board
             (o .durable) (o .reads) (o .persisted) g (o .safe) live;
       }
 
   empty-keeps : slotIn work k ≡ emptySlot → Keeps L b c board g (emptying u work k) c g
-  unfolding emptying clearing
+  unfolding emptying writingBack
   empty-keeps e = rw e (quiet (zeroed-empty (o .slotted) k below e) refl (o .live))
 
   module _ (a : ℕ) (home : AtHome b k a) where
     clean-keeps : slotIn work k ≡ cleanSlot a → Keeps L b c board g (emptying u work k) c g
-    unfolding emptying clearing
+    unfolding emptying writingBack
     clean-keeps e =
         let h : holds work k a ≡ true = full-holds b work k a (is-clean e) in
         rw e
@@ -69,7 +71,7 @@ module _ {L : ℕ} {b : Bounds} {c : ℕ} {board work : List ℕ} {u : Undo} {g 
         (discard-live (o .live) a (cache-clean work (b .slots) a k (home .home) e)))
 
     dirty-keeps : (tag : ℕ) → slotIn work k ≡ dirtySlot a tag → b .persisted < tag → tag ≤ b .epoch → Keeps L b c board g (emptying u work k) c g
-    unfolding emptying clearing writingOut
+    unfolding emptying writingBack writingOut
     dirty-keeps tag e lo hi =
         let t = buffers (bufferIn work) (u .buffered) a in
         let x = first o k below a tag home e t refl in
@@ -77,8 +79,8 @@ module _ {L : ℕ} {b : Bounds} {c : ℕ} {board work : List ℕ} {u : Undo} {g 
         full-holds b (flushingIf t u work .work) k a (is-dirty tag (flushed-slot o k below a tag home e t refl) lo hi) in
         let st = zeroed-held (x .after .slotted) k below a h in
         rw e
-        (written-keeps o k below a tag home e t refl absent st c (o .cursor) (o .busy)
-        (swept-stored st c (b .persisted + 1) (clean-after (b .persisted + 1) emptySlot refl) (x .after .swept))
+        (written-keeps o k below a tag home e t refl absent st c
+        (pass-cleaned (x .after .pass) st refl)
         (subst
         (λ (lines : ℕ → Line). Live (b .lines) mostAhead (written (x .after .durable) a (dataIn work k)) (withLines (volatileOf (flushingIf t u work .work) (b .slots) (b .epoch) (flushingIf t u work .undo .buffered)) lines) g)
         (update-again (cacheOf (flushingIf t u work .work) (b .slots)) a (clean (dataIn work k)) absent)
@@ -93,7 +95,7 @@ module _ {L : ℕ} {b : Bounds} {c : ℕ} {board work : List ℕ} {u : Undo} {g 
       go (is-full a home (is-dirty tag e lo hi)) = dirty-keeps a home tag e lo hi
 
   pub emptying-slot : slotIn (emptying u work k .work) k ≡ emptySlot
-  unfolding emptying clearing writingOut
+  unfolding emptying writingBack writingOut
   emptying-slot = go (slot-kind (o .slotted) k below)
     where
       go : ProperSlot b k (slotIn work k) → slotIn (emptying u work k .work) k ≡ emptySlot
@@ -106,22 +108,22 @@ module _ {L : ℕ} {b : Bounds} {c : ℕ} {board work : List ℕ} {u : Undo} {g 
           (full-holds b (flushingIf t u work .work) k a (is-dirty tag (flushed-slot o k below a tag home e t refl) lo hi)) .slot)
 
 -- emptying flushes, or leaves the log's numbers as they are
-pub record Fewer (u v : Undo) : Type 0 where
+pub record Fewer (u v : LogState) : Type 0 where
   pub entries : v .entries ≡ u .entries
   pub used : v .control .length + v .buffered ≡ u .control .length + u .buffered
   pub buffered : v .buffered ≤ u .buffered
   pub persisted : v .control .persisted ≡ u .control .persisted
 
-pub same-fewer : (u : Undo) → Fewer u u
+pub same-fewer : (u : LogState) → Fewer u u
 same-fewer u = record { entries = refl; used = refl; buffered = omega arith; persisted = refl }
 
-pub flush-fewer : (t : Bool) (u : Undo) (work : List ℕ) → Fewer u (flushingIf t u work .undo)
+pub flush-fewer : (t : Bool) (u : LogState) (work : List ℕ) → Fewer u (flushingIf t u work .undo)
 unfolding flushingIf undo.flushed
 flush-fewer true u work = record { entries = refl; used = omega arith; buffered = omega arith; persisted = refl }
 flush-fewer false u work = same-fewer u
 
-pub emptying-fewer : (u : Undo) (work : List ℕ) (k : ℕ) → Fewer u (emptying u work k .undo)
-unfolding emptying clearing writingOut
+pub emptying-fewer : (u : LogState) (work : List ℕ) (k : ℕ) → Fewer u (emptying u work k .undo)
+unfolding emptying writingBack writingOut
 emptying-fewer u work k = go (slotIn work k .dirty)
   where
     go : (t : Bool)

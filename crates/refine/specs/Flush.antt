@@ -7,18 +7,19 @@ use native.Mathlib.Omega.{arith}
 use Rattle.layout.specs.Limits.{mostAhead}
 use Rattle.layout.specs.Memory.{bufferIn}
 use Rattle.board.specs.Stores.{applied}
-use Rattle.undo.specs.declared.Undo.{Undo}
+use Rattle.undo.specs.declared.LogState.{LogState}
 use Rattle.undo.specs.Log as undo
-use Rattle.cache.specs.declared.Bounds.{Bounds}
-use Rattle.cache.specs.Effects.{Effect, nothing, flushing, flushingIf}
-use Rattle.history.specs.Machine.{Volatile, Reference, flushed}
+use Rattle.slots.specs.declared.Bounds.{Bounds}
+use Rattle.steps.specs.Effects.{Effect, nothing, flushing, flushingIf}
+use Rattle.history.specs.Machine.{Volatile, flushed}
+use Rattle.reference.specs.Machine.{Reference}
 use Rattle.history.specs.Invariant.{Live}
 use Rattle.history.specs.Keeps.{flush-safe, flush-live}
 use Rattle.durable.specs.View as durable
 use Rattle.durable.specs.Flush.{flush-cut, flush-reads}
 use Rattle.volatile.specs.Slotted.{with-slotted}
-use Rattle.volatile.specs.Swept.{swept-with}
 use Rattle.volatile.specs.View.{volatileOf, flushed-words, view-flushed}
+use Rattle.refine.specs.Pass.{pass-with}
 use Rattle.refine.specs.State.{Off, Ok}
 use Rattle.refine.specs.Along.{Along, along-none}
 
@@ -27,7 +28,7 @@ pub record Keeps (L : ℕ) (b : Bounds) (c : ℕ) (board : List ℕ) (g : Refere
   pub along : Along (b .lines) L board g (e .stores)
   pub after : Ok L b c′ (applied board (e .stores)) (e .work) (e .undo) g′
 
-module _ {L : ℕ} {b : Bounds} {c : ℕ} {board work : List ℕ} {u : Undo} {g : Reference} (o : Ok L b c board work u g) where
+module _ {L : ℕ} {b : Bounds} {c : ℕ} {board work : List ℕ} {u : LogState} {g : Reference} (o : Ok L b c board work u g) where
   pub ok-off : Off (b .lines) L board g
   ok-off = record { control = u .control; durable = o .durable; reads = o .reads; safe = o .safe }
 
@@ -63,9 +64,7 @@ module _ {L : ℕ} {b : Bounds} {c : ℕ} {board work : List ℕ} {u : Undo} {g 
               last = o .last;
               room = omega (arith, o .room);
               places = omega arith;
-              cursor = o .cursor;
-              busy = o .busy;
-              swept = swept-with (o .slotted) buffer words c (b .persisted + 1) (o .cursor) (o .swept);
+              pass = pass-with (o .pass) (o .slotted) buffer words;
               safe = flush-safe (o .live) (o .safe);
               live =
                   subst (λ (x : Volatile). Live (b .lines) mostAhead (flushed (o .durable) w) x g)

@@ -1,9 +1,10 @@
+pub mod Pass
 pub mod State
 pub mod Along
 pub mod Flush
 pub mod WriteOut
 pub mod Empty
 pub mod Load
-pub mod Mark
+pub mod Store
 pub mod Scan
 pub mod Wake

@@ -6,12 +6,13 @@ use mathlib.Core.List.{List}
 use lib.ListN.{getD}
 use Rattle.layout.specs.Memory.{linesAt, slotIn, dataIn}
 use Rattle.board.specs.Stores.{applied}
-use Rattle.undo.specs.declared.Undo.{Undo}
-use Rattle.cache.specs.declared.Bounds.{Bounds}
-use Rattle.cache.specs.declared.Spot.{Spot}
-use Rattle.cache.specs.Effects.{emptying, lineIn, bringing, loading}
-use Rattle.cache.specs.Slots.{holds, cleanSlot}
-use Rattle.history.specs.Machine.{absent, Durable, Reference}
+use Rattle.undo.specs.declared.LogState.{LogState}
+use Rattle.slots.specs.declared.Bounds.{Bounds}
+use Rattle.slots.specs.declared.Spot.{Spot}
+use Rattle.steps.specs.Effects.{emptying, lineIn, bringing, loading}
+use Rattle.slots.specs.Slots.{holds}
+use Rattle.history.specs.Machine.{absent, Durable}
+use Rattle.reference.specs.Machine.{Reference}
 use Rattle.history.specs.Keeps.{fill-live}
 use Rattle.history.specs.Lines.{held-as}
 use Rattle.volatile.specs.Cache.{cacheOf, cache-at, cache-clean, cache-dirty}
@@ -19,20 +20,20 @@ use Rattle.volatile.specs.Held.{empty-held}
 use Rattle.volatile.specs.Proper.{AtHome, FullSlot, is-clean, is-dirty}
 use Rattle.volatile.specs.Slotted.{slot-full}
 use Rattle.volatile.specs.Stores.{filled-empty}
-use Rattle.volatile.specs.Swept.{swept-stored, clean-after}
+use Rattle.refine.specs.Pass.{pass-cleaned}
 use Rattle.refine.specs.State.{Ok}
 use Rattle.refine.specs.Flush.{Keeps, nothing-keeps}
 use Rattle.refine.specs.WriteOut.{ok-with}
 use Rattle.refine.specs.Empty.{emptying-keeps, emptying-slot, Fewer, same-fewer, emptying-fewer}
 
 -- a held line's data is the reference machine's line
-pub full-reads : {L : ℕ} {b : Bounds} {c : ℕ} {board work : List ℕ} {u : Undo} {g : Reference} → Ok L b c board work u g → (k a : ℕ) → AtHome b k a
+pub full-reads : {L : ℕ} {b : Bounds} {c : ℕ} {board work : List ℕ} {u : LogState} {g : Reference} → Ok L b c board work u g → (k a : ℕ) → AtHome b k a
     → FullSlot b a (slotIn work k) → dataIn work k ≡ g .lines a
 full-reads {b = b} {work = work} o k a home (is-clean e) = held-as (o .live) a (cache-clean work (b .slots) a k (home .home) e) .0
 full-reads {b = b} {work = work} o k a home (is-dirty tag e lo hi) =
     held-as (o .live) a (cache-dirty work (b .slots) a k (home .home) tag e) .current
 
-module _ {L : ℕ} {b : Bounds} {c : ℕ} {board work : List ℕ} {u : Undo} {g : Reference} (o : Ok L b c board work u g) (k : ℕ)
+module _ {L : ℕ} {b : Bounds} {c : ℕ} {board work : List ℕ} {u : LogState} {g : Reference} (o : Ok L b c board work u g) (k : ℕ)
     (below : k < b .slots) (a : ℕ) (home : AtHome b k a) where
   pub emptied : Keeps L b c board g (emptying u work k) c g
   emptied = emptying-keeps o k below
@@ -58,8 +59,7 @@ module _ {L : ℕ} {b : Bounds} {c : ℕ} {board work : List ℕ} {u : Undo} {g 
       record {
         along = emptied .along;
         after =
-            ok-with (emptied .after) st c (o .cursor) (o .busy)
-            (swept-stored st c (b .persisted + 1) (clean-after (b .persisted + 1) (cleanSlot a) refl) (emptied .after .swept)) board′
+            ok-with (emptied .after) st c (pass-cleaned (emptied .after .pass) st refl) board′
             (emptied .after .durable) (emptied .after .reads) (emptied .after .persisted) g (emptied .after .safe)
             (rw line-same (fill-live (emptied .after .live) a absent-now));
       }

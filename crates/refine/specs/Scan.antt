@@ -8,13 +8,14 @@ use lib.Dec.{eqb}
 use Rattle.layout.specs.Memory.{bufferIn, slotIn, dataIn}
 use Rattle.board.specs.Laws.{applied-append}
 use Rattle.board.specs.Stores.{applied}
-use Rattle.undo.specs.declared.Undo.{Undo}
+use Rattle.undo.specs.declared.LogState.{LogState}
 use Rattle.undo.specs.Log as undo
 use Rattle.undo.specs.Log.{buffers, advanceStores, dropped}
-use Rattle.cache.specs.declared.Bounds.{Bounds}
-use Rattle.cache.specs.Effects.{nothing, flushingIf, writingOut, sweeping, visiting, persisting}
-use Rattle.cache.specs.Slots.{holds, cleanSlot, dirtySlot}
-use Rattle.history.specs.Machine.{clean, Reference, persists, advanced}
+use Rattle.slots.specs.declared.Bounds.{Bounds}
+use Rattle.steps.specs.Effects.{nothing, flushingIf, writingOut, cleaning, visiting, persisting}
+use Rattle.slots.specs.Slots.{holds, dirtySlot}
+use Rattle.history.specs.Machine.{clean, advanced}
+use Rattle.reference.specs.Machine.{Reference, persists}
 use Rattle.history.specs.Keeps.{advance-safe, advance-live}
 use Rattle.durable.specs.Advance.{advance-reads}
 use Rattle.layout.specs.declared.Slot.{Slot}
@@ -23,21 +24,19 @@ use Rattle.volatile.specs.Buffer.{buffer-none}
 use Rattle.volatile.specs.Proper.{AtHome, is-clean, is-dirty, ProperSlot, is-empty, is-full, full-holds, withEpochs}
 use Rattle.volatile.specs.Slotted.{slot-kind}
 use Rattle.volatile.specs.Stores.{cleaned-held}
-use Rattle.volatile.specs.Swept.{swept-none, SweptTo, swept-visited, swept-passed, swept-scanned, clean-after, advance-slotted}
+use Rattle.volatile.specs.Swept.{SweptTo, swept-scanned, advance-slotted}
+use Rattle.refine.specs.Pass.{target, pass-none, pass-visited, pass-passed}
 use Rattle.refine.specs.State.{Ok}
 use Rattle.refine.specs.Along.{Along, along-none, along-one, along-then}
 use Rattle.refine.specs.Flush.{Keeps, ok-off, flushing-if-keeps}
 use Rattle.refine.specs.WriteOut.{first, flushed-slot, flush-value, written-live, written-keeps}
 
-module _ {L : ℕ} {b : Bounds} {c : ℕ} {board work : List ℕ} {u : Undo} {g : Reference} (o : Ok L b c board work u g)
-    (waits : b .persisted + 1 < b .epoch) where
-  abbrev target : ℕ
-  target = b .persisted + 1
-
+module _ {L : ℕ} {b : Bounds} {c : ℕ} {board work : List ℕ} {u : LogState} {g : Reference} (o : Ok L b c board work u g)
+    (waits : target b < b .epoch) where
   -- ---- a visit
 
   module _ (below : c < b .slots) where
-    passed-keeps : slotIn work c .dirty && eqb (slotIn work c .tag) target ≡ false → Keeps L b c board g (nothing u work) (c + 1) g
+    passed-keeps : slotIn work c .dirty && eqb (slotIn work c .tag) (target b) ≡ false → Keeps L b c board g (nothing u work) (c + 1) g
     unfolding applied
     passed-keeps e =
         record {
@@ -52,17 +51,15 @@ module _ {L : ℕ} {b : Bounds} {c : ℕ} {board work : List ℕ} {u : Undo} {g 
                 last = o .last;
                 room = o .room;
                 places = o .places;
-                cursor = omega arith;
-                busy = λ h. waits;
-                swept = swept-passed (o .slotted) c target below (omega arith) e (o .swept);
+                pass = pass-passed (o .pass) waits below (o .slotted) e;
                 safe = o .safe;
                 live = o .live;
               };
         }
 
     dirty-keeps : (a tag : ℕ) → AtHome b c a → slotIn work c ≡ dirtySlot a tag → b .persisted < tag → tag ≤ b .epoch
-        → Keeps L b c board g (sweeping u work c) (c + 1) g
-    unfolding sweeping writingOut
+        → Keeps L b c board g (cleaning u work c) (c + 1) g
+    unfolding cleaning writingOut
     dirty-keeps a tag home e lo hi =
         let t = buffers (bufferIn work) (u .buffered) a in
         let f = flushingIf t u work in
@@ -70,25 +67,25 @@ module _ {L : ℕ} {b : Bounds} {c : ℕ} {board work : List ℕ} {u : Undo} {g 
         let h : holds (f .work) c a ≡ true = full-holds b (f .work) c a (is-dirty tag (flushed-slot o c below a tag home e t refl) lo hi) in
         let st = cleaned-held (x .after .slotted) c below a h in
         rw e
-        (written-keeps o c below a tag home e t refl (clean (dataIn (f .work) c)) st (c + 1) (omega arith) (λ i. waits)
-        (swept-visited st target (clean-after target (cleanSlot a) refl) (x .after .swept))
+        (written-keeps o c below a tag home e t refl (clean (dataIn (f .work) c)) st (c + 1)
+        (pass-visited (x .after .pass) waits below st refl)
         (rw (flush-value (o .slotted) u c below t) (written-live o c below a tag home e t refl)))
 
-    sweeping-keeps : slotIn work c .dirty ≡ true → Keeps L b c board g (sweeping u work c) (c + 1) g
-    sweeping-keeps d = go (slot-kind (o .slotted) c below)
+    cleaning-keeps : slotIn work c .dirty ≡ true → Keeps L b c board g (cleaning u work c) (c + 1) g
+    cleaning-keeps d = go (slot-kind (o .slotted) c below)
       where
-        go : ProperSlot b c (slotIn work c) → Keeps L b c board g (sweeping u work c) (c + 1) g
+        go : ProperSlot b c (slotIn work c) → Keeps L b c board g (cleaning u work c) (c + 1) g
         go (is-empty e) = absurd (false≢true (sym (ap (λ (s : Slot). s .dirty) e) ∙ d))
         go (is-full a home (is-clean e)) = absurd (false≢true (sym (ap (λ (s : Slot). s .dirty) e) ∙ d))
         go (is-full a home (is-dirty tag e lo hi)) = dirty-keeps a tag home e lo hi
 
-    pub visiting-keeps : Keeps L b c board g (visiting u work c target) (c + 1) g
+    pub visiting-keeps : Keeps L b c board g (visiting u work c (target b)) (c + 1) g
     unfolding visiting
-    visiting-keeps = go (slotIn work c .dirty && eqb (slotIn work c .tag) target) refl
+    visiting-keeps = go (slotIn work c .dirty && eqb (slotIn work c .tag) (target b)) refl
       where
-        go : (t : Bool) → slotIn work c .dirty && eqb (slotIn work c .tag) target ≡ t
-            → Keeps L b c board g (cond t (sweeping u work c) (nothing u work)) (c + 1) g
-        go true e = sweeping-keeps (and-left (slotIn work c .dirty) (eqb (slotIn work c .tag) target) e)
+        go : (t : Bool) → slotIn work c .dirty && eqb (slotIn work c .tag) (target b) ≡ t
+            → Keeps L b c board g (cond t (cleaning u work c) (nothing u work)) (c + 1) g
+        go true e = cleaning-keeps (and-left (slotIn work c .dirty) (eqb (slotIn work c .tag) (target b)) e)
         go false e = passed-keeps e
 
   -- ---- the last step
@@ -97,43 +94,41 @@ module _ {L : ℕ} {b : Bounds} {c : ℕ} {board work : List ℕ} {u : Undo} {g 
   flush = flushing-if-keeps o true
 
   -- the log's numbers, and the bounds, once the target is persisted
-  abbrev pub u′ : Undo
+  abbrev pub u′ : LogState
   u′ =
       record {
-        control = undo.advanced (undo.flushed u) target (dropped (applied board (flushingIf true u work .stores)) (undo.flushed u) target);
+        control = undo.advanced (undo.flushed u) (target b) (dropped (applied board (flushingIf true u work .stores)) (undo.flushed u) (target b));
         entries = u .entries;
         buffered = 0;
       }
 
-  pub persisting-along : Along (b .lines) L board g (persisting board u work target .stores)
+  pub persisting-along : Along (b .lines) L board g (persisting board u work (target b) .stores)
   unfolding persisting flushingIf advanceStores
   persisting-along =
-      along-then board (flushingIf true u work .stores) (advanceStores (applied board (flushingIf true u work .stores)) (undo.flushed u) target)
+      along-then board (flushingIf true u work .stores) (advanceStores (applied board (flushingIf true u work .stores)) (undo.flushed u) (target b))
       (flush .along) (along-one (ok-off (flush .after)) _ _)
 
   pub persisting-ok : c ≡ b .slots
-      → Ok L (withEpochs b target (b .epoch)) 0 (applied board (persisting board u work target .stores)) (persisting board u work target .work) u′
-      (persists g target)
+      → Ok L (withEpochs b (target b) (b .epoch)) 0 (applied board (persisting board u work (target b) .stores)) (persisting board u work (target b) .work) u′
+      (persists g (target b))
   unfolding persisting flushingIf undo.flushed
   persisting-ok all =
       let p = flush .after in
-      let swept = subst (λ (n : ℕ). SweptTo (flushingIf true u work .work) n target) all (p .swept) in
-      let scanned = swept-scanned (p .slotted) target (b .epoch) 0 swept in
-      let after : p .durable .persisted < target = omega (arith, p .persisted) in
+      let swept = subst (λ (n : ℕ). SweptTo (flushingIf true u work .work) n (target b)) all (p .pass .swept) in
+      let scanned = swept-scanned (p .slotted) (target b) (b .epoch) 0 swept in
+      let after : p .durable .persisted < target b = omega (arith, p .persisted) in
       let empty = buffer-none (bufferIn (flushingIf true u work .work)) in
       rw applied-append
       record {
-        durable = advanced (p .durable) target;
-        reads = advance-reads (undo.flushed u) (p .reads) (p .ring) target (omega (arith, o .last));
+        durable = advanced (p .durable) (target b);
+        reads = advance-reads (undo.flushed u) (p .reads) (p .ring) (target b) (omega (arith, o .last));
         ring = o .ring;
-        slotted = advance-slotted (p .slotted) target swept;
+        slotted = advance-slotted (p .slotted) (target b) swept;
         persisted = refl;
         last = o .last;
         room = omega (arith, o .room);
         places = omega arith;
-        cursor = omega arith;
-        busy = λ h. absurd (omega arith);
-        swept = swept-none (flushingIf true u work .work) (target + 1);
-        safe = advance-safe (p .live) target after waits empty scanned;
-        live = advance-live (p .live) target after waits empty scanned;
+        pass = pass-none (withEpochs b (target b) (b .epoch)) (flushingIf true u work .work);
+        safe = advance-safe (p .live) (target b) after waits empty scanned;
+        live = advance-live (p .live) (target b) after waits empty scanned;
       }

@@ -1,17 +1,18 @@
 -- Words that hold the invariant of the abstract cache log: a board with the current off, and a running controller.
-use Prim.Native.Nat.{ℕ, _+_, _≤_, _<_}
+use Prim.Native.Nat.{ℕ, _+_, _≤_}
 use mathlib.Core.Path.{_≡_}
 use mathlib.Core.List.{List}
 use Rattle.layout.specs.declared.Control.{Control}
 use Rattle.layout.specs.Limits.{lastEpoch, bufferPlaces, mostAhead}
-use Rattle.undo.specs.declared.Undo.{Undo}
-use Rattle.cache.specs.declared.Bounds.{Bounds}
-use Rattle.history.specs.Machine.{Durable, Reference}
+use Rattle.undo.specs.declared.LogState.{LogState}
+use Rattle.slots.specs.declared.Bounds.{Bounds}
+use Rattle.history.specs.Machine.{Durable}
+use Rattle.reference.specs.Machine.{Reference}
 use Rattle.history.specs.Invariant.{Safe, Live}
 use Rattle.durable.specs.View.{Reads}
 use Rattle.volatile.specs.Slotted.{Slotted}
-use Rattle.volatile.specs.Swept.{SweptTo}
 use Rattle.volatile.specs.View.{volatileOf}
+use Rattle.refine.specs.Pass.{Pass}
 
 -- A board of N lines and L log entries that recovers to the reference machine's copy of the persisted epoch: what every cut has to
 -- leave.
@@ -22,7 +23,7 @@ pub record Off (N L : ℕ) (board : List ℕ) (g : Reference) : Type 0 where
   pub safe : Safe N mostAhead durable g
 
 -- A controller at work on such a board: the log's numbers u with which a call goes on, and the cursor c of the scan.
-pub record Ok (L : ℕ) (b : Bounds) (c : ℕ) (board work : List ℕ) (u : Undo) (g : Reference) : Type 0 where
+pub record Ok (L : ℕ) (b : Bounds) (c : ℕ) (board work : List ℕ) (u : LogState) (g : Reference) : Type 0 where
   pub durable : Durable
   pub reads : Reads (b .lines) L board (u .control) durable
   pub ring : u .entries ≡ L
@@ -32,10 +33,6 @@ pub record Ok (L : ℕ) (b : Bounds) (c : ℕ) (board work : List ℕ) (u : Undo
   -- "Since room for buffered entries is held back": so a flush always fits
   pub room : u .control .length + u .buffered ≤ L
   pub places : u .buffered ≤ bufferPlaces
-  pub cursor : c ≤ b .slots
-  -- "c = 0 where s = P + 1": a pass runs only while an epoch waits
-  pub busy : 0 < c → b .persisted + 1 < b .epoch
-  -- the slots before the cursor hold no dirty line of the epoch that the scan persists
-  pub swept : SweptTo work c (b .persisted + 1)
+  pub pass : Pass b work c
   pub safe : Safe (b .lines) mostAhead durable g
   pub live : Live (b .lines) mostAhead durable (volatileOf work (b .slots) (b .epoch) (u .buffered)) g

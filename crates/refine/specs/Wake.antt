@@ -5,12 +5,13 @@ use mathlib.Core.List.{List}
 use native.Mathlib.Omega.{arith}
 use Rattle.layout.specs.Limits.{lastEpoch, mostSlots, mostAhead}
 use Rattle.board.specs.Stores.{applied}
-use Rattle.undo.specs.declared.Undo.{Undo}
+use Rattle.undo.specs.declared.LogState.{LogState}
 use Rattle.undo.specs.Log as undo
 use Rattle.undo.specs.Log.{recoverStores}
-use Rattle.cache.specs.declared.Bounds.{Bounds}
-use Rattle.history.specs.Machine.{Reference, wakes, commits, cleared}
-use Rattle.history.specs.Every.{Every}
+use Rattle.slots.specs.declared.Bounds.{Bounds}
+use Rattle.reference.specs.Machine.{Reference, wakes, commits}
+use Rattle.history.specs.Machine.{cleared}
+use Rattle.base.specs.Every.{Every}
 use Rattle.history.specs.Keeps.{commit-safe, commit-live}
 use Rattle.history.specs.Restore.{restoredAll, restoredPart, part-safe, power-up-safe, power-up-live}
 use Rattle.durable.specs.Proper.{proper-named}
@@ -19,15 +20,16 @@ use Rattle.durable.specs.Recover.{recover-cut, recover-reads}
 use Rattle.durable.specs.View.{Reads, undoWith}
 use Rattle.volatile.specs.Proper.{withEpochs}
 use Rattle.volatile.specs.Slotted.{zeroWork, zero-slotted}
-use Rattle.volatile.specs.Swept.{swept-none, commit-slotted}
+use Rattle.volatile.specs.Swept.{commit-slotted}
 use Rattle.volatile.specs.View.{view-awake, view-commit}
+use Rattle.refine.specs.Pass.{pass-none, pass-commit}
 use Rattle.refine.specs.State.{Off, Ok}
 use Rattle.refine.specs.Along.{Along}
 
 -- ---- power-up
 
 module _ {N L : ℕ} {board : List ℕ} {g : Reference} (off : Off N L board g) where
-  abbrev pub u : Undo
+  abbrev pub u : LogState
   u = undoWith (off .control) L
 
   named : Every (λ x. x .address < N) (off .durable .log)
@@ -61,9 +63,7 @@ module _ {N L : ℕ} {board : List ℕ} {g : Reference} (off : Off N L board g) 
         last = omega (arith, reads-bounded (off .reads));
         room = omega arith;
         places = omega arith;
-        cursor = omega arith;
-        busy = λ h. absurd (omega arith);
-        swept = swept-none (zeroWork slots) (off .control .persisted + 1);
+        pass = pass-none (wakeBounds slots) (zeroWork slots);
         safe = power-up-safe (off .safe);
         live =
             rw (p, view-awake (off .durable) slots some) (power-up-live (off .safe) (omega arith));
@@ -71,7 +71,7 @@ module _ {N L : ℕ} {board : List ℕ} {g : Reference} (off : Off N L board g) 
 
 -- ---- commit
 
-pub commit-ok : {L : ℕ} {b : Bounds} {c : ℕ} {board work : List ℕ} {u : Undo} {g : Reference} → Ok L b c board work u g → b .epoch < lastEpoch
+pub commit-ok : {L : ℕ} {b : Bounds} {c : ℕ} {board work : List ℕ} {u : LogState} {g : Reference} → Ok L b c board work u g → b .epoch < lastEpoch
     → b .epoch < b .persisted + mostAhead → Ok L (withEpochs b (b .persisted) (b .epoch + 1)) c board work u (commits g)
 commit-ok {b = b} {work = work} {u = u} o early window =
     record {
@@ -83,9 +83,7 @@ commit-ok {b = b} {work = work} {u = u} o early window =
       last = omega arith;
       room = o .room;
       places = o .places;
-      cursor = o .cursor;
-      busy = λ h. omega (arith, o .busy h);
-      swept = o .swept;
+      pass = pass-commit (o .pass);
       safe = commit-safe (o .live) (o .safe);
       live = rw view-commit (commit-live (o .live) (omega (arith, o .persisted)));
     }

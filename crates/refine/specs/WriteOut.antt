@@ -1,5 +1,5 @@
 -- Writing a dirty line out keeps the invariant, whatever then becomes of its slot: emptied, or held on clean.
-use Prim.Native.Nat.{ℕ, _+_, _≤_, _<_}
+use Prim.Native.Nat.{ℕ, _+_, _<_}
 use mathlib.Core.Path.{_≡_, refl, sym, ap, subst, _∙_}
 use mathlib.Core.Bool.{Bool, true, false}
 use mathlib.Core.List.{List, _++_}
@@ -8,13 +8,14 @@ use Rattle.layout.specs.Limits.{mostAhead}
 use Rattle.layout.specs.Memory.{linesAt, bufferIn, slotIn, dataIn}
 use Rattle.board.specs.Laws.{applied-append}
 use Rattle.board.specs.Stores.{one, applied}
-use Rattle.undo.specs.declared.Undo.{Undo}
+use Rattle.undo.specs.declared.LogState.{LogState}
 use Rattle.undo.specs.Log as undo
 use Rattle.undo.specs.Log.{buffers}
-use Rattle.cache.specs.declared.Bounds.{Bounds}
-use Rattle.cache.specs.Effects.{Effect, flushingIf}
-use Rattle.cache.specs.Slots.{dirtySlot}
-use Rattle.history.specs.Machine.{Line, clean, dirty, Durable, Volatile, Reference, Silent, written, holding, recall}
+use Rattle.slots.specs.declared.Bounds.{Bounds}
+use Rattle.steps.specs.Effects.{Effect, flushingIf}
+use Rattle.slots.specs.Slots.{dirtySlot}
+use Rattle.history.specs.Machine.{Line, clean, dirty, Durable, Volatile, Silent, written, holding, recall}
+use Rattle.reference.specs.Machine.{Reference}
 use Rattle.history.specs.Invariant.{Safe, Live}
 use Rattle.history.specs.Keeps.{write-out-safe, write-out-live}
 use Rattle.durable.specs.View.{Reads}
@@ -26,19 +27,19 @@ use Rattle.volatile.specs.Cache.{cache-dirty}
 use Rattle.volatile.specs.Proper.{AtHome}
 use Rattle.volatile.specs.Slotted.{Slotted, with-slot, with-value}
 use Rattle.volatile.specs.Stores.{Stored, LineStored}
-use Rattle.volatile.specs.Swept.{SweptTo}
 use Rattle.volatile.specs.View.{volatileOf, withLines, view-stored, flushed-words}
+use Rattle.refine.specs.Pass.{Pass}
 use Rattle.refine.specs.State.{Ok}
 use Rattle.refine.specs.Along.{along-one, along-then}
 use Rattle.refine.specs.Flush.{Keeps, ok-off, flushing-if-keeps}
 
 -- Slot k is stored to, and the board may have moved: all else stays.
-pub ok-with : {L : ℕ} {b : Bounds} {c : ℕ} {board work : List ℕ} {u : Undo} {g : Reference} (o : Ok L b c board work u g) {k : ℕ} {s : Slot} {word : ℕ}
-    {lines : ℕ → Line} {work′ : List ℕ} → Stored b work k s word lines work′ → (c′ : ℕ) → c′ ≤ b .slots
-    → (0 < c′ → b .persisted + 1 < b .epoch) → SweptTo work′ c′ (b .persisted + 1) → (board′ : List ℕ) (d : Durable) → Reads (b .lines) L board′ (u .control) d → b .persisted ≡ d .persisted → (g′ : Reference)
+pub ok-with : {L : ℕ} {b : Bounds} {c : ℕ} {board work : List ℕ} {u : LogState} {g : Reference} (o : Ok L b c board work u g) {k : ℕ} {s : Slot} {word : ℕ}
+    {lines : ℕ → Line} {work′ : List ℕ} → Stored b work k s word lines work′ → (c′ : ℕ) → Pass b work′ c′
+    → (board′ : List ℕ) (d : Durable) → Reads (b .lines) L board′ (u .control) d → b .persisted ≡ d .persisted → (g′ : Reference)
     → Safe (b .lines) mostAhead d g′
     → Live (b .lines) mostAhead d (withLines (volatileOf work (b .slots) (b .epoch) (u .buffered)) lines) g′ → Ok L b c′ board′ work′ u g′
-ok-with {b = b} {u = u} o st c′ within busy swept board′ d reads named g′ safe live =
+ok-with {b = b} {u = u} o st c′ pass board′ d reads named g′ safe live =
     record {
       durable = d;
       reads = reads;
@@ -48,16 +49,14 @@ ok-with {b = b} {u = u} o st c′ within busy swept board′ d reads named g′ 
       last = o .last;
       room = o .room;
       places = o .places;
-      cursor = within;
-      busy = busy;
-      swept = swept;
+      pass = pass;
       safe = safe;
       live =
           subst (λ (x : Volatile). Live (b .lines) mostAhead d x g′) (sym (view-stored st (b .epoch) (u .buffered))) live;
     }
 
 -- a flush leaves the slots
-module _ {b : Bounds} {work : List ℕ} (slotted : Slotted b work) (u : Undo) (k : ℕ) (below : k < b .slots) where
+module _ {b : Bounds} {work : List ℕ} (slotted : Slotted b work) (u : LogState) (k : ℕ) (below : k < b .slots) where
   pub flush-slot : (t : Bool) → slotIn (flushingIf t u work .work) k ≡ slotIn work k
   unfolding flushingIf
   flush-slot true = with-slot slotted _ (flushed-words slotted u) k below
@@ -69,13 +68,13 @@ module _ {b : Bounds} {work : List ℕ} (slotted : Slotted b work) (u : Undo) (k
   flush-value false = refl
 
 -- a write-out flushes first where a buffered entry has the address: so no buffered entry is left that tells the line
-pub flush-silent : (u : Undo) (work : List ℕ) (a e : ℕ) (t : Bool) → t ≡ buffers (bufferIn work) (u .buffered) a
+pub flush-silent : (u : LogState) (work : List ℕ) (a e : ℕ) (t : Bool) → t ≡ buffers (bufferIn work) (u .buffered) a
     → Silent (bufferOf (bufferIn (flushingIf t u work .work)) (flushingIf t u work .undo .buffered)) e a
 unfolding flushingIf listed recall undo.flushed
 flush-silent u work a e true h = λ d. refl
 flush-silent u work a e false h = none-silent (bufferIn work) (u .buffered) a (sym h) e
 
-module _ {L : ℕ} {b : Bounds} {c : ℕ} {board work : List ℕ} {u : Undo} {g : Reference} (o : Ok L b c board work u g) (k : ℕ)
+module _ {L : ℕ} {b : Bounds} {c : ℕ} {board work : List ℕ} {u : LogState} {g : Reference} (o : Ok L b c board work u g) (k : ℕ)
     (below : k < b .slots) (a tag : ℕ) (home : AtHome b k a) (slot : slotIn work k ≡ dirtySlot a tag) (t : Bool)
     (test : t ≡ buffers (bufferIn work) (u .buffered) a) where
   abbrev flush : Effect
@@ -107,17 +106,17 @@ module _ {L : ℕ} {b : Bounds} {c : ℕ} {board work : List ℕ} {u : Undo} {g 
   written-live = write-out-live (first .after .live) a flushed-cache
 
   -- the line store, and then what becomes of the slot
-  pub written-keeps : (l : Line) {s : Slot} {word : ℕ} {work′ : List ℕ} → LineStored b (flush .work) k s word a l work′ → (c′ : ℕ) → c′ ≤ b .slots
-      → (0 < c′ → b .persisted + 1 < b .epoch) → SweptTo work′ c′ (b .persisted + 1) → Live (b .lines) mostAhead (written d a value) (holding w a l) g
+  pub written-keeps : (l : Line) {s : Slot} {word : ℕ} {work′ : List ℕ} → LineStored b (flush .work) k s word a l work′ → (c′ : ℕ) → Pass b work′ c′
+      → Live (b .lines) mostAhead (written d a value) (holding w a l) g
       → Keeps L b c board g (record { stores = flush .stores ++ one (linesAt (u .entries) + a) value; undo = flush .undo; work = work′ }) c′ g
-  written-keeps l st c′ within busy swept live =
+  written-keeps l st c′ pass live =
       let at : ℕ = linesAt (u .entries) + a in
       let same : linesAt L + a ≡ at = ap (λ (n : ℕ). linesAt n + a) (sym (o .ring)) in
       record {
         along = along-then board (flush .stores) (one at value) (first .along) (along-one (ok-off (first .after)) at value);
         after =
             rw applied-append
-            (ok-with (first .after) st c′ within busy swept (applied (applied board (flush .stores)) (one at value)) (written d a value)
+            (ok-with (first .after) st c′ pass (applied (applied board (flush .stores)) (one at value)) (written d a value)
             (subst (λ (x : ℕ). Reads (b .lines) L (applied (applied board (flush .stores)) (one x value)) (flush .undo .control) (written d a value)) same
             (line-reads (first .after .reads) a value (home .inside)))
             (first .after .persisted) g (write-out-safe (first .after .live) (first .after .safe) a flushed-cache logged) live);

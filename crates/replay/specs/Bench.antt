@@ -1,38 +1,27 @@
 -- The replay, "Replay on the bench": what a command prints, and the bench and the memories after it.
 use Prim.Native.Nat.{ℕ}
-use mathlib.Core.Bool.{Bool, true, false, cond, _&&_}
+use mathlib.Core.Bool.{true, false, cond}
 use mathlib.Core.List.{List}
-use lib.Dec.{leb}
 use lib.ListN.{getD}
 use Rattle.layout.specs.declared.Control.{Control}
 use Rattle.layout.specs.Memory.{controlAt, boardWords, workWords}
 use Rattle.layout.specs.Words.{decodeControl}
+use Rattle.status.specs.Numbers.{isOk}
 use Rattle.checks.specs.declared.Registers.{Registers}
 use Rattle.checks.specs.Registers as registers
 use Rattle.picl.specs.declared.Answer.{Answer}
+use Rattle.benchboard.specs.Calls.{fullAllowance, woken}
+use Rattle.benchboard.specs.Sizes.{benchSized}
 use Rattle.script.specs.declared.Command.{Command}
 use Rattle.script.specs.declared.Command.the-variants as command
-use Rattle.replay.specs.declared.Call.{Call}
-use Rattle.replay.specs.declared.Call.the-variants as call
+use Rattle.replay.specs.declared.Request.{Request}
+use Rattle.replay.specs.declared.Request.the-variants as request
 use Rattle.replay.specs.declared.Line.{Line}
 use Rattle.replay.specs.declared.Reply.{Reply}
 use Rattle.replay.specs.declared.Reply.the-variants.{Quiet, Said, Last, Bad}
 use Rattle.replay.specs.declared.Bench.{Bench}
 use Rattle.replay.specs.declared.Step.{Step}
-use Rattle.replay.specs.Calls.{fullAllowance, letterOf, isOk, called, woken, within}
-
--- "N ≤ 2,048, L ≤ 1,024, S ≤ 64"
-abbrev pub mostLines : ℕ
-mostLines = 2048
-
-abbrev pub mostEntries : ℕ
-mostEntries = 1024
-
-abbrev pub mostSlots : ℕ
-mostSlots = 64
-
-unfoldable pub goodSizes : (lines entries slots : ℕ) → Bool
-goodSizes lines entries slots = leb lines mostLines && leb entries mostEntries && leb slots mostSlots
+use Rattle.replay.specs.Calls.{requested, within}
 
 -- the bench before the first line
 abbrev pub newBench : Bench
@@ -46,10 +35,9 @@ abbrev pub answeredBench : Bench → Registers → Bench
 answeredBench b r = record { ready = b .ready; board = b .board; work = b .work; registers = r; allowance = fullAllowance }
 
 -- "Output: letter, name, value, stores, s, P, log length, b": P and the log length are those of the control word
-abbrev pub lineWith : (letter : ℕ) → Answer → Control → Line
-lineWith letter a control =
+abbrev pub lineWith : Answer → Control → Line
+lineWith a control =
     record {
-      letter = letter;
       status = a .status;
       value = a .value;
       stores = a .stores;
@@ -59,8 +47,8 @@ lineWith letter a control =
       buffered = a .registers .buffered;
     }
 
-abbrev pub lineOf : (letter : ℕ) → Answer → (word : ℕ) → Line
-lineOf letter a word = lineWith letter a (decodeControl word)
+abbrev pub lineOf : Answer → (word : ℕ) → Line
+lineOf a word = lineWith a (decodeControl word)
 
 -- "a refused `n` ends it after its own line"
 abbrev pub startReply : Line → Reply
@@ -90,18 +78,18 @@ allowedStep b count = cond (b .ready) (readyStep b count) (refusedStep b)
 unfoldable pub allowing : Bench → (count : ℕ) → (board work : List ℕ) → Effect
 allowing b count board work = record { step = allowedStep b count; board = board; work = work }
 
--- a call on the board that `n` has formatted, with the bench's registers and allowance
-unfoldable pub running : Bench → Call → (board work : List ℕ) → Effect
-running b c board work =
-    let l = within (b .board) (b .work) (called c (b .registers) (b .allowance)) board work in
+-- a request to the board that `n` has formatted, with the bench's registers and allowance
+unfoldable pub running : Bench → Request → (board work : List ℕ) → Effect
+running b q board work =
+    let l = within (b .board) (b .work) (requested q (b .registers) (b .allowance)) board work in
     record {
-      step = record { bench = answeredBench b (l .answer .registers); reply = Said (lineOf (letterOf c) (l .answer) (getD (l .board) controlAt 0)) };
+      step = record { bench = answeredBench b (l .answer .registers); reply = Said (lineOf (l .answer) (getD (l .board) controlAt 0)) };
       board = l .board;
       work = l .work;
     }
 
-unfoldable pub calling : Bench → Call → (board work : List ℕ) → Effect
-calling b c board work = cond (b .ready) (running b c board work) (refusing b board work)
+unfoldable pub requesting : Bench → Request → (board work : List ℕ) → Effect
+requesting b q board work = cond (b .ready) (running b q board work) (refusing b board work)
 
 unfoldable pub starting : (lines entries slots : ℕ) → (board work : List ℕ) → Effect
 starting lines entries slots board work =
@@ -109,7 +97,7 @@ starting lines entries slots board work =
     record {
       step = record {
         bench = readyBench (boardWords lines entries) (workWords slots) (l .answer .registers) fullAllowance;
-        reply = startReply (lineOf 110 (l .answer) (getD (l .board) controlAt 0));  -- `n`
+        reply = startReply (lineOf (l .answer) (getD (l .board) controlAt 0));
       };
       board = l .board;
       work = l .work;
@@ -118,15 +106,11 @@ starting lines entries slots board work =
 -- "first, once"; "larger sizes included"
 unfoldable pub formatting : Bench → (lines entries slots : ℕ) → (board work : List ℕ) → Effect
 formatting b lines entries slots board work =
-    cond (b .ready) (refusing b board work) (cond (goodSizes lines entries slots) (starting lines entries slots board work) (refusing b board work))
+    cond (b .ready) (refusing b board work) (cond (benchSized lines entries slots) (starting lines entries slots board work) (refusing b board work))
 
 unfoldable pub performed : Bench → Command → (board work : List ℕ) → Effect
 performed b (command.Format lines entries slots) board work = formatting b lines entries slots board work
-performed b (command.Store a value) board work = calling b (call.Store a value) board work
-performed b (command.Load a) board work = calling b (call.Load a) board work
-performed b (command.Evict a) board work = calling b (call.Evict a) board work
-performed b command.Commit board work = calling b call.Commit board work
-performed b command.Scan board work = calling b call.Scan board work
-performed b command.PowerUp board work = calling b call.PowerUp board work
+performed b (command.Call c) board work = requesting b (request.Call c) board work
+performed b command.PowerUp board work = requesting b request.PowerUp board work
 performed b (command.Allow count) board work = allowing b count board work
 performed b command.Bad board work = refusing b board work

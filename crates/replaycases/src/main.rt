@@ -3,66 +3,30 @@
 ghost use Prim.Native.Nat.{_+_, _≤_};
 ghost use Rattle.io.specs.Counts.{Counts};
 ghost use lib.ListN.{length};
-ghost use Rattle.replay.specs.Contracts.{benchBoard, benchWork};
+ghost use Rattle.benchboard.specs.Sizes.{benchBoard, benchWork};
 ghost use Rattle.transcript.specs.Printing.{longest};
-ghost use Rattle.transcript.specs.Session.{Ready, Roomy};
+use benchboard::BOARD_WORDS;
+use benchboard::WORK_WORDS;
 use libc::STDOUT_FILENO;
-use replay::BOARD_WORDS;
-use replay::WORK_WORDS;
-use transcript::LONGEST_LINE;
 use transcript::Session;
 
 const NAME_BYTES: usize = 48;
 
 const SUFFIX_BYTES: usize = 16;
 
-// No case prints as much as the buffer holds. One that did would lose its first lines here, and fail.
-fn keep_room(session: Session, out: &[u8]) -> Session
-    requires { ⌜ session .used ≤ length (now out) ⌝ }
-    ensures { λ r. ⌜ Roomy session (now (out .entry)) r ⌝ }
-{
-    let used = session.used;
-    if out.len() - used >= LONGEST_LINE {
-        return session;
-    }
-    session.emptied()
-}
-
-fn replay_byte(
-    session: Session,
-    byte: u8,
-    board: &mut [u64],
-    work: &mut [u64],
-    out: &mut [u8],
-) -> Session
-    requires { ⌜ Ready session (now board) (now work) (now out) ⌝ }
-    ensures { λ r. ⌜ Ready r (now (board .exit)) (now (work .exit)) (now (out .exit)) ⌝ }
-{
-    let fed = transcript::feed(session, byte, board, work, out);
-    keep_room(fed, out)
-}
-
-fn replay_end(session: Session, board: &mut [u64], work: &mut [u64], out: &mut [u8]) -> Session
-    requires { ⌜ Ready session (now board) (now work) (now out) ⌝ }
-    ensures { λ r. ⌜ Ready r (now (board .exit)) (now (work .exit)) (now (out .exit)) ⌝ }
-{
-    let finished = transcript::finish(session, board, work, out);
-    keep_room(finished, out)
-}
-
+// No case prints as much as the buffer holds. One that did would lack its last lines here, and fail.
 fn replay_script(script: &[u8], board: &mut [u64], work: &mut [u64], out: &mut [u8]) -> Session
     requires { ⌜ benchBoard ≤ length (now board) ⌝ }
     requires { ⌜ benchWork ≤ length (now work) ⌝ }
     requires { ⌜ longest ≤ length (now out) ⌝ }
-    ensures { λ r. ⌜ Ready r (now (board .exit)) (now (work .exit)) (now (out .exit)) ⌝ }
+    ensures { λ r. ⌜ r .used ≤ length (now (out .exit)) ⌝ }
 {
-    let mut s = Session::new();
-    let mut i = 0;
-    while i < script.len() {
-        s = replay_byte(s, script[i], board, work, out);
-        i += 1;
+    let fed = transcript::feed_bytes(Session::new(), script, board, work, out);
+    let session = fed.session;
+    if !session.is_roomy(out.len()) {
+        return session;
     }
-    replay_end(s, board, work, out)
+    transcript::finish(session, board, work, out)
 }
 
 // Answers how many bytes the script prints.

@@ -51,6 +51,10 @@ numbersOf (suc zero) r = r .third ∷ []
 numbersOf (suc (suc zero)) r = r .second ∷ r .third ∷ []
 numbersOf (suc (suc (suc n))) r = r .first ∷ r .second ∷ r .third ∷ []
 
+-- the letter of the line where it is not bad
+abbrev pub letterBy : Reader → ℕ
+letterBy r = r .letter
+
 -- what the line asks for where it ends here
 unfoldable pub commandBy : Reader → Command
 commandBy r = cond (r .bad) Bad (cond (r .full) (commandWith (r .letter) (numbersOf (r .count) r)) Bad)

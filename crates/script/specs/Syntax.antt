@@ -4,8 +4,9 @@ use Prim.Native.Nat.{ℕ, _+_, _-_, _*_, _^_}
 use mathlib.Core.Bool.{Bool, true, false, cond, not, _&&_}
 use mathlib.Core.List.{List, [], _∷_, map, foldl}
 use lib.Dec.{ltb, leb, eqb}
+use Rattle.benchcalls.specs.declared.Call.the-variants.{Load, Store, Evict, Commit, Scan}
 use Rattle.script.specs.declared.Command.{Command}
-use Rattle.script.specs.declared.Command.the-variants.{Format, Store, Load, Evict, Commit, Scan, PowerUp, Allow, Bad}
+use Rattle.script.specs.declared.Command.the-variants.{Format, Call, PowerUp, Allow, Bad}
 
 -- "single spaces": the fields of a line are what stands between its spaces, so one more than there are spaces. A field may be empty
 pub record Fields : Type 0 where
@@ -51,14 +52,14 @@ isNumber bs = not (isEmpty bs) && (every isDigit bs && ltb (valueOf bs) (2 ^ 64)
 -- a letter with the values of its numbers, "count below 2^32"
 unfoldable pub commandWith : ℕ → List ℕ → Command
 commandWith letter [] =
-    cond (eqb letter 99) Commit  -- `c`
-    (cond (eqb letter 97) Scan  -- `a`
+    cond (eqb letter 99) (Call Commit)  -- `c`
+    (cond (eqb letter 97) (Call Scan)  -- `a`
     (cond (eqb letter 112) PowerUp Bad))  -- `p`
 commandWith letter (x ∷ []) =
-    cond (eqb letter 108) (Load x)  -- `l a`
-    (cond (eqb letter 101) (Evict x)  -- `e a`
+    cond (eqb letter 108) (Call (Load x))  -- `l a`
+    (cond (eqb letter 101) (Call (Evict x))  -- `e a`
     (cond (eqb letter 107 && ltb x (2 ^ 32)) (Allow x) Bad))  -- `k count`
-commandWith letter (x ∷ y ∷ []) = cond (eqb letter 115) (Store x y) Bad  -- `s a value`
+commandWith letter (x ∷ y ∷ []) = cond (eqb letter 115) (Call (Store x y)) Bad  -- `s a value`
 commandWith letter (x ∷ y ∷ z ∷ []) = cond (eqb letter 110) (Format x y z) Bad  -- `n N L S`
 commandWith letter (x ∷ y ∷ z ∷ w ∷ more) = Bad
 

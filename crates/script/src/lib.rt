@@ -3,7 +3,8 @@
 ghost use mathlib.Core.Path.{_≡_};
 ghost use mathlib.Core.List.{[], _∷_};
 ghost use Rattle.script.specs.Syntax.{commandWith};
-ghost use Rattle.script.specs.Steps.{readerOf, badReader, ended, lettered, digited, stepOf, commandBy};
+ghost use Rattle.script.specs.Steps.{readerOf, badReader, ended, lettered, digited, stepOf, letterBy, commandBy};
+use benchcalls::Call;
 
 const SPACE: u8 = b' ';
 
@@ -24,16 +25,8 @@ const COUNTS: u64 = 4294967296;
 pub enum Command {
     // `n N L S`
     Format(u64, u64, u64),
-    // `s a value`
-    Store(u64, u64),
-    // `l a`
-    Load(u64),
-    // `e a`
-    Evict(u64),
-    // `c`
-    Commit,
-    // `a`
-    Scan,
+    // `s a value`, `l a`, `e a`, `c` or `a`
+    Call(Call),
     // `p`
     PowerUp,
     // `k count`
@@ -87,6 +80,13 @@ impl Reader {
             return take_letter(self, byte);
         }
         take_digit(self, byte)
+    }
+
+    // The letter of a line that is not bad.
+    pub fn letter(self) -> u8
+        ensures { λ r. ⌜ r ≡ letterBy self ⌝ }
+    {
+        self.letter
     }
 
     // What the line asks for, at its end.
@@ -197,10 +197,10 @@ fn bare(letter: u8) -> Command
     ensures { λ r. ⌜ r ≡ commandWith letter [] ⌝ }
 {
     if letter == b'c' {
-        return Command::Commit;
+        return Command::Call(Call::Commit);
     }
     if letter == b'a' {
-        return Command::Scan;
+        return Command::Call(Call::Scan);
     }
     if letter == b'p' {
         return Command::PowerUp;
@@ -213,10 +213,10 @@ fn with_one(letter: u8, x: u64) -> Command
     ensures { λ r. ⌜ r ≡ commandWith letter (x ∷ []) ⌝ }
 {
     if letter == b'l' {
-        return Command::Load(x);
+        return Command::Call(Call::Load(x));
     }
     if letter == b'e' {
-        return Command::Evict(x);
+        return Command::Call(Call::Evict(x));
     }
     if letter != b'k' {
         return Command::Bad;
@@ -232,7 +232,7 @@ fn with_two(letter: u8, x: u64, y: u64) -> Command
     ensures { λ r. ⌜ r ≡ commandWith letter (x ∷ y ∷ []) ⌝ }
 {
     if letter == b's' {
-        return Command::Store(x, y);
+        return Command::Call(Call::Store(x, y));
     }
     Command::Bad
 }

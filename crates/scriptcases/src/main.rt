@@ -1,6 +1,7 @@
 // Lines through the reader of the crate `script`: for each its number and what was decoded.
 ghost use mathlib.Core.Path.{_≡_};
 ghost use Rattle.script.specs.Syntax.{commandOf};
+use benchcalls::Call;
 use libc::STDOUT_FILENO;
 use script::Command;
 use script::Reader;
@@ -27,6 +28,26 @@ fn number(n: u64) {
     io::print_decimal(STDOUT_FILENO, n);
 }
 
+fn print_call(call: Call) {
+    match call {
+        Call::Load(address) => {
+            word(b" load");
+            number(address);
+        }
+        Call::Store(address, value) => {
+            word(b" store");
+            number(address);
+            number(value);
+        }
+        Call::Evict(address) => {
+            word(b" evict");
+            number(address);
+        }
+        Call::Commit => word(b" commit"),
+        Call::Scan => word(b" scan"),
+    }
+}
+
 fn print(command: Command) {
     match command {
         Command::Format(lines, places, slots) => {
@@ -35,21 +56,7 @@ fn print(command: Command) {
             number(places);
             number(slots);
         }
-        Command::Store(address, value) => {
-            word(b" store");
-            number(address);
-            number(value);
-        }
-        Command::Load(address) => {
-            word(b" load");
-            number(address);
-        }
-        Command::Evict(address) => {
-            word(b" evict");
-            number(address);
-        }
-        Command::Commit => word(b" commit"),
-        Command::Scan => word(b" scan"),
+        Command::Call(call) => print_call(call),
         Command::PowerUp => word(b" power-up"),
         Command::Allow(count) => {
             word(b" allow");

@@ -2,14 +2,12 @@
 use Prim.Native.Nat.{ℕ, zero, suc, _+_, _<_, _≤_}
 use Prim.Native.String as text
 use mathlib.Core.Path.{_≡_, refl, sym, ap, _∙_}
-use mathlib.Core.Bool.{not}
 use mathlib.Core.List.{List, [], _∷_, map}
 use native.Mathlib.Omega.{arith}
 use native.Mathlib.Nat.{le-of-suc-le-suc}
 use borrow.Author.Tests.{eq-eqb, ne-eqb}
 use lib.ListN.{length, getD, List·getD-map, List·getD-eq-default}
 use Rattle.base.specs.Walk.{firstFrom, Walked, walk-end, walk-stop, walk-pass}
-use Rattle.status.specs.declared.Name.{Name}
 use Rattle.status.specs.Names.{names, rowBytes, space, bytes, row, rowOf, nameOf}
 use Rattle.status.specs.Letters.{letterAt, lettersIn}
 

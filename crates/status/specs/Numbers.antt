@@ -1,5 +1,7 @@
 -- "What an answer says", the column "Returned: number, name".
 use Prim.Native.Nat.{ℕ}
+use mathlib.Core.Bool.{Bool}
+use lib.Dec.{eqb}
 use Rattle.status.specs.declared.Status.{Status}
 use Rattle.status.specs.declared.Status.the-variants.{
   Ok,
@@ -31,3 +33,7 @@ numberOf Waiting = 9
 numberOf Last = 10
 numberOf None = 11
 numberOf Cut = 12
+
+-- "0 ok"
+abbrev pub isOk : Status → Bool
+isOk s = eqb (numberOf s) 0

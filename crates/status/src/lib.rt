@@ -1,6 +1,6 @@
 // What an answer says: the numbers of the paper and their names.
 ghost use mathlib.Core.Path.{_≡_};
-ghost use Rattle.status.specs.Numbers.{numberOf};
+ghost use Rattle.status.specs.Numbers.{numberOf, isOk};
 ghost use Rattle.status.specs.Names.{nameOf, rowOf};
 ghost use Rattle.status.specs.Letters.{lettersIn};
 
@@ -19,6 +19,8 @@ pub enum Status {
     None,
     Cut,
 }
+
+const OK: u64 = 0;
 
 impl Status {
     pub fn number(self) -> u64
@@ -39,6 +41,12 @@ impl Status {
             Status::None => 11,
             Status::Cut => 12,
         }
+    }
+
+    pub fn is_ok(self) -> bool
+        ensures { λ r. ⌜ r ≡ isOk self ⌝ }
+    {
+        self.number() == OK
     }
 }
 

@@ -13,35 +13,25 @@ use Rattle.layout.specs.declared.Slot.{Slot}
 use Rattle.layout.specs.Limits.{bufferPlaces}
 use Rattle.layout.specs.Memory.{linesAt, bufferIn, slotIn, dataIn}
 use Rattle.layout.specs.Words.{Decoded, SlotFits, encodeSlot}
-use Rattle.undo.specs.declared.Undo.{Undo}
+use Rattle.undo.specs.declared.LogState.{LogState}
 use Rattle.undo.specs.declared.Progress.{Progress}
 use Rattle.undo.specs.Log.{Sound, buffers, flushed, advanceStores}
 use Rattle.undo.specs.Contracts.{AdvanceReady}
 use Rattle.undo.specs.Laws.{sound-flushed}
-use Rattle.cache.specs.declared.Spot.{Spot}
-use Rattle.cache.specs.Slots.{cleanSlot, cleaned, filled}
-use Rattle.cache.specs.Effects.{Effect, nothing, flushing, flushingIf, writingOut, clearing, emptying, lineIn, bringing, entryDue, undoDue, marking}
-use Rattle.cache.specs.Effects.{loading, storing, evicting, sweeping, visiting, persisting}
-use Rattle.cache.specs.Contracts.{Acts, Carries, MarkReady, EnterReady, StoreReady, PersistReady}
-use Rattle.steps.proofs.Entering.{filled-zeroed}
+use Rattle.slots.specs.declared.Spot.{Spot}
+use Rattle.slots.specs.Slots.{cleanSlot, cleaned, filled}
+use Rattle.steps.specs.Effects.{Effect, nothing, flushing, flushingIf, writingOut, writingBack, emptying, lineIn, bringing, storingHeld}
+use Rattle.slots.specs.Slots.{entryDue, undoDue}
+use Rattle.steps.specs.Effects.{loading, storing, evicting, cleaning, visiting, persisting}
+use Rattle.steps.specs.Contracts.{Acts, Carries, StoreHeldReady, StoreAbsentReady, StoreReady, PersistReady}
+use Rattle.steps.proofs.StoringAbsent.{filled-zeroed}
 
 -- an effect that does not depend on the board is told in any case
 told : {board board′ work′ : List ℕ} {m : Meter} {e : Effect} {r : Progress} → Acts board m e board′ work′ r → Carries board m e board′ work′ r
 told x = record { ran = x .ran; undo = λ h. x .undo; memory = λ h. x .memory }
 
--- whether a store makes an entry
-module _ (work : List ℕ) (spot : Spot) (epoch : ℕ) where
-  pub undo-brought : not (spot .held) ≡ true → true ≡ undoDue work spot epoch
-  unfolding undoDue
-  undo-brought h = rw h
-
-  pub undo-held : (s : Slot) (t : Bool) → not (spot .held) ≡ false → Decoded SlotFits (slotIn work (spot .slot)) s → t ≡ entryDue epoch s
-      → t ≡ undoDue work spot epoch
-  unfolding undoDue
-  undo-held s t h d a = rw (h, ← d .is) a
-
 -- evict
-module _ (board work : List ℕ) (u : Undo) (spot : Spot) (m : Meter) where
+module _ (board work : List ℕ) (u : LogState) (spot : Spot) (m : Meter) where
   pub evict-none : not (spot .held) ≡ true → Acts board m (evicting u work spot) board work (record { undo = u; meter = m })
   unfolding evicting
   evict-none h = rw (not-true (spot .held) h) record { ran = ran-none board m; undo = refl; memory = refl }
@@ -52,16 +42,16 @@ module _ (board work : List ℕ) (u : Undo) (spot : Spot) (m : Meter) where
   evict-held board′ work′ r h x = rw (not-false (spot .held) h) x
 
 -- a scan's visit
-pub swept : (board work : List ℕ) (u : Undo) (k address : ℕ) (m : Meter) (board′ work′ : List ℕ) (r : Progress) (word : ℕ)
+pub cleaned-out : (board work : List ℕ) (u : LogState) (k address : ℕ) (m : Meter) (board′ work′ : List ℕ) (r : Progress) (word : ℕ)
     → address ≡ slotIn work k .address → Acts board m (writingOut u work address (dataIn work k)) board′ work′ r
-    → word ≡ encodeSlot (cleanSlot address) → Acts board m (sweeping u work k) board′ (set work′ (2 * k) word) r
-unfolding sweeping cleaned
-swept board work u k address m board′ work′ r word e x w =
+    → word ≡ encodeSlot (cleanSlot address) → Acts board m (cleaning u work k) board′ (set work′ (2 * k) word) r
+unfolding cleaning cleaned
+cleaned-out board work u k address m board′ work′ r word e x w =
     rw (← e, ← w) record { ran = x .ran; undo = x .undo; memory = rw (← x .memory) }
 
-module _ (board work : List ℕ) (u : Undo) (k target : ℕ) (m : Meter) (s : Slot) (read : Decoded SlotFits (slotIn work k) s) where
-  pub sweep-address : s .address ≡ slotIn work k .address
-  sweep-address = ap (λ (x : Slot). x .address) (read .is)
+module _ (board work : List ℕ) (u : LogState) (k target : ℕ) (m : Meter) (s : Slot) (read : Decoded SlotFits (slotIn work k) s) where
+  pub clean-address : s .address ≡ slotIn work k .address
+  clean-address = ap (λ (x : Slot). x .address) (read .is)
 
   pub visit-clean : not (s .dirty) ≡ true → Acts board m (visiting u work k target) board work (record { undo = u; meter = m })
   unfolding visiting
@@ -73,13 +63,13 @@ module _ (board work : List ℕ) (u : Undo) (k target : ℕ) (m : Meter) (s : Sl
     visit-other n =
         rw (← read .is, not-false (s .dirty) dirty, ne-eqb (s .tag) target n) record { ran = ran-none board m; undo = refl; memory = refl }
 
-    pub visit-target : (board′ work′ : List ℕ) (r : Progress) → s .tag ≡ target → Acts board m (sweeping u work k) board′ work′ r
+    pub visit-target : (board′ work′ : List ℕ) (r : Progress) → s .tag ≡ target → Acts board m (cleaning u work k) board′ work′ r
         → Acts board m (visiting u work k target) board′ work′ r
     unfolding visiting
     visit-target board′ work′ r e x = rw (← read .is, not-false (s .dirty) dirty, eq-eqb (s .tag) target e) x
 
 -- a scan's last step
-module _ (board work : List ℕ) (u : Undo) (target : ℕ) (m : Meter) (board′ work′ : List ℕ) (f : Progress)
+module _ (board work : List ℕ) (u : LogState) (target : ℕ) (m : Meter) (board′ work′ : List ℕ) (f : Progress)
     (ready : PersistReady board work u target) (flush : Acts board m (flushingIf true u work) board′ work′ f) where
   pub persist-ready : AdvanceReady board′ (f .undo) target
   unfolding flushingIf flushed
@@ -103,21 +93,21 @@ module _ (board work : List ℕ) (u : Undo) (target : ℕ) (m : Meter) (board′
       }
 
 -- the line left its slot and the board's line fills it: the slot's words between them do not matter
-brought : (board work : List ℕ) (u : Undo) (k address : ℕ) (m : Meter) (board′ work′ : List ℕ) (r : Progress)
-    → Acts board m (clearing u work k) board′ work′ r → length (clearing u work k .stores) ≤ allowed m
+brought : (board work : List ℕ) (u : LogState) (k address : ℕ) (m : Meter) (board′ work′ : List ℕ) (r : Progress)
+    → Acts board m (writingBack u work k) board′ work′ r → length (writingBack u work k .stores) ≤ allowed m
     → filled work′ k address (lineIn board′ u address) ≡ bringing board u work k address .work
 unfolding bringing emptying
 brought board work u k address m board′ work′ r x g =
-    rw (x .memory, ran-all (clearing u work k .stores) (x .ran) g)
-    (sym (filled-zeroed (clearing u work k .work) k address (lineIn (applied board (clearing u work k .stores)) u address)))
+    rw (x .memory, ran-all (writingBack u work k .stores) (x .ran) g)
+    (sym (filled-zeroed (writingBack u work k .work) k address (lineIn (applied board (writingBack u work k .stores)) u address)))
 
 -- load
-module _ (board work : List ℕ) (u : Undo) (address : ℕ) (spot : Spot) (m : Meter) where
+module _ (board work : List ℕ) (u : LogState) (address : ℕ) (spot : Spot) (m : Meter) where
   pub load-held : spot .held ≡ true → Carries board m (loading board u work address spot) board work (record { undo = u; meter = m })
   unfolding loading
   load-held h = rw h record { ran = ran-none board m; undo = λ x. refl; memory = λ x. refl }
 
-  pub load-brought : (board′ work′ work″ : List ℕ) (r : Progress) → spot .held ≡ false → Acts board m (clearing u work (spot .slot)) board′ work′ r
+  pub load-brought : (board′ work′ work″ : List ℕ) (r : Progress) → spot .held ≡ false → Acts board m (writingBack u work (spot .slot)) board′ work′ r
       → work″ ≡ filled work′ (spot .slot) address (lineIn board′ u address)
       → Carries board m (loading board u work address spot) board′ work″ r
   unfolding loading bringing emptying
@@ -129,8 +119,8 @@ module _ (board work : List ℕ) (u : Undo) (address : ℕ) (spot : Spot) (m : M
       }
 
 -- store
-module _ (board work : List ℕ) (u : Undo) (address : ℕ) (spot : Spot) (epoch : ℕ) (ready : StoreReady board work u address spot epoch) where
-  pub store-held-ready : spot .held ≡ true → MarkReady board work u (spot .slot) address epoch
+module _ (board work : List ℕ) (u : LogState) (address : ℕ) (spot : Spot) (epoch : ℕ) (ready : StoreReady board work u address spot epoch) where
+  pub store-held-ready : spot .held ≡ true → StoreHeldReady board work u (spot .slot) address epoch
   unfolding undoDue
   store-held-ready h =
       let room : not (spot .held) || entryDue epoch (slotIn work (spot .slot)) ≡ true → u .control .length + u .buffered + 1 ≤ u .entries = ready .room in
@@ -144,11 +134,11 @@ module _ (board work : List ℕ) (u : Undo) (address : ℕ) (spot : Spot) (epoch
       }
 
   -- a line that leaves its slot flushes or leaves the log's numbers as they are; either keeps the room for the store's entry
-  abbrev Kept : Undo → Type 0
+  abbrev Kept : LogState → Type 0
   Kept v = Sound v × (v .entries ≡ u .entries) × (v .buffered < bufferPlaces) × (v .control .length + v .buffered + 1 ≤ v .entries)
 
-  kept : spot .held ≡ false → Kept (clearing u work (spot .slot) .undo)
-  unfolding clearing writingOut flushingIf flushed undoDue
+  kept : spot .held ≡ false → Kept (writingBack u work (spot .slot) .undo)
+  unfolding writingBack writingOut flushingIf flushed undoDue
   kept h = dirty (slotIn work (spot .slot) .dirty)
     where
       room : u .control .length + u .buffered + 1 ≤ u .entries
@@ -166,12 +156,12 @@ module _ (board work : List ℕ) (u : Undo) (address : ℕ) (spot : Spot) (epoch
       dirty false = same
 
   module _ (m : Meter) (board′ work′ : List ℕ) (b : Progress) (out : spot .held ≡ false)
-      (leaves : Acts board m (clearing u work (spot .slot)) board′ work′ b) where
+      (leaves : Acts board m (writingBack u work (spot .slot)) board′ work′ b) where
     same-board : length board′ ≡ length board
-    same-board = ran-length (clearing u work (spot .slot) .stores) (leaves .ran)
+    same-board = ran-length (writingBack u work (spot .slot) .stores) (leaves .ran)
 
-    pub store-enter-ready : length work′ ≡ length work → EnterReady board′ work′ (b .undo) (spot .slot) address epoch
-    store-enter-ready l =
+    pub store-absent-ready : length work′ ≡ length work → StoreAbsentReady board′ work′ (b .undo) (spot .slot) address epoch
+    store-absent-ready l =
         let k = kept out in
         let fill = ready .fill in
         rw (leaves .undo) record {
@@ -200,39 +190,39 @@ module _ (board work : List ℕ) (u : Undo) (address : ℕ) (spot : Spot) (epoch
 
     same-line : lineIn board′ (b .undo) address ≡ lineIn board′ u address
     unfolding lineIn
-    same-line = ap (λ (n : ℕ). getD board′ (linesAt n + address) 0) (ap (λ (v : Undo). v .entries) (leaves .undo) ∙ kept out .1)
+    same-line = ap (λ (n : ℕ). getD board′ (linesAt n + address) 0) (ap (λ (v : LogState). v .entries) (leaves .undo) ∙ kept out .1)
 
-    same-work : length (clearing u work (spot .slot) .stores) ≤ allowed m
+    same-work : length (writingBack u work (spot .slot) .stores) ≤ allowed m
         → filled work′ (spot .slot) address (lineIn board′ (b .undo) address) ≡ loading board u work address spot .work
     unfolding loading
     same-work h = rw (out, same-line) (brought board work u (spot .slot) address m board′ work′ b leaves h)
 
-    same-stores : loading board u work address spot .stores ≡ clearing u work (spot .slot) .stores
+    same-stores : loading board u work address spot .stores ≡ writingBack u work (spot .slot) .stores
     unfolding loading bringing emptying
     same-stores = rw out
 
-    pub store-entered : (value : ℕ) (board″ work″ : List ℕ) (r : Progress)
+    pub store-brought : (value : ℕ) (board″ work″ : List ℕ) (r : Progress)
         → Acts board′ (b .meter)
-        (marking (b .undo) (filled work′ (spot .slot) address (lineIn board′ (b .undo) address)) (spot .slot) address epoch value) board″ work″ r
+        (storingHeld (b .undo) (filled work′ (spot .slot) address (lineIn board′ (b .undo) address)) (spot .slot) address epoch value) board″ work″ r
         → Carries board m (storing board u work address spot epoch value) board″ work″ r
     unfolding storing
-    store-entered value board″ work″ r x =
-        let xs = clearing u work (spot .slot) .stores in
+    store-brought value board″ work″ r x =
+        let xs = writingBack u work (spot .slot) .stores in
         let l = loading board u work address spot in
         let f = filled work′ (spot .slot) address (lineIn board′ (b .undo) address) in
         let same : length xs ≤ allowed m
-        → marking (b .undo) f (spot .slot) address epoch value ≡ marking (l .undo) (l .work) (spot .slot) address epoch value =
+        → storingHeld (b .undo) f (spot .slot) address epoch value ≡ storingHeld (l .undo) (l .work) (spot .slot) address epoch value =
         λ h. rw (same-work h, same-undo) in
-        let part : length (l .stores ++ marking (l .undo) (l .work) (spot .slot) address epoch value .stores) ≤ allowed m → length xs ≤ allowed m =
-        λ h. omega (arith, ap length same-stores, length-append (l .stores) (marking (l .undo) (l .work) (spot .slot) address epoch value .stores)) in
+        let part : length (l .stores ++ storingHeld (l .undo) (l .work) (spot .slot) address epoch value .stores) ≤ allowed m → length xs ≤ allowed m =
+        λ h. omega (arith, ap length same-stores, length-append (l .stores) (storingHeld (l .undo) (l .work) (spot .slot) address epoch value .stores)) in
         record {
           ran = rw same-stores (ran-read xs (leaves .ran) (x .ran) (λ h. ap (λ (e : Effect). e .stores) (same h)));
           undo = λ h. x .undo ∙ ap (λ (e : Effect). e .undo) (same (part h));
           memory = λ h. x .memory ∙ ap (λ (e : Effect). e .work) (same (part h));
         }
 
-pub store-held : (board work : List ℕ) (u : Undo) (address : ℕ) (spot : Spot) (epoch value : ℕ) (m : Meter) (board′ work′ : List ℕ) (r : Progress)
-    → spot .held ≡ true → Acts board m (marking u work (spot .slot) address epoch value) board′ work′ r
+pub store-held : (board work : List ℕ) (u : LogState) (address : ℕ) (spot : Spot) (epoch value : ℕ) (m : Meter) (board′ work′ : List ℕ) (r : Progress)
+    → spot .held ≡ true → Acts board m (storingHeld u work (spot .slot) address epoch value) board′ work′ r
     → Carries board m (storing board u work address spot epoch value) board′ work′ r
 unfolding storing loading
 store-held board work u address spot epoch value m board′ work′ r h x = rw h (told x)

@@ -1,3 +1,4 @@
-pub mod Marking
-pub mod Entering
+pub mod Moving
+pub mod StoringHeld
+pub mod StoringAbsent
 pub mod Calls

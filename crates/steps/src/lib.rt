@@ -1,33 +1,23 @@
 // What the calls do once their tests have passed: the steps of load, store, evict and scan.
-ghost use Prim.Native.Nat.{_+_, _*_, _^_, _<_, _≤_};
-ghost use lib.ListN.{length};
+mod moves;
+
+ghost use Prim.Native.Nat.{_+_, _*_, _^_, _<_};
 ghost use mathlib.Core.Path.{_≡_};
-ghost use Rattle.layout.specs.Limits.{addressBits, epochBits};
+ghost use Rattle.layout.specs.Limits.{addressBits, lastEpoch};
 ghost use Rattle.layout.specs.Memory.{slotIn};
-ghost use Rattle.layout.specs.Words.{encodeSlot};
-ghost use Rattle.cache.specs.Slots.{dirtySlot, filled};
-ghost use Rattle.cache.specs.Effects.{entryDue, entryFor, undoDue, marking, lineIn};
-ghost use Rattle.cache.specs.Effects.{loading, storing, evicting, sweeping, visiting, persisting};
-ghost use Rattle.cache.specs.Contracts.{Acts, Carries, SlotReady, FillReady, MarkReady, EnterReady};
-ghost use Rattle.cache.specs.Contracts.{Logs, LogReady, LogsStore, LogStoreReady, StoreReady, PersistReady};
+ghost use Rattle.slots.specs.Slots.{filled};
+ghost use Rattle.steps.specs.Effects.{entryFor, storingHeld, lineIn};
+ghost use Rattle.steps.specs.Effects.{loading, storing, evicting, cleaning, scanTarget, visiting, persisting};
+ghost use Rattle.steps.specs.Contracts.{Acts, Carries, SlotReady, FillReady, StoreHeldReady, StoreAbsentReady};
+ghost use Rattle.steps.specs.Contracts.{Logs, LogReady, LogsStore, LogStoreReady, StoreReady, PersistReady};
 use board::Meter;
-use cache::Spot;
 use layout::BUFFER_PLACES;
-use layout::BUFFER_WORDS;
 use layout::Entry;
 use layout::SLOT_WORDS;
 use layout::Slot;
+use slots::Spot;
+use undo::LogState;
 use undo::Progress;
-use undo::Undo;
-
-fn is_entry_due(slot: Slot, epoch: u64) -> bool
-    ensures { λ r. ⌜ r ≡ entryDue epoch slot ⌝ }
-{
-    if !slot.dirty {
-        return true;
-    }
-    slot.tag != epoch
-}
 
 // A line's old data holds from the epoch of its last store on, or from the persisted epoch on if it is clean.
 fn entry_for(slot: Slot, persisted: u64, epoch: u64, address: u64) -> Entry
@@ -47,70 +37,66 @@ fn entry_for(slot: Slot, persisted: u64, epoch: u64, address: u64) -> Entry
     }
 }
 
-fn log(work: &mut [u64], undo: Undo, entry: Entry, old: u64) -> Undo
+// An entry to the end of the buffer, which stands behind the slots.
+fn push_entry(work: &mut [u64], undo: LogState, entry: Entry, old: u64) -> LogState
     requires { ⌜ LogReady (now work) undo entry ⌝ }
     ensures { λ r. ⌜ Logs (now (work .entry)) undo entry old (now (work .exit)) r ⌝ }
 {
-    let at = work.len() - BUFFER_WORDS;
+    let at = layout::buffer_at(work.len());
     undo::push(&mut work[at..], undo, entry, old)
-}
-
-fn dirty_word(address: u64, epoch: u64) -> u64
-    requires { ⌜ address < 2 ^ addressBits ⌝ }
-    requires { ⌜ epoch < 2 ^ epochBits ⌝ }
-    ensures { λ r. ⌜ r ≡ encodeSlot (dirtySlot address epoch) ⌝ }
-{
-    let slot = Slot {
-        valid: true,
-        dirty: true,
-        address,
-        tag: epoch,
-        spare: 0,
-    };
-    slot.encode()
 }
 
 // The undo entry of a store to the buffer's end, and the line in slot k dirty.
 fn log_store(
     work: &mut [u64],
-    undo: Undo,
+    undo: LogState,
     k: usize,
     slot: Slot,
     address: u64,
     epoch: u64,
     value: u64,
-) -> Undo
+) -> LogState
     requires { ⌜ LogStoreReady (now work) undo k slot address epoch ⌝ }
     ensures { λ r. ⌜ LogsStore (now (work .entry)) undo k slot address epoch value (now (work .exit)) r ⌝ }
 {
     let old = work[SLOT_WORDS * k + 1];
     let entry = entry_for(slot, undo.control.persisted, epoch, address);
-    let counted = log(work, undo, entry, old);
-    base::set_pair(work, SLOT_WORDS * k, dirty_word(address, epoch), value);
+    let counted = push_entry(work, undo, entry, old);
+    base::set_pair(
+        work,
+        SLOT_WORDS * k,
+        slots::dirty_word(address, epoch),
+        value,
+    );
     counted
 }
 
 // A store to the line that slot k holds. A full buffer goes to the log at once.
-pub fn mark(
+fn store_held(
     board: &mut [u64],
     work: &mut [u64],
-    undo: Undo,
+    undo: LogState,
     k: usize,
     address: u64,
     epoch: u64,
     value: u64,
     meter: Meter,
 ) -> Progress
-    requires { ⌜ MarkReady (now board) (now work) undo k address epoch ⌝ }
-    ensures { λ r. ⌜ Acts (now (board .entry)) meter (marking undo (now (work .entry)) k address epoch value) (now (board .exit)) (now (work .exit)) r ⌝ }
+    requires { ⌜ StoreHeldReady (now board) (now work) undo k address epoch ⌝ }
+    ensures { λ r. ⌜ Acts (now (board .entry)) meter (storingHeld undo (now (work .entry)) k address epoch value) (now (board .exit)) (now (work .exit)) r ⌝ }
 {
-    let slot = cache::slot_at(work, k);
-    if !is_entry_due(slot, epoch) {
-        base::set_pair(work, SLOT_WORDS * k, dirty_word(address, epoch), value);
+    let slot = slots::slot_at(work, k);
+    if !slots::is_entry_due(slot, epoch) {
+        base::set_pair(
+            work,
+            SLOT_WORDS * k,
+            slots::dirty_word(address, epoch),
+            value,
+        );
         return Progress { undo, meter };
     }
     let counted = log_store(work, undo, k, slot, address, epoch, value);
-    cache::flush_if(
+    moves::flush_if(
         counted.buffered == BUFFER_PLACES as u64,
         board,
         work,
@@ -119,19 +105,20 @@ pub fn mark(
     )
 }
 
-// A store to a line that slot k takes from the board: what `mark` does once the slot is filled, without filling it.
-fn enter(
+// A store to a line that slot k takes from the board: what `store_held` does once the slot is filled, without filling it.
+fn store_absent(
     board: &mut [u64],
     work: &mut [u64],
-    undo: Undo,
+    undo: LogState,
     k: usize,
     address: u64,
     epoch: u64,
     value: u64,
     meter: Meter,
 ) -> Progress
-    requires { ⌜ EnterReady (now board) (now work) undo k address epoch ⌝ }
-    ensures { λ r. ⌜ Acts (now (board .entry)) meter (marking undo (filled (now (work .entry)) k address (lineIn (now (board .entry)) undo address)) k address epoch value) (now (board .exit)) (now (work .exit)) r ⌝ }
+    requires { ⌜ StoreAbsentReady (now board) (now work) undo k address epoch ⌝ }
+    ensures { λ r. ⌜ Acts (now (board .entry)) meter
+        (storingHeld undo (filled (now (work .entry)) k address (lineIn (now (board .entry)) undo address)) k address epoch value) (now (board .exit)) (now (work .exit)) r ⌝ }
 {
     let at = layout::lines_at(undo.entries) + address as usize;
     let old = board[at];
@@ -140,9 +127,14 @@ fn enter(
         from: undo.control.persisted,
         till: epoch,
     };
-    let counted = log(work, undo, entry, old);
-    base::set_pair(work, SLOT_WORDS * k, dirty_word(address, epoch), value);
-    cache::flush_if(
+    let counted = push_entry(work, undo, entry, old);
+    base::set_pair(
+        work,
+        SLOT_WORDS * k,
+        slots::dirty_word(address, epoch),
+        value,
+    );
+    moves::flush_if(
         counted.buffered == BUFFER_PLACES as u64,
         board,
         work,
@@ -152,10 +144,10 @@ fn enter(
 }
 
 // The line of slot k to the board, and clean from then on.
-fn sweep(
+fn clean(
     board: &mut [u64],
     work: &mut [u64],
-    undo: Undo,
+    undo: LogState,
     k: usize,
     address: u64,
     meter: Meter,
@@ -163,20 +155,28 @@ fn sweep(
     requires { ⌜ SlotReady (now board) (now work) undo k ⌝ }
     requires { ⌜ address ≡ slotIn (now work) k .address ⌝ }
     requires { ⌜ address < 2 ^ addressBits ⌝ }
-    ensures { λ r. ⌜ Acts (now (board .entry)) meter (sweeping undo (now (work .entry)) k) (now (board .exit)) (now (work .exit)) r ⌝ }
+    ensures { λ r. ⌜ Acts (now (board .entry)) meter (cleaning undo (now (work .entry)) k) (now (board .exit)) (now (work .exit)) r ⌝ }
 {
     let at = SLOT_WORDS * k;
     let value = work[at + 1];
-    let done = cache::write_out(board, work, undo, address, value, meter);
-    work[at] = cache::clean_word(address);
+    let done = moves::write_out(board, work, undo, address, value, meter);
+    work[at] = slots::clean_word(address);
     done
+}
+
+// The epoch that a scan persists.
+pub fn scan_target(persisted: u64) -> u64
+    requires { ⌜ persisted < lastEpoch ⌝ }
+    ensures { λ r. ⌜ r ≡ scanTarget persisted ⌝ }
+{
+    persisted + 1
 }
 
 // A scan's visit of slot k: a line that was last stored to in the target epoch is written out and stays held.
 pub fn visit(
     board: &mut [u64],
     work: &mut [u64],
-    undo: Undo,
+    undo: LogState,
     k: usize,
     target: u64,
     meter: Meter,
@@ -184,28 +184,28 @@ pub fn visit(
     requires { ⌜ SlotReady (now board) (now work) undo k ⌝ }
     ensures { λ r. ⌜ Acts (now (board .entry)) meter (visiting undo (now (work .entry)) k target) (now (board .exit)) (now (work .exit)) r ⌝ }
 {
-    let slot = cache::slot_at(work, k);
+    let slot = slots::slot_at(work, k);
     if !slot.dirty {
         return Progress { undo, meter };
     }
     if slot.tag != target {
         return Progress { undo, meter };
     }
-    sweep(board, work, undo, k, slot.address, meter)
+    clean(board, work, undo, k, slot.address, meter)
 }
 
 // A scan's last step: the buffer to the log, and then the control word with the target as persisted epoch.
 pub fn persist(
     board: &mut [u64],
     work: &mut [u64],
-    undo: Undo,
+    undo: LogState,
     target: u64,
     meter: Meter,
 ) -> Progress
     requires { ⌜ PersistReady (now board) (now work) undo target ⌝ }
     ensures { λ r. ⌜ Carries (now (board .entry)) meter (persisting (now (board .entry)) undo (now (work .entry)) target) (now (board .exit)) (now (work .exit)) r ⌝ }
 {
-    let flushed = cache::flush_if(true, board, work, undo, meter);
+    let flushed = moves::flush_if(true, board, work, undo, meter);
     let after = flushed.undo;
     let left = flushed.meter;
     let advanced = undo::advance(board, after, target, left);
@@ -219,7 +219,7 @@ pub fn persist(
 pub fn load(
     board: &mut [u64],
     work: &mut [u64],
-    undo: Undo,
+    undo: LogState,
     address: u64,
     spot: Spot,
     meter: Meter,
@@ -230,8 +230,8 @@ pub fn load(
     if spot.held {
         return Progress { undo, meter };
     }
-    let left = cache::leave(board, work, undo, spot.slot, meter);
-    cache::fill(board, work, undo, spot.slot, address);
+    let left = moves::write_back(board, work, undo, spot.slot, meter);
+    moves::fill(board, work, undo, spot.slot, address);
     left
 }
 
@@ -239,7 +239,7 @@ pub fn load(
 pub fn store(
     board: &mut [u64],
     work: &mut [u64],
-    undo: Undo,
+    undo: LogState,
     address: u64,
     spot: Spot,
     epoch: u64,
@@ -250,33 +250,27 @@ pub fn store(
     ensures { λ r. ⌜ Carries (now (board .entry)) meter (storing (now (board .entry)) undo (now (work .entry)) address spot epoch value) (now (board .exit)) (now (work .exit)) r ⌝ }
 {
     if spot.held {
-        return mark(board, work, undo, spot.slot, address, epoch, value, meter);
+        return store_held(board, work, undo, spot.slot, address, epoch, value, meter);
     }
-    let left = cache::leave(board, work, undo, spot.slot, meter);
+    let left = moves::write_back(board, work, undo, spot.slot, meter);
     let after = left.undo;
     let rest = left.meter;
-    enter(board, work, after, spot.slot, address, epoch, value, rest)
+    store_absent(board, work, after, spot.slot, address, epoch, value, rest)
 }
 
 // An empty slot where the line at an address was held.
-pub fn evict(board: &mut [u64], work: &mut [u64], undo: Undo, spot: Spot, meter: Meter) -> Progress
+pub fn evict(
+    board: &mut [u64],
+    work: &mut [u64],
+    undo: LogState,
+    spot: Spot,
+    meter: Meter,
+) -> Progress
     requires { ⌜ SlotReady (now board) (now work) undo (spot .slot) ⌝ }
     ensures { λ r. ⌜ Acts (now (board .entry)) meter (evicting undo (now (work .entry)) spot) (now (board .exit)) (now (work .exit)) r ⌝ }
 {
     if !spot.held {
         return Progress { undo, meter };
     }
-    cache::empty(board, work, undo, spot.slot, meter)
-}
-
-// Whether a store to the line at an address makes an undo entry.
-pub fn is_undo_due(work: &[u64], spot: Spot, epoch: u64) -> bool
-    requires { ⌜ 2 * spot .slot + 2 ≤ length (now work) ⌝ }
-    ensures { λ r. ⌜ r ≡ undoDue (now (work .entry)) spot epoch ⌝ }
-{
-    if !spot.held {
-        return true;
-    }
-    let slot = cache::slot_at(work, spot.slot);
-    is_entry_due(slot, epoch)
+    moves::empty(board, work, undo, spot.slot, meter)
 }

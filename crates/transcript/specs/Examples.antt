@@ -20,12 +20,12 @@ unfolding decimalOf placesOf firstFrom
 largest = refl
 
 abbrev persisting : Line
-persisting = record { letter = 97; status = status.Ok; value = 1; stores = 6; epoch = 3; persisted = 1; length = 1; buffered = 0 }
+persisting = record { status = status.Ok; value = 1; stores = 6; epoch = 3; persisted = 1; length = 1; buffered = 0 }
 
-pub persisting-line : lineText persisting ≡ bytes "a ok 1 6 3 1 1 0\n"
+pub persisting-line : lineText 97 persisting ≡ bytes "a ok 1 6 3 1 1 0\n"
 unfolding lineText nameText numbersText decimalOf placesOf firstFrom
 persisting-line = refl
 
-pub bad-line : replyText Bad 12 ≡ bytes "? 12\n"
+pub bad-line : replyText 120 Bad 12 ≡ bytes "? 12\n"
 unfolding replyText badText numbersText decimalOf placesOf firstFrom
 bad-line = refl

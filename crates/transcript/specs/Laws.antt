@@ -1,25 +1,29 @@
 -- One law for each way out of a function on a session.
-use Prim.Native.Nat.{ℕ, _+_, _%_, _^_, _≤_}
+use Prim.Native.Nat.{ℕ, _+_, _%_, _^_, _<_, _≤_}
 use mathlib.Core.Path.{_≡_, refl, sym, ap, _∙_}
 use mathlib.Core.Bool.{Bool, true, false, cond, not}
 use mathlib.Core.List.{List, [], _++_, append-nil}
-use borrow.Author.Tests.{eq-eqb, ne-eqb, not-true, not-false}
+use borrow.Author.Tests.{le-leb, leb-true, eq-eqb, ne-eqb, not-true, not-false}
 use native.Mathlib.Omega.{arith}
 use lib.Dec.{eqb}
 use lib.ListN.{length, take}
+use Rattle.base.specs.Tests.{cond-true, cond-false}
+use Rattle.base.specs.Walk.{first-most, first-least}
 use Rattle.script.specs.declared.Command.{Command}
 use Rattle.script.specs.declared.Reader.{Reader}
-use Rattle.script.specs.Steps.{readerOf, stepOf, commandBy}
+use Rattle.script.specs.Steps.{readerOf, stepOf, letterBy, commandBy}
 use Rattle.replay.specs.declared.Bench.{Bench}
 use Rattle.replay.specs.declared.Step.{Step}
 use Rattle.replay.specs.Bench.{newBench, performed}
-use Rattle.replay.specs.Contracts.{benchBoard, benchWork, Performs}
+use Rattle.benchboard.specs.Sizes.{benchBoard, benchWork}
+use Rattle.replay.specs.Contracts.{Performs}
 use Rattle.replay.specs.Sizes.{new-sized, performed-sized}
 use Rattle.transcript.specs.declared.Session.{Session}
+use Rattle.transcript.specs.declared.Fed.{Fed}
 use Rattle.transcript.specs.Text.{replyText}
 use Rattle.transcript.specs.Printing.{longest, Prints}
 use Rattle.transcript.specs.Session.{newSession, emptiedSession, Turn, resting, reading, closed, ends, lineTurn, feedTurn, closing, finishTurn}
-use Rattle.transcript.specs.Session.{Ready, Open, Turns, Roomy}
+use Rattle.transcript.specs.Session.{roomy, bytesTurn, takenOf, Ready, Turns, Feeds}
 
 pub session-new : (b : Bench) (reader : Reader) → b ≡ newBench → reader ≡ readerOf []
     → _≡_ {A = Session} (record { bench = b; reader = reader; number = 1; begun = false; over = false; used = 0 }) newSession
@@ -31,65 +35,63 @@ session-reads s byte reader e = rw e
 
 -- ── a turn ──
 
-cond-true : {A : Type 0} (t : Bool) (x y : A) → t ≡ true → cond t x y ≡ x
-cond-true t x y h = rw h
-
-cond-false : {A : Type 0} (t : Bool) (x y : A) → t ≡ false → cond t x y ≡ y
-cond-false t x y h = rw h
-
-moved : {s r : Session} {out board′ work′ out′ : List ℕ} {t u : Turn} → t ≡ u → Turns s out u board′ work′ out′ r → Turns s out t board′ work′ out′ r
+moved : {most : ℕ} {s r : Session} {out board′ work′ out′ : List ℕ} {t u : Turn} → t ≡ u → Turns most s out u board′ work′ out′ r → Turns most s out t board′ work′ out′ r
 moved e p = rw e p
 
 module _ (s : Session) (board work out : List ℕ) (ready : Ready s board work out) where
   -- nothing is printed, and the bench and the memories stay
-  still : (r t : Session) → r ≡ t → t .bench ≡ s .bench → t .used ≡ s .used → Turns s out (resting t board work) board work out r
-  still r t e b u =
+  pub still : (most : ℕ) → s .used ≤ most → (r t : Session) → r ≡ t → t .bench ≡ s .bench → t .used ≡ s .used
+      → Turns most s out (resting t board work) board work out r
+  still most h r t e b u =
       rw e (record {
         session = refl;
         shown = rw u (sym (append-nil (take (s .used) out)));
         board-left = refl;
         work-left = refl;
-        kept = record { sized = rw b (ready .lent .sized); used-most = omega (arith, u) };
+        kept = record { sized = rw b (ready .lent .sized); used-most = omega (arith, u, h) };
       })
+
+  abbrev longer : ℕ
+  longer = s .used + longest
 
   module _ (byte : ℕ) where
     abbrev fed : Turn
     fed = cond (eqb byte 10) (lineTurn s board work) (resting (reading s byte) board work)
 
-    pub feed-over : s .over ≡ true → Turns s out (feedTurn s byte board work) board work out s
+    pub feed-over : s .over ≡ true → Turns longer s out (feedTurn s byte board work) board work out s
     unfolding feedTurn
-    feed-over h = moved (cond-true (s .over) (resting s board work) fed h) (still s s refl refl refl)
+    feed-over h = moved (cond-true (s .over) (resting s board work) fed h) (still longer (omega arith) s s refl refl refl)
 
-    pub feed-line : (board′ work′ out′ : List ℕ) (r : Session) → s .over ≡ false → byte ≡ 10 → Turns s out (lineTurn s board work) board′ work′ out′ r
-        → Turns s out (feedTurn s byte board work) board′ work′ out′ r
+    pub feed-line : (board′ work′ out′ : List ℕ) (r : Session) → s .over ≡ false → byte ≡ 10 → Turns longer s out (lineTurn s board work) board′ work′ out′ r
+        → Turns longer s out (feedTurn s byte board work) board′ work′ out′ r
     unfolding feedTurn
     feed-line board′ work′ out′ r h e p =
         moved (cond-false (s .over) (resting s board work) fed h ∙ cond-true (eqb byte 10) (lineTurn s board work) (resting (reading s byte) board work) (eq-eqb byte 10 e)) p
 
-    pub feed-byte : (r : Session) → s .over ≡ false → (byte ≡ 10 → ⊥) → r ≡ reading s byte → Turns s out (feedTurn s byte board work) board work out r
+    pub feed-byte : (r : Session) → s .over ≡ false → (byte ≡ 10 → ⊥) → r ≡ reading s byte → Turns longer s out (feedTurn s byte board work) board work out r
     unfolding feedTurn
     feed-byte r h e p =
         moved
         (cond-false (s .over) (resting s board work) fed h ∙ cond-false (eqb byte 10) (lineTurn s board work) (resting (reading s byte) board work) (ne-eqb byte 10 e))
-        (still r (reading s byte) p refl refl)
+        (still longer (omega arith) r (reading s byte) p refl refl)
 
   abbrev rest : Turn
   rest = cond (s .begun) (closing (lineTurn s board work)) (resting (closed s) board work)
 
-  pub finish-over : s .over ≡ true → Turns s out (finishTurn s board work) board work out s
+  pub finish-over : s .over ≡ true → Turns longer s out (finishTurn s board work) board work out s
   unfolding finishTurn
-  finish-over h = moved (cond-true (s .over) (resting s board work) rest h) (still s s refl refl refl)
+  finish-over h = moved (cond-true (s .over) (resting s board work) rest h) (still longer (omega arith) s s refl refl refl)
 
-  pub finish-none : (r : Session) → s .over ≡ false → not (s .begun) ≡ true → r ≡ closed s → Turns s out (finishTurn s board work) board work out r
+  pub finish-none : (r : Session) → s .over ≡ false → not (s .begun) ≡ true → r ≡ closed s → Turns longer s out (finishTurn s board work) board work out r
   unfolding finishTurn
   finish-none r h e p =
       moved
       (cond-false (s .over) (resting s board work) rest h
       ∙ cond-false (s .begun) (closing (lineTurn s board work)) (resting (closed s) board work) (not-true (s .begun) e))
-      (still r (closed s) p refl refl)
+      (still longer (omega arith) r (closed s) p refl refl)
 
 pub finish-line : (s t r : Session) (board work out board′ work′ out′ : List ℕ) → s .over ≡ false → not (s .begun) ≡ false
-    → Turns s out (lineTurn s board work) board′ work′ out′ t → r ≡ closed t → Turns s out (finishTurn s board work) board′ work′ out′ r
+    → Turns (s .used + longest) s out (lineTurn s board work) board′ work′ out′ t → r ≡ closed t → Turns (s .used + longest) s out (finishTurn s board work) board′ work′ out′ r
 unfolding finishTurn
 finish-line s t r board work out board′ work′ out′ h e p c =
     moved
@@ -103,17 +105,19 @@ finish-line s t r board work out board′ work′ out′ h e p c =
       kept = record { sized = p .kept .sized; used-most = p .kept .used-most };
     }))
 
-pub line-ended : (s : Session) (board work out board′ work′ out′ : List ℕ) (k : Command) (t : Step) (reader : Reader) (number used : ℕ) (over : Bool)
+pub line-ended : (s : Session) (board work out board′ work′ out′ : List ℕ) (k : Command) (t : Step) (reader : Reader) (letter number used : ℕ) (over : Bool)
     → Ready s board work out → k ≡ commandBy (s .reader) → Performs (performed (s .bench) k board work) board′ work′ t → reader ≡ readerOf []
-    → number ≡ (s .number + 1) % 2 ^ 64 → over ≡ ends (t .reply) → Prints longest out (s .used) (replyText (t .reply) (s .number)) out′ used
-    → Turns s out (lineTurn s board work) board′ work′ out′
+    → number ≡ (s .number + 1) % 2 ^ 64 → over ≡ ends (t .reply) → letter ≡ letterBy (s .reader)
+    → Prints longest out (s .used) (replyText letter (t .reply) (s .number)) out′ used
+    → Turns (s .used + longest) s out (lineTurn s board work) board′ work′ out′
     (record { bench = t .bench; reader = reader; number = number; begun = false; over = over; used = used })
 unfolding lineTurn
-line-ended s board work out board′ work′ out′ k t reader number used over ready e p f n o w =
+line-ended s board work out board′ work′ out′ k t reader letter number used over ready e p f n o i w =
     let g = rw e at p in
     record {
-      session = rw (f, n, o, w .end, g .step);
-      shown = w .shown ∙ ap (λ (x : Step). take (s .used) out ++ replyText (x .reply) (s .number)) (g .step);
+      session = rw (f, n, o, w .end, i, g .step);
+      shown = w .shown ∙ ap (λ (l : ℕ). take (s .used) out ++ replyText l (t .reply) (s .number)) i
+          ∙ ap (λ (x : Step). take (s .used) out ++ replyText (letterBy (s .reader)) (x .reply) (s .number)) (g .step);
       board-left = g .board-left;
       work-left = g .work-left;
       kept = record {
@@ -122,23 +126,51 @@ line-ended s board work out board′ work′ out′ k t reader number used over 
       };
     }
 
--- ── a caller that empties the buffer ──
+-- ── a caller's next turn ──
 
-pub room-made : (s r : Session) (out : List ℕ) → r ≡ emptiedSession s → Roomy s out r
-room-made s r out e = rw e (record { bench-same = refl; room = λ l. omega (arith, l) })
-
-pub ready-again : (s t : Session) (board work out board′ work′ out′ : List ℕ) → Ready s board work out → Open t (s .used + longest)
-    → length out′ ≡ length out → (r : Session) → length board′ ≡ length board → length work′ ≡ length work → Roomy t out′ r
-    → Ready r board′ work′ out′
-ready-again s t board work out board′ work′ out′ ready held same-out r same-board same-work m =
+-- the buffer has room as it is
+pub ready-roomy : (most : ℕ) (s t : Session) (u : Turn) (board work out board′ work′ out′ : List ℕ) → benchBoard ≤ length board → benchWork ≤ length work
+    → Turns most s out u board′ work′ out′ t → length board′ ≡ length board → length work′ ≡ length work → (roomy-now : Bool)
+    → roomy-now ≡ roomy t (length out′) → not roomy-now ≡ false → Ready t board′ work′ out′
+unfolding roomy
+ready-roomy most s t u board work out board′ work′ out′ b w p same-board same-work roomy-now e h =
     record {
+      lent = record { sized = p .kept .sized; board-length = omega (arith, b, same-board); work-length = omega (arith, w, same-work) };
+      room = leb-true (t .used + longest) (length out′) (sym e ∙ not-false roomy-now h);
+    }
+
+-- and is not overrun by one more turn
+pub used-roomy : (s r : Session) (u : Turn) (out board′ work′ out′ : List ℕ) (roomy-now : Bool) → roomy-now ≡ roomy s (length out) → not roomy-now ≡ false
+    → Turns (s .used + longest) s out u board′ work′ out′ r → length out′ ≡ length out → r .used ≤ length out′
+unfolding roomy
+used-roomy s r u out board′ work′ out′ roomy-now e h p same-out =
+    let room = leb-true (s .used + longest) (length out) (sym e ∙ not-false roomy-now h) in
+    omega (arith, p .kept .used-most, room, same-out)
+
+-- the caller has emptied it
+pub ready-emptied : (most : ℕ) (s t r : Session) (u : Turn) (board work out board′ work′ out′ : List ℕ) → Ready s board work out → Turns most s out u board′ work′ out′ t
+    → length board′ ≡ length board → length work′ ≡ length work → length out′ ≡ length out → r ≡ emptiedSession t → Ready r board′ work′ out′
+ready-emptied most s t r u board work out board′ work′ out′ ready p same-board same-work same-out e =
+    rw e (record {
       lent = record {
-        sized = rw (m .bench-same) (held .sized);
+        sized = record { board = p .kept .sized .board; work = p .kept .sized .work };
         board-length = omega (arith, ready .lent .board-length, same-board);
         work-length = omega (arith, ready .lent .work-length, same-work);
       };
-      room = m .room (omega (arith, ready .room, same-out));
-    }
+      room = omega (arith, ready .room, same-out);
+    })
+
+-- some bytes were read, if there were any
+module _ (s : Session) (input board work out board′ work′ out′ : List ℕ) (r : Fed) (p : Feeds s input board work out board′ work′ out′ r) where
+  pub taken-most : r .taken ≤ length input
+  unfolding takenOf
+  taken-most = rw (p .taken) (first-most (λ k. roomy (bytesTurn s input board work k .session) (length out)) (length input))
+
+  pub taken-some : Ready s board work out → 0 < length input → 0 < r .taken
+  unfolding takenOf bytesTurn roomy
+  taken-some ready h =
+      rw (p .taken) (first-least (λ k. roomy (bytesTurn s input board work k .session) (length out)) (length input) h
+      (le-leb (s .used + longest) (length out) (ready .room)))
 
 pub ready-new : (s : Session) (board work out : List ℕ) → s ≡ newSession → benchBoard ≤ length board → benchWork ≤ length work → longest ≤ length out
     → Ready s board work out

@@ -186,30 +186,30 @@ module _ (s : Status) (n : ℕ) (m : Name) (e : n ≡ numberOf s) (g : m ≡ nam
 -- ── a line ──
 
 module _ (out out′ out″ out‴ : List ℕ) (at p q r : ℕ) where
-  pub line-printed : (l : Line) → Prints 10 out at (headText (l .letter) (l .status)) out′ p
+  pub line-printed : (letter : ℕ) (l : Line) → Prints 10 out at (headText letter (l .status)) out′ p
       → Prints (21 * length (numbersIn l)) out′ p (numbersText (numbersIn l)) out″ q → Prints 1 out″ q (10 ∷ []) out‴ r
-      → Prints longest out at (lineText l) out‴ r
+      → Prints longest out at (lineText letter l) out‴ r
   unfolding lineText
-  line-printed l a b d = prints-as refl (omega arith) (prints-then a (prints-then b d))
+  line-printed letter l a b d = prints-as refl (omega arith) (prints-then a (prints-then b d))
 
   pub bad-printed : (number : ℕ) → Prints 1 out at (63 ∷ []) out′ p → Prints (21 * length (number ∷ [])) out′ p (numbersText (number ∷ [])) out″ q
       → Prints 1 out″ q (10 ∷ []) out‴ r → Prints longest out at (badText number) out‴ r
   unfolding badText
   bad-printed number a b d = prints-as refl (omega arith) (prints-then a (prints-then b d))
 
-module _ (reply : Reply) (number : ℕ) (out out′ : List ℕ) (at r : ℕ) where
-  pub reply-said : (l : Line) → reply ≡ Said l → Prints longest out at (lineText l) out′ r → Prints longest out at (replyText reply number) out′ r
+module _ (letter : ℕ) (reply : Reply) (number : ℕ) (out out′ : List ℕ) (at r : ℕ) where
+  pub reply-said : (l : Line) → reply ≡ Said l → Prints longest out at (lineText letter l) out′ r → Prints longest out at (replyText letter reply number) out′ r
   unfolding replyText
   reply-said l e p = rw e p
 
-  pub reply-last : (l : Line) → reply ≡ Last l → Prints longest out at (lineText l) out′ r → Prints longest out at (replyText reply number) out′ r
+  pub reply-last : (l : Line) → reply ≡ Last l → Prints longest out at (lineText letter l) out′ r → Prints longest out at (replyText letter reply number) out′ r
   unfolding replyText
   reply-last l e p = rw e p
 
-  pub reply-bad : reply ≡ Bad → Prints longest out at (badText number) out′ r → Prints longest out at (replyText reply number) out′ r
+  pub reply-bad : reply ≡ Bad → Prints longest out at (badText number) out′ r → Prints longest out at (replyText letter reply number) out′ r
   unfolding replyText
   reply-bad e p = rw e p
 
-pub reply-quiet : (reply : Reply) (number : ℕ) (out : List ℕ) (at : ℕ) → reply ≡ Quiet → Prints longest out at (replyText reply number) out at
+pub reply-quiet : (letter : ℕ) (reply : Reply) (number : ℕ) (out : List ℕ) (at : ℕ) → reply ≡ Quiet → Prints longest out at (replyText letter reply number) out at
 unfolding replyText
-reply-quiet reply number out at e = rw e (prints-none longest out at)
+reply-quiet letter reply number out at e = rw e (prints-none longest out at)

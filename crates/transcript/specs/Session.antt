@@ -1,16 +1,18 @@
 -- A replay between two bytes of its script: what each byte does, and what the end of the script does.
-use Prim.Native.Nat.{ℕ, _+_, _%_, _^_, _≤_}
+use Prim.Native.Nat.{ℕ, zero, suc, _+_, _%_, _^_, _≤_}
 use mathlib.Core.Path.{_≡_}
 use mathlib.Core.Bool.{Bool, true, false, cond}
 use mathlib.Core.List.{List, [], _++_}
-use lib.Dec.{eqb}
-use lib.ListN.{length, take}
-use Rattle.script.specs.Steps.{readerOf, stepOf, commandBy}
+use lib.Dec.{leb, eqb}
+use lib.ListN.{length, getD, take}
+use Rattle.base.specs.Walk.{first}
+use Rattle.script.specs.Steps.{readerOf, stepOf, letterBy, commandBy}
 use Rattle.replay.specs.declared.Reply.{Reply}
 use Rattle.replay.specs.declared.Reply.the-variants.{Quiet, Said, Last, Bad}
 use Rattle.replay.specs.Bench.{newBench, performed}
 use Rattle.replay.specs.Contracts.{Sized, Lent}
 use Rattle.transcript.specs.declared.Session.{Session}
+use Rattle.transcript.specs.declared.Fed.{Fed}
 use Rattle.transcript.specs.Text.{replyText}
 use Rattle.transcript.specs.Printing.{longest}
 
@@ -49,7 +51,7 @@ ends Bad = true
 unfoldable pub lineTurn : Session → (board work : List ℕ) → Turn
 lineTurn s board work =
     let e = performed (s .bench) (commandBy (s .reader)) board work in
-    let text = replyText (e .step .reply) (s .number) in
+    let text = replyText (letterBy (s .reader)) (e .step .reply) (s .number) in
     record {
       session = record {
         bench = e .step .bench;
@@ -76,6 +78,25 @@ unfoldable pub finishTurn : Session → (board work : List ℕ) → Turn
 finishTurn s board work =
     cond (s .over) (resting s board work) (cond (s .begun) (closing (lineTurn s board work)) (resting (closed s) board work))
 
+-- whether a buffer of so many bytes has room for one more line
+unfoldable pub roomy : Session → (bytes : ℕ) → Bool
+roomy s bytes = leb (s .used + longest) bytes
+
+-- one turn, and another from where it ended
+abbrev pub followed : Turn → (Session → (board work : List ℕ) → Turn) → Turn
+followed t next =
+    let u = next (t .session) (t .board) (t .work) in
+    record { session = u .session; text = t .text ++ u .text; board = u .board; work = u .work }
+
+-- the first k bytes of what is read, one after the other
+unfoldable pub bytesTurn : Session → (input board work : List ℕ) → (k : ℕ) → Turn
+bytesTurn s input board work zero = resting s board work
+bytesTurn s input board work (suc k) = followed (bytesTurn s input board work k) (λ r. feedTurn r (getD input k 0))
+
+-- how many of them a buffer of so many bytes has room for: a byte is read where one more line would fit
+unfoldable pub takenOf : Session → (input board work : List ℕ) → (bytes : ℕ) → ℕ
+takenOf s input board work bytes = first (λ k. roomy (bytesTurn s input board work k .session) bytes) (length input)
+
 -- The memories and the buffer are large enough for the next byte.
 pub record Ready (s : Session) (board work out : List ℕ) : Type 0 where
   pub lent : Lent (s .bench) board work
@@ -87,15 +108,15 @@ pub record Open (s : Session) (most : ℕ) : Type 0 where
   pub used-most : s .used ≤ most
 
 -- The turn that was taken: the replay and the memories are those of the turn, and its text stands in the buffer behind what was
--- there.
-pub record Turns (s : Session) (out : List ℕ) (t : Turn) (board′ work′ out′ : List ℕ) (r : Session) : Type 0 where
+-- there. So much of the buffer is then in use at most.
+pub record Turns (most : ℕ) (s : Session) (out : List ℕ) (t : Turn) (board′ work′ out′ : List ℕ) (r : Session) : Type 0 where
   pub session : r ≡ t .session
   pub shown : take (r .used) out′ ≡ take (s .used) out ++ t .text
   pub board-left : board′ ≡ t .board
   pub work-left : work′ ≡ t .work
-  pub kept : Open r (s .used + longest)
+  pub kept : Open r most
 
--- A buffer that can hold a line was emptied where it could not hold one more.
-pub record Roomy (s : Session) (out : List ℕ) (r : Session) : Type 0 where
-  pub bench-same : r .bench ≡ s .bench
-  pub room : longest ≤ length out → r .used + longest ≤ length out
+-- As many bytes were read as there was room for.
+pub record Feeds (s : Session) (input board work out board′ work′ out′ : List ℕ) (r : Fed) : Type 0 where
+  pub taken : r .taken ≡ takenOf s input board work (length out)
+  pub turns : Turns (length out) s out (bytesTurn s input board work (r .taken)) board′ work′ out′ (r .session)

@@ -35,15 +35,15 @@ headText letter s = (letter ∷ 32 ∷ []) ++ nameText s
 abbrev pub numbersIn : Line → List ℕ
 numbersIn l = l .value ∷ l .stores ∷ l .epoch ∷ l .persisted ∷ l .length ∷ l .buffered ∷ []
 
-unfoldable pub lineText : Line → List ℕ
-lineText l = headText (l .letter) (l .status) ++ (numbersText (numbersIn l) ++ (10 ∷ []))
+unfoldable pub lineText : (letter : ℕ) → Line → List ℕ
+lineText letter l = headText letter (l .status) ++ (numbersText (numbersIn l) ++ (10 ∷ []))
 
 unfoldable pub badText : ℕ → List ℕ
 badText number = (63 ∷ []) ++ (numbersText (number ∷ []) ++ (10 ∷ []))
 
--- what the command of the line with this number prints
-unfoldable pub replyText : Reply → ℕ → List ℕ
-replyText Quiet number = []
-replyText (Said l) number = lineText l
-replyText (Last l) number = lineText l
-replyText Bad number = badText number
+-- what the command of the line with this letter and number prints
+unfoldable pub replyText : (letter : ℕ) → Reply → (number : ℕ) → List ℕ
+replyText letter Quiet number = []
+replyText letter (Said l) number = lineText letter l
+replyText letter (Last l) number = lineText letter l
+replyText letter Bad number = badText number

@@ -6,7 +6,7 @@ ghost use mathlib.Core.List.{[], _∷_};
 ghost use lib.ListN.{length};
 ghost use Rattle.transcript.specs.Text.{decimalOf, numbersText, headText, lineText, badText, replyText};
 ghost use Rattle.transcript.specs.Printing.{longest, Prints};
-ghost use Rattle.transcript.specs.Session.{newSession, emptiedSession, closed, ends, lineTurn, feedTurn, finishTurn, Ready, Turns};
+ghost use Rattle.transcript.specs.Session.{newSession, emptiedSession, closed, ends, roomy, lineTurn, feedTurn, finishTurn, Ready, Turns, Feeds};
 ghost use Rattle.transcript.specs.Session.{reading as readOn};
 use replay::Bench;
 use replay::Line;
@@ -15,7 +15,7 @@ use script::Reader;
 use status::Status;
 
 // The most bytes of a line: letter, space and name, six numbers with a space before each, and the line feed.
-pub const LONGEST_LINE: usize = 137;
+const LONGEST_LINE: usize = 137;
 
 const DIGITS: usize = 20;
 
@@ -30,6 +30,12 @@ pub struct Session {
     pub over: bool,
     // How many bytes of the buffer have been printed to.
     pub used: usize,
+}
+
+// How many bytes were read of what was there, and the replay after them.
+pub struct Fed {
+    pub session: Session,
+    pub taken: usize,
 }
 
 fn put_byte(out: &mut [u8], at: usize, byte: u8) -> usize
@@ -90,9 +96,9 @@ fn put_head(out: &mut [u8], at: usize, letter: u8, status: Status) -> usize
     put(out, start, &row[0..count])
 }
 
-fn put_line(out: &mut [u8], at: usize, line: Line) -> usize
+fn put_line(out: &mut [u8], at: usize, letter: u8, line: Line) -> usize
     requires { ⌜ at + longest ≤ length (now out) ⌝ }
-    ensures { λ r. ⌜ Prints longest (now (out .entry)) at (lineText line) (now (out .exit)) r ⌝ }
+    ensures { λ r. ⌜ Prints longest (now (out .entry)) at (lineText letter line) (now (out .exit)) r ⌝ }
 {
     let status = line.status;
     let numbers = [
@@ -103,7 +109,7 @@ fn put_line(out: &mut [u8], at: usize, line: Line) -> usize
         line.length,
         line.buffered,
     ];
-    let head = put_head(out, at, line.letter, status);
+    let head = put_head(out, at, letter, status);
     let end = put_numbers(out, head, &numbers);
     put_byte(out, end, b'\n')
 }
@@ -119,14 +125,14 @@ fn put_bad(out: &mut [u8], at: usize, number: u64) -> usize
     put_byte(out, end, b'\n')
 }
 
-fn put_reply(out: &mut [u8], at: usize, reply: Reply, number: u64) -> usize
+fn put_reply(out: &mut [u8], at: usize, letter: u8, reply: Reply, number: u64) -> usize
     requires { ⌜ at + longest ≤ length (now out) ⌝ }
-    ensures { λ r. ⌜ Prints longest (now (out .entry)) at (replyText reply number) (now (out .exit)) r ⌝ }
+    ensures { λ r. ⌜ Prints longest (now (out .entry)) at (replyText letter reply number) (now (out .exit)) r ⌝ }
 {
     match reply {
         Reply::Quiet => at,
-        Reply::Said(line) => put_line(out, at, line),
-        Reply::Last(line) => put_line(out, at, line),
+        Reply::Said(line) => put_line(out, at, letter, line),
+        Reply::Last(line) => put_line(out, at, letter, line),
         Reply::Bad => put_bad(out, at, number),
     }
 }
@@ -173,6 +179,19 @@ impl Session {
         }
     }
 
+    // Whether a buffer of so many bytes has room for one more line.
+    pub fn is_roomy(self, bytes: usize) -> bool
+        ensures { λ r. ⌜ r ≡ roomy self bytes ⌝ }
+    {
+        if bytes < LONGEST_LINE {
+            return false;
+        }
+        if self.used > bytes - LONGEST_LINE {
+            return false;
+        }
+        true
+    }
+
     // One more byte of the line that is being read.
     fn reading(self, byte: u8) -> Session
         ensures { λ r. ⌜ r ≡ readOn self byte ⌝ }
@@ -208,7 +227,7 @@ impl Session {
 // The line that has been read is performed. No script has 2^64 lines, so its number does not wrap.
 fn end_line(session: Session, board: &mut [u64], work: &mut [u64], out: &mut [u8]) -> Session
     requires { ⌜ Ready session (now board) (now work) (now out) ⌝ }
-    ensures { λ r. ⌜ Turns session (now (out .entry)) (lineTurn session (now (board .entry)) (now (work .entry))) (now (board .exit)) (now (work .exit)) (now (out .exit)) r ⌝ }
+    ensures { λ r. ⌜ Turns (session .used + longest) session (now (out .entry)) (lineTurn session (now (board .entry)) (now (work .entry))) (now (board .exit)) (now (work .exit)) (now (out .exit)) r ⌝ }
 {
     let bench = session.bench;
     let reader = session.reader;
@@ -221,20 +240,14 @@ fn end_line(session: Session, board: &mut [u64], work: &mut [u64], out: &mut [u8
         number: std::num::wrapping_add_u64(session.number, 1),
         begun: false,
         over: is_end(reply),
-        used: put_reply(out, session.used, reply, session.number),
+        used: put_reply(out, session.used, reader.letter(), reply, session.number),
     }
 }
 
 // One byte of the script.
-pub fn feed(
-    session: Session,
-    byte: u8,
-    board: &mut [u64],
-    work: &mut [u64],
-    out: &mut [u8],
-) -> Session
+fn feed(session: Session, byte: u8, board: &mut [u64], work: &mut [u64], out: &mut [u8]) -> Session
     requires { ⌜ Ready session (now board) (now work) (now out) ⌝ }
-    ensures { λ r. ⌜ Turns session (now (out .entry)) (feedTurn session byte (now (board .entry)) (now (work .entry))) (now (board .exit)) (now (work .exit)) (now (out .exit)) r ⌝ }
+    ensures { λ r. ⌜ Turns (session .used + longest) session (now (out .entry)) (feedTurn session byte (now (board .entry)) (now (work .entry))) (now (board .exit)) (now (work .exit)) (now (out .exit)) r ⌝ }
 {
     if session.over {
         return session;
@@ -245,10 +258,36 @@ pub fn feed(
     session.reading(byte)
 }
 
+// Bytes of the script, one after the other: all of them, or until the buffer may not hold one more line.
+pub fn feed_bytes(
+    session: Session,
+    input: &[u8],
+    board: &mut [u64],
+    work: &mut [u64],
+    out: &mut [u8],
+) -> Fed
+    requires { ⌜ Ready session (now board) (now work) (now out) ⌝ }
+    ensures { λ r. ⌜ Feeds session (now (input .entry)) (now (board .entry)) (now (work .entry)) (now (out .entry)) (now (board .exit)) (now (work .exit)) (now (out .exit)) r ⌝ }
+{
+    let mut s = session;
+    let mut i = 0;
+    while i < input.len() {
+        if !s.is_roomy(out.len()) {
+            break;
+        }
+        s = feed(s, input[i], board, work, out);
+        i += 1;
+    }
+    Fed {
+        session: s,
+        taken: i,
+    }
+}
+
 // The end of the script: a last line with no line feed is a line, if it has a byte.
 pub fn finish(session: Session, board: &mut [u64], work: &mut [u64], out: &mut [u8]) -> Session
     requires { ⌜ Ready session (now board) (now work) (now out) ⌝ }
-    ensures { λ r. ⌜ Turns session (now (out .entry)) (finishTurn session (now (board .entry)) (now (work .entry))) (now (board .exit)) (now (work .exit)) (now (out .exit)) r ⌝ }
+    ensures { λ r. ⌜ Turns (session .used + longest) session (now (out .entry)) (finishTurn session (now (board .entry)) (now (work .entry))) (now (board .exit)) (now (work .exit)) (now (out .exit)) r ⌝ }
 {
     if session.over {
         return session;

@@ -12,15 +12,15 @@ use Rattle.base.specs.Walk.{Walked, walk-start, walk-end, walk-stop, walk-pass,
 use Rattle.layout.specs.declared.Entry.{Entry}
 use Rattle.layout.specs.Memory.{logAt}
 use Rattle.layout.specs.Words.{Decoded, EntryFits, decodeEntry}
-use Rattle.undo.specs.declared.Undo.{Undo}
+use Rattle.undo.specs.declared.LogState.{LogState}
 use Rattle.undo.specs.Entries.{properEntry, properAbove, properBuffered}
 use Rattle.undo.specs.Log.{Sound, Placed, entryIn, olderTill, properAt, firstImproper}
-use Rattle.undo.specs.Log.{bufferedIn, bufferedProper, elsewhere, expired, dropped, DroppedBy, KeptBy}
+use Rattle.undo.specs.Log.{bufferedIn, bufferedProper, elsewhere, expired, dropped, KeptBy}
 use Rattle.undo.specs.Laws.{proper-till}
 use Rattle.undo.specs.Ring.{nextPlace}
 use Rattle.undo.proofs.Ring.{placed-next}
 
-pub entry-read : (board : List ℕ) (u : Undo) (i at : ℕ) (e : Entry) → Placed u i at
+pub entry-read : (board : List ℕ) (u : LogState) (i at : ℕ) (e : Entry) → Placed u i at
     → Decoded EntryFits (decodeEntry (getD board (logAt + at) 0)) e → Decoded EntryFits (entryIn board u i) e
 unfolding entryIn
 entry-read board u i at e p d = rw (← p .is) d
@@ -80,12 +80,12 @@ proper-above lines persisted older least h e =
     rw (h (e .till)) (swapped (ltb (e .address) lines) (ltb persisted (e .till)) (leb older (e .till)) (ltb (e .from) (e .till)))
 
 -- the search for the first improper entry carries its place and the lower bound of its ValidTill
-pub record Searched (board : List ℕ) (u : Undo) (lines i at least : ℕ) : Type 0 where
+pub record Searched (board : List ℕ) (u : LogState) (lines i at least : ℕ) : Type 0 where
   pub walked : Walked (properAt board u lines) (u .control .length) i
   pub placed : Placed u i at
   pub carried : Bounds (u .control .persisted) (olderTill board u i) least
 
-pub search-start : (board : List ℕ) (u : Undo) (lines at : ℕ) → Placed u 0 at → Searched board u lines 0 at (u .control .persisted + 1)
+pub search-start : (board : List ℕ) (u : LogState) (lines at : ℕ) → Placed u 0 at → Searched board u lines 0 at (u .control .persisted + 1)
 unfolding olderTill
 search-start board u lines at p =
     record {
@@ -94,7 +94,7 @@ search-start board u lines at p =
       carried = bounds-first (u .control .persisted);
     }
 
-module _ {board : List ℕ} {u : Undo} {lines i at least : ℕ} (s : Searched board u lines i at least) where
+module _ {board : List ℕ} {u : LogState} {lines i at least : ℕ} (s : Searched board u lines i at least) where
   pub search-end : u .control .length ≤ i → i ≡ firstImproper board u lines
   unfolding firstImproper
   search-end h = walk-end (s .walked) h
@@ -146,12 +146,12 @@ unfolding elsewhere bufferedIn
 elsewhere-read buffer address i e d = rw (← d .is)
 
 -- the run that an advance drops: the walk counts down what is left of the log, and carries the place of the next entry
-pub record Dropping (board : List ℕ) (u : Undo) (target at left : ℕ) : Type 0 where
+pub record Dropping (board : List ℕ) (u : LogState) (target at left : ℕ) : Type 0 where
   pub within : left ≤ u .control .length
   pub walked : Walked (expired board u target) (u .control .length) (u .control .length - left)
   pub placed : Placed u (u .control .length - left) at
 
-pub drop-start : (board : List ℕ) (u : Undo) (target at : ℕ) → Placed u 0 at → Dropping board u target at (u .control .length)
+pub drop-start : (board : List ℕ) (u : LogState) (target at : ℕ) → Placed u 0 at → Dropping board u target at (u .control .length)
 drop-start board u target at p =
     let e : 0 ≡ u .control .length - u .control .length = omega arith in
     record {
@@ -160,10 +160,7 @@ drop-start board u target at p =
       placed = rw e at p;
     }
 
-pub drop-rest : (board : List ℕ) (u : Undo) (target r : ℕ) → KeptBy board u target r → DroppedBy board u target (u .control .length - r)
-drop-rest board u target r k = record { is = k .rest; within = omega arith }
-
-module _ {board : List ℕ} {u : Undo} {target at left : ℕ} (s : Dropping board u target at left) where
+module _ {board : List ℕ} {u : LogState} {target at left : ℕ} (s : Dropping board u target at left) where
   pub drop-end : left ≡ 0 → KeptBy board u target left
   unfolding dropped
   drop-end h =

@@ -15,7 +15,7 @@ use Rattle.board.specs.Kept.{Beyond, beyond-none, beyond-one, beyond-each, ran-
 use Rattle.layout.specs.declared.Entry.{Entry}
 use Rattle.layout.specs.Memory.{controlAt, logAt, linesAt}
 use Rattle.layout.specs.Words.{Decoded, EntryFits, decodeEntry, encodeControl}
-use Rattle.undo.specs.declared.Undo.{Undo}
+use Rattle.undo.specs.declared.LogState.{LogState}
 use Rattle.undo.specs.Entries.{covers}
 use Rattle.undo.specs.Log.{Placed, placeOf, entryIn, oldIn, properAt, restoreStores, restoreTurn, emptied, recoverStores}
 use Rattle.undo.specs.Ring.{previousPlace, entryAt, restoreAt}
@@ -24,7 +24,7 @@ use Rattle.undo.specs.Laws.{proper-named, proper-till}
 use Rattle.undo.proofs.Ring.{place-below, placed-previous}
 
 -- one entry, at its place
-module _ (board : List ℕ) (u : Undo) (at : ℕ) (e : Entry) (read : Decoded EntryFits (entryAt board at) e) where
+module _ (board : List ℕ) (u : LogState) (at : ℕ) (e : Entry) (read : Decoded EntryFits (entryAt board at) e) where
   pub restore-line : (lines : ℕ) → lines ≡ linesAt (u .entries) → RestoreReady board u at
       → e .address < length (take (length board - lines) (drop lines board))
   restore-line lines h g =
@@ -46,7 +46,7 @@ module _ (board : List ℕ) (u : Undo) (at : ℕ) (e : Entry) (read : Decoded En
         rw (← read .is, le-leb (e .from) (u .control .persisted) h, ← l) (ran-part lines k x)
 
 -- of an entry that ends above P, the test of its begin alone decides
-restore-same : (board : List ℕ) (u : Undo) (i at : ℕ) → Placed u i at → u .control .persisted < entryIn board u i .till
+restore-same : (board : List ℕ) (u : LogState) (i at : ℕ) → Placed u i at → u .control .persisted < entryIn board u i .till
     → restoreAt board u at ≡ restoreStores board u i
 unfolding restoreAt restoreStores covers entryIn oldIn
 restore-same board u i at p h = rw (p .is, lt-ltb (u .control .persisted) (entryIn board u i .till) h, and-true)
@@ -56,7 +56,7 @@ restore-same board u i at p h = rw (p .is, lt-ltb (u .control .persisted) (entry
     and-true false = refl
 
 -- all of them
-stores-beyond : (board : List ℕ) (u : Undo) (i : ℕ) → Beyond (linesAt (u .entries)) (restoreStores board u i)
+stores-beyond : (board : List ℕ) (u : LogState) (i : ℕ) → Beyond (linesAt (u .entries)) (restoreStores board u i)
 unfolding restoreStores
 stores-beyond board u i = go (covers (entryIn board u i) (u .control .persisted))
   where
@@ -64,17 +64,17 @@ stores-beyond board u i = go (covers (entryIn board u i) (u .control .persisted)
     go true = beyond-one _ _ _ (omega arith)
     go false = beyond-none _
 
-turn-beyond : (board : List ℕ) (u : Undo) (j : ℕ) → Beyond (linesAt (u .entries)) (restoreTurn board u j)
+turn-beyond : (board : List ℕ) (u : LogState) (j : ℕ) → Beyond (linesAt (u .entries)) (restoreTurn board u j)
 unfolding restoreTurn
 turn-beyond board u j = stores-beyond board u _
 
-pub record Restoring (board₀ : List ℕ) (u : Undo) (m₀ : Meter) (board : List ℕ) (m : Meter) (at j : ℕ) : Type 0 where
+pub record Restoring (board₀ : List ℕ) (u : LogState) (m₀ : Meter) (board : List ℕ) (m : Meter) (at j : ℕ) : Type 0 where
   pub within : j ≤ u .control .length
   pub ran : Ran board₀ m₀ (each (restoreTurn board₀ u) j) board m
   pub placed : Placed u (u .control .length - j) at
   pub same-words : length board ≡ length board₀
 
-pub restore-start : (board : List ℕ) (u : Undo) (m : Meter) (at : ℕ) → Placed u (u .control .length) at → Restoring board u m board m at 0
+pub restore-start : (board : List ℕ) (u : LogState) (m : Meter) (at : ℕ) → Placed u (u .control .length) at → Restoring board u m board m at 0
 restore-start board u m at p =
     let e : u .control .length ≡ u .control .length - 0 = omega arith in
     record {
@@ -84,7 +84,7 @@ restore-start board u m at p =
       same-words = refl;
     }
 
-module _ (board₀ : List ℕ) (u : Undo) (lines : ℕ) (ready : RecoverReady board₀ u lines) (m₀ : Meter) (board : List ℕ) (m : Meter) (at j : ℕ)
+module _ (board₀ : List ℕ) (u : LogState) (lines : ℕ) (ready : RecoverReady board₀ u lines) (m₀ : Meter) (board : List ℕ) (m : Meter) (at j : ℕ)
     (so-far : Restoring board₀ u m₀ board m at j) where
   kept : (i : ℕ) → i < linesAt (u .entries) → getD board i 0 ≡ getD board₀ i 0
   kept i h = ran-kept (linesAt (u .entries)) (each (restoreTurn board₀ u) j) (beyond-each _ (restoreTurn board₀ u) (turn-beyond board₀ u) j) (so-far .ran) i h
@@ -138,7 +138,7 @@ module _ (board₀ : List ℕ) (u : Undo) (lines : ℕ) (ready : RecoverReady bo
   restore-end h = each-done (restoreTurn board₀ u) j (u .control .length) (so-far .within) h (so-far .ran)
 
 -- and then the control word
-pub recover-done : (u : Undo) (w : ℕ) {board board′ board″ : List ℕ} {m m′ m″ : Meter}
+pub recover-done : (u : LogState) (w : ℕ) {board board′ board″ : List ℕ} {m m′ m″ : Meter}
     → Ran board m (each (restoreTurn board u) (u .control .length)) board′ m′ → w ≡ encodeControl (emptied (u .control))
     → Ran board′ m′ (one controlAt w) board″ m″ → Ran board m (recoverStores board u) board″ m″
 unfolding recoverStores

@@ -7,12 +7,12 @@ use native.Mathlib.Numerals.{add-one}
 use native.Mathlib.Omega.{arith}
 use borrow.Author.Tests.{leb-true, leb-false, eq-eqb, ne-eqb}
 use lib.Dec.{leb, eqb}
-use Rattle.undo.specs.declared.Undo.{Undo}
+use Rattle.undo.specs.declared.LogState.{LogState}
 use Rattle.undo.specs.Log.{Sound, Placed, placeOf}
 use Rattle.undo.specs.Ring.{nextPlace, previousPlace}
 
 -- start + i is below 2L: the remainder by L is the number itself, or the number less L
-module _ (u : Undo) (i : ℕ) (sound : Sound u) (within : i ≤ u .entries) where
+module _ (u : LogState) (i : ℕ) (sound : Sound u) (within : i ≤ u .entries) where
   pub placed-low : u .control .start + i < u .entries → Placed u i (2 * (u .control .start + i))
   unfolding placeOf
   placed-low h = record { is = ap (_*_ 2) (sym (mod-eq-of-lt h)); below = omega arith }
@@ -27,7 +27,7 @@ module _ (u : Undo) (i : ℕ) (sound : Sound u) (within : i ≤ u .entries) wher
         below = omega arith;
       }
 
-pub placed-even : (u : Undo) (i at : ℕ) → Placed u i at → at % 2 ≡ 0
+pub placed-even : (u : LogState) (i at : ℕ) → Placed u i at → at % 2 ≡ 0
 unfolding placeOf
 placed-even u i at p = omega (arith, p .is)
 
@@ -68,7 +68,7 @@ module _ (x n : ℕ) (some : 0 < n) where
           let z : (x + 1) % n ≡ x % n + 1 = turn-within x n (omega arith) in
           rw (ne-eqb (2 * ((x + 1) % n)) 0 (λ y. omega arith)) (omega arith)
 
-module _ (u : Undo) (sound : Sound u) where
+module _ (u : LogState) (sound : Sound u) where
   pub place-below : (i : ℕ) → placeOf u i + 1 < 2 * u .entries
   unfolding placeOf
   place-below i = omega (arith, mod-lt (u .control .start + i) (sound .some))

@@ -14,26 +14,26 @@ use Rattle.board.specs.Parts.{ran-part}
 use Rattle.layout.specs.declared.Entry.{Entry}
 use Rattle.layout.specs.Memory.{controlAt, logAt}
 use Rattle.layout.specs.Words.{encodeControl, encodeEntry, ControlFits}
-use Rattle.undo.specs.declared.Undo.{Undo}
+use Rattle.undo.specs.declared.LogState.{LogState}
 use Rattle.undo.specs.Log.{Sound, Placed, entryStores, flushed, flushStores, flushedBuffer, pushed, counted}
 use Rattle.undo.specs.Log.{DroppedBy, advanced, advanceStores}
 use Rattle.undo.specs.Ring.{nextPlace}
 use Rattle.undo.proofs.Ring.{placed-next}
 use Rattle.undo.specs.Contracts.{Flushes, FlushReady, Pushes, AdvanceReady}
 
-pub push-done : (buffer buffer′ : List ℕ) (u : Undo) (e : Entry) (old w : ℕ) (r : Undo) → w ≡ encodeEntry e
+pub push-done : (buffer buffer′ : List ℕ) (u : LogState) (e : Entry) (old w : ℕ) (r : LogState) → w ≡ encodeEntry e
     → buffer′ ≡ setPair buffer (2 * u .buffered) w old → r ≡ counted u → Pushes buffer u e old buffer′ r
 unfolding pushed
 push-done buffer buffer′ u e old w r h x g = record { undo = g; memory = rw (← h) x }
 
 -- the entries of the buffer, each to its place
-pub record Putting (log₀ buffer : List ℕ) (u : Undo) (m₀ : Meter) (log : List ℕ) (m : Meter) (at i : ℕ) : Type 0 where
+pub record Putting (log₀ buffer : List ℕ) (u : LogState) (m₀ : Meter) (log : List ℕ) (m : Meter) (at i : ℕ) : Type 0 where
   pub within : i ≤ u .buffered
   pub ran : Ran log₀ m₀ (each (entryStores u buffer) i) log m
   pub placed : Placed u (u .control .length + i) at
   pub same-words : length log ≡ length log₀
 
-module _ (log₀ buffer : List ℕ) (u : Undo) (m₀ : Meter) where
+module _ (log₀ buffer : List ℕ) (u : LogState) (m₀ : Meter) where
   pub put-start : (at : ℕ) → Placed u (u .control .length) at → Putting log₀ buffer u m₀ log₀ m₀ at 0
   put-start at p =
       let e : u .control .length ≡ u .control .length + 0 = omega arith in
@@ -58,7 +58,7 @@ module _ (log₀ buffer : List ℕ) (u : Undo) (m₀ : Meter) where
     pub put-end : u .buffered ≤ i → Ran log₀ m₀ (each (entryStores u buffer) (u .buffered)) log m
     put-end h = each-done (entryStores u buffer) i (u .buffered) (so-far .within) h (so-far .ran)
 
-module _ (board buffer : List ℕ) (u : Undo) (m : Meter) where
+module _ (board buffer : List ℕ) (u : LogState) (m : Meter) where
   pub flush-none : u .buffered ≡ 0 → Flushes board buffer u m board buffer (record { undo = u; meter = m })
   unfolding flushStores flushed flushedBuffer
   flush-none h =
@@ -75,7 +75,7 @@ module _ (board buffer : List ℕ) (u : Undo) (m : Meter) where
         memory = rw (eq-eqb (u .buffered) 0 h);
       }
 
-  pub flush-some : (log board″ buffer″ : List ℕ) (m′ m″ : Meter) (u′ : Undo) (w : ℕ) → (u .buffered ≡ 0 → ⊥) → FlushReady board buffer u
+  pub flush-some : (log board″ buffer″ : List ℕ) (m′ m″ : Meter) (u′ : LogState) (w : ℕ) → (u .buffered ≡ 0 → ⊥) → FlushReady board buffer u
       → Ran (take (length board - logAt) (drop logAt board)) m (each (entryStores u buffer) (u .buffered)) log m′
       → u′ ≡ flushed u → w ≡ encodeControl (u′ .control)
       → Ran (take logAt board ++ (log ++ drop (length board - logAt) (drop logAt board))) m′ (one controlAt w) board″ m″
@@ -90,12 +90,12 @@ module _ (board buffer : List ℕ) (u : Undo) (m : Meter) where
         memory = rw (ne-eqb (u .buffered) 0 n) z;
       }
 
-pub flush-control : (u u′ : Undo) → Sound u → u′ ≡ flushed u → ControlFits (u′ .control)
+pub flush-control : (u u′ : LogState) → Sound u → u′ ≡ flushed u → ControlFits (u′ .control)
 unfolding flushed
 flush-control u u′ s e = rw e (omega arith)
 
 -- the advance
-module _ (board : List ℕ) (u : Undo) (target run : ℕ) (ready : AdvanceReady board u target) (d : DroppedBy board u target run) where
+module _ (board : List ℕ) (u : LogState) (target run : ℕ) (ready : AdvanceReady board u target) (d : DroppedBy board u target run) where
   pub advance-fits : ControlFits (advanced u target run)
   advance-fits = omega (arith, ready .sound, d .within, mod-lt (u .control .start + run) (ready .sound .some))
 

@@ -11,13 +11,13 @@ use Rattle.board.specs.Stores.{Store, one, each, shifted}
 use Rattle.layout.specs.declared.Control.{Control}
 use Rattle.layout.specs.declared.Entry.{Entry}
 use Rattle.layout.specs.Limits.{epochBits, mostEntries, bufferPlaces}
-use Rattle.layout.specs.Memory.{controlAt, logAt, linesAt}
+use Rattle.layout.specs.Memory.{controlAt, logAt, linesAt, entryWords}
 use Rattle.layout.specs.Words.{encodeControl, encodeEntry, decodeEntry}
-use Rattle.undo.specs.declared.Undo.{Undo}
+use Rattle.undo.specs.declared.LogState.{LogState}
 use Rattle.undo.specs.Entries.{covers, properEntry, properBuffered}
 
 -- What holds of the log's numbers once a call's tests have passed.
-pub record Sound (u : Undo) : Type 0 where
+pub record Sound (u : LogState) : Type 0 where
   pub persisted : u .control .persisted < 2 ^ epochBits
   pub some : 0 < u .entries
   pub most : u .entries ≤ mostEntries
@@ -27,34 +27,34 @@ pub record Sound (u : Undo) : Type 0 where
 
 -- "The log is a ring: entry i of the log, 0 the oldest, is at place (start + i) mod L." The first of its two words, counted
 -- from the first of the log part.
-unfoldable pub placeOf : Undo → ℕ → ℕ
-placeOf u i = 2 * ((u .control .start + i) % u .entries)
+unfoldable pub placeOf : LogState → ℕ → ℕ
+placeOf u i = entryWords * ((u .control .start + i) % u .entries)
 
-pub record Placed (u : Undo) (i r : ℕ) : Type 0 where
+pub record Placed (u : LogState) (i r : ℕ) : Type 0 where
   pub is : r ≡ placeOf u i
-  pub below : r + 1 < 2 * u .entries
+  pub below : r + 1 < entryWords * u .entries
 
-unfoldable pub entryIn : List ℕ → Undo → ℕ → Entry
+unfoldable pub entryIn : List ℕ → LogState → ℕ → Entry
 entryIn board u i = decodeEntry (getD board (logAt + placeOf u i) 0)
 
-unfoldable pub oldIn : List ℕ → Undo → ℕ → ℕ
+unfoldable pub oldIn : List ℕ → LogState → ℕ → ℕ
 oldIn board u i = getD board (logAt + placeOf u i + 1) 0
 
 -- "a ValidTill not below that of the next older entry"; the oldest has none
-unfoldable pub olderTill : List ℕ → Undo → ℕ → ℕ
+unfoldable pub olderTill : List ℕ → LogState → ℕ → ℕ
 olderTill board u zero = 0
 olderTill board u (suc i) = entryIn board u i .till
 
-unfoldable pub properAt : List ℕ → Undo → ℕ → ℕ → Bool
+unfoldable pub properAt : List ℕ → LogState → ℕ → ℕ → Bool
 properAt board u lines i = properEntry lines (u .control .persisted) (olderTill board u i) (entryIn board u i)
 
 -- "value is i of the first, oldest counted 0"; the log's length where all entries are proper
-unfoldable pub firstImproper : List ℕ → Undo → ℕ → ℕ
+unfoldable pub firstImproper : List ℕ → LogState → ℕ → ℕ
 firstImproper board u lines = first (properAt board u lines) (u .control .length)
 
--- The buffer, entry i at words 2i and 2i + 1.
+-- The buffer, entry i behind i others.
 unfoldable pub bufferedIn : List ℕ → ℕ → Entry
-bufferedIn buffer i = decodeEntry (getD buffer (2 * i) 0)
+bufferedIn buffer i = decodeEntry (getD buffer (entryWords * i) 0)
 
 unfoldable pub bufferedProper : List ℕ → (lines epoch : ℕ) → ℕ → Bool
 bufferedProper buffer lines epoch i = properBuffered lines epoch (bufferedIn buffer i)
@@ -72,77 +72,72 @@ buffers buffer count address = ltb (first (elsewhere buffer address) count) coun
 
 -- "An entry goes to the buffer's end"
 unfoldable pub pushed : List ℕ → ℕ → Entry → ℕ → List ℕ
-pushed buffer count e old = set (set buffer (2 * count) (encodeEntry e)) (2 * count + 1) old
+pushed buffer count e old = set (set buffer (entryWords * count) (encodeEntry e)) (entryWords * count + 1) old
 
 -- "stores each entry at the ring's end, packed word then data word": entry i of the buffer, as stores of the log part
-unfoldable pub entryStores : Undo → List ℕ → ℕ → List Store
+unfoldable pub entryStores : LogState → List ℕ → ℕ → List Store
 entryStores u buffer i =
-    one (placeOf u (u .control .length + i)) (getD buffer (2 * i) 0)
-    ++ one (placeOf u (u .control .length + i) + 1) (getD buffer (2 * i + 1) 0)
+    one (placeOf u (u .control .length + i)) (getD buffer (entryWords * i) 0)
+    ++ one (placeOf u (u .control .length + i) + 1) (getD buffer (entryWords * i + 1) 0)
 
 -- "then the control word with length + b: 2b + 1 stores; then b = 0 and the 64 buffer words are zero"
 abbrev pub longer : Control → ℕ → Control
 longer c count = record { persisted = c .persisted; start = c .start; length = c .length + count }
 
-unfoldable pub flushed : Undo → Undo
+unfoldable pub flushed : LogState → LogState
 flushed u = record { control = longer (u .control) (u .buffered); entries = u .entries; buffered = 0 }
 
 -- "With b = 0 it stores nothing."
-unfoldable pub flushStores : Undo → List ℕ → List Store
+unfoldable pub flushStores : LogState → List ℕ → List Store
 flushStores u buffer =
     cond (eqb (u .buffered) 0) []
     (shifted logAt (each (entryStores u buffer) (u .buffered)) ++ one controlAt (encodeControl (flushed u .control)))
 
-unfoldable pub flushedBuffer : Undo → List ℕ → List ℕ
+unfoldable pub flushedBuffer : LogState → List ℕ → List ℕ
 flushedBuffer u buffer = cond (eqb (u .buffered) 0) buffer (replicate (length buffer) 0)
 
 -- one entry more in the buffer
-abbrev pub counted : Undo → Undo
+abbrev pub counted : LogState → LogState
 counted u = record { control = u .control; entries = u .entries; buffered = u .buffered + 1 }
 
 -- "the oldest run of entries with ValidTill ≤ target dropped"
-unfoldable pub expired : List ℕ → Undo → (target : ℕ) → ℕ → Bool
+unfoldable pub expired : List ℕ → LogState → (target : ℕ) → ℕ → Bool
 expired board u target i = leb (entryIn board u i .till) target
 
-unfoldable pub dropped : List ℕ → Undo → (target : ℕ) → ℕ
+unfoldable pub dropped : List ℕ → LogState → (target : ℕ) → ℕ
 dropped board u target = first (expired board u target) (u .control .length)
 
-pub record DroppedBy (board : List ℕ) (u : Undo) (target r : ℕ) : Type 0 where
+pub record DroppedBy (board : List ℕ) (u : LogState) (target r : ℕ) : Type 0 where
   pub is : r ≡ dropped board u target
   pub within : r ≤ u .control .length
 
 -- what is left of the log then
-pub record KeptBy (board : List ℕ) (u : Undo) (target r : ℕ) : Type 0 where
+pub record KeptBy (board : List ℕ) (u : LogState) (target r : ℕ) : Type 0 where
   pub within : r ≤ u .control .length
   pub rest : u .control .length - r ≡ dropped board u target
 
 -- "stores one control word with P = target and the oldest run .. dropped, start going up by their number, mod L"
-abbrev pub advanced : Undo → ℕ → ℕ → Control
-advanced u target count =
-    record {
-      persisted = target;
-      start = (u .control .start + count) % u .entries;
-      length = u .control .length - count;
-    }
+abbrev pub advanced : LogState → ℕ → ℕ → Control
+advanced u target count = record { persisted = target; start = (u .control .start + count) % u .entries; length = u .control .length - count }
 
-unfoldable pub advanceStores : List ℕ → Undo → ℕ → List Store
+unfoldable pub advanceStores : List ℕ → LogState → ℕ → List Store
 advanceStores board u target = one controlAt (encodeControl (advanced u target (dropped board u target)))
 
 -- "each entry with ValidFrom ≤ P < ValidTill has its data stored to its line"
-unfoldable pub restoreStores : List ℕ → Undo → ℕ → List Store
+unfoldable pub restoreStores : List ℕ → LogState → ℕ → List Store
 restoreStores board u i =
     cond (covers (entryIn board u i) (u .control .persisted))
     (one (linesAt (u .entries) + entryIn board u i .address) (oldIn board u i))
     []
 
 -- "from the newest log entry to the oldest": turn j is at entry length - (j + 1)
-unfoldable pub restoreTurn : List ℕ → Undo → ℕ → List Store
+unfoldable pub restoreTurn : List ℕ → LogState → ℕ → List Store
 restoreTurn board u j = restoreStores board u (u .control .length - (j + 1))
 
 -- "Then the control word: same P, start 0, length 0, always stored."
 abbrev pub emptied : Control → Control
 emptied c = record { persisted = c .persisted; start = 0; length = 0 }
 
-unfoldable pub recoverStores : List ℕ → Undo → List Store
+unfoldable pub recoverStores : List ℕ → LogState → List Store
 recoverStores board u =
     each (restoreTurn board u) (u .control .length) ++ one controlAt (encodeControl (emptied (u .control)))

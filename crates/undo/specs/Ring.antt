@@ -9,7 +9,7 @@ use Rattle.board.specs.Stores.{Store, one}
 use Rattle.layout.specs.declared.Entry.{Entry}
 use Rattle.layout.specs.Memory.{logAt, linesAt}
 use Rattle.layout.specs.Words.{decodeEntry}
-use Rattle.undo.specs.declared.Undo.{Undo}
+use Rattle.undo.specs.declared.LogState.{LogState}
 
 -- end is the number of the ring's words
 unfoldable pub nextPlace : (end at : ℕ) → ℕ
@@ -22,7 +22,7 @@ abbrev pub entryAt : List ℕ → ℕ → Entry
 entryAt board at = decodeEntry (getD board (logAt + at) 0)
 
 -- the restoring of an entry whose ValidTill is above P, as every proper one's is
-unfoldable pub restoreAt : List ℕ → Undo → ℕ → List Store
+unfoldable pub restoreAt : List ℕ → LogState → ℕ → List Store
 restoreAt board u at =
     cond (leb (entryAt board at .from) (u .control .persisted))
     (one (linesAt (u .entries) + entryAt board at .address) (getD board (logAt + at + 1) 0))

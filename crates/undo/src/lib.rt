@@ -4,7 +4,7 @@ ghost use lib.ListN.{length};
 ghost use mathlib.Core.Path.{_≡_};
 ghost use Rattle.board.specs.Stores.{Ran, each};
 ghost use Rattle.layout.specs.Limits.{epochBits, mostLines, mostEntries, bufferPlaces};
-ghost use Rattle.layout.specs.Memory.{linesAt, bufferWords};
+ghost use Rattle.layout.specs.Memory.{linesAt, bufferWords, entryWords};
 ghost use Rattle.layout.specs.Words.{decodeEntry};
 ghost use Rattle.undo.specs.Entries.{properAbove};
 ghost use Rattle.undo.specs.Log.{Sound, Placed, firstImproper, bufferedProper, bufferProper, elsewhere};
@@ -21,20 +21,20 @@ use layout::LOG_AT;
 
 // The undo log as a call carries it: what the control word says, how many entries the ring has place for (the paper's L)
 // and how many the buffer holds.
-pub struct Undo {
+pub struct LogState {
     pub control: Control,
     pub entries: u64,
     pub buffered: u64,
 }
 
-impl Undo {
+impl LogState {
     // With one entry more in the buffer.
-    fn counted(self) -> Undo
+    fn counted(self) -> LogState
         requires { ⌜ self .buffered < bufferPlaces ⌝ }
         ensures { λ r. ⌜ r ≡ counted self ⌝ }
     {
         let control = self.control;
-        Undo {
+        LogState {
             control,
             entries: self.entries,
             buffered: self.buffered + 1,
@@ -42,11 +42,11 @@ impl Undo {
     }
 
     // With the buffer flushed.
-    fn flushed(self) -> Undo
+    fn flushed(self) -> LogState
         requires { ⌜ Sound self ⌝ }
         ensures { λ r. ⌜ r ≡ flushed self ⌝ }
     {
-        Undo {
+        LogState {
             control: Control {
                 persisted: self.control.persisted,
                 start: self.control.start,
@@ -60,7 +60,7 @@ impl Undo {
 
 // Where a storing function has come to.
 pub struct Progress {
-    pub undo: Undo,
+    pub undo: LogState,
     pub meter: Meter,
 }
 
@@ -82,7 +82,7 @@ fn is_proper_word(word: u64, lines: u64, least: u64) -> bool
 }
 
 // The first word of entry i, counted from the log's first word.
-pub fn place(undo: Undo, i: u64) -> usize
+pub fn place(undo: LogState, i: u64) -> usize
     requires { ⌜ Sound undo ⌝ }
     requires { ⌜ i ≤ undo .entries ⌝ }
     ensures { λ r. ⌜ Placed undo i r ⌝ }
@@ -97,7 +97,7 @@ pub fn place(undo: Undo, i: u64) -> usize
 // From an entry's place to that of the next, in a ring of so many words as end says.
 fn next(end: usize, at: usize) -> usize
     requires { ⌜ at < end ⌝ }
-    requires { ⌜ end ≤ 2 * mostEntries ⌝ }
+    requires { ⌜ end ≤ entryWords * mostEntries ⌝ }
     ensures { λ r. ⌜ r ≡ nextPlace end at ⌝ }
 {
     if at + ENTRY_WORDS >= end {
@@ -119,7 +119,7 @@ fn previous(end: usize, at: usize) -> usize
 }
 
 // The place of the first improper entry of the log, the oldest counted 0, or the log's length where all are proper.
-pub fn first_improper(board: &[u64], undo: Undo, lines: u64) -> u64
+pub fn first_improper(board: &[u64], undo: LogState, lines: u64) -> u64
     requires { ⌜ Sound undo ⌝ }
     requires { ⌜ 1 ≤ lines ⌝ }
     requires { ⌜ lines ≤ mostLines ⌝ }
@@ -146,7 +146,7 @@ pub fn first_improper(board: &[u64], undo: Undo, lines: u64) -> u64
 }
 
 // How many of the log's entries are left once the oldest run is dropped that the target makes useless.
-fn kept_by(board: &[u64], undo: Undo, target: u64) -> u64
+fn kept_by(board: &[u64], undo: LogState, target: u64) -> u64
     requires { ⌜ Sound undo ⌝ }
     requires { ⌜ linesAt (undo .entries) ≤ length (now board) ⌝ }
     ensures { λ r. ⌜ KeptBy (now (board .entry)) undo target r ⌝ }
@@ -169,7 +169,7 @@ fn kept_by(board: &[u64], undo: Undo, target: u64) -> u64
 }
 
 // How many of the oldest entries no longer matter once the target is persisted.
-pub fn dropped_by(board: &[u64], undo: Undo, target: u64) -> u64
+pub fn dropped_by(board: &[u64], undo: LogState, target: u64) -> u64
     requires { ⌜ Sound undo ⌝ }
     requires { ⌜ linesAt (undo .entries) ≤ length (now board) ⌝ }
     ensures { λ r. ⌜ DroppedBy (now (board .entry)) undo target r ⌝ }
@@ -177,8 +177,9 @@ pub fn dropped_by(board: &[u64], undo: Undo, target: u64) -> u64
     undo.control.length - kept_by(board, undo, target)
 }
 
+// Whether entry i of the buffer is proper.
 fn is_buffered_proper(buffer: &[u64], lines: u64, epoch: u64, i: usize) -> bool
-    requires { ⌜ 2 * i < length (now buffer) ⌝ }
+    requires { ⌜ entryWords * i < length (now buffer) ⌝ }
     requires { ⌜ 1 ≤ lines ⌝ }
     requires { ⌜ lines ≤ mostLines ⌝ }
     requires { ⌜ epoch < 2 ^ epochBits ⌝ }
@@ -196,7 +197,7 @@ fn is_buffered_proper(buffer: &[u64], lines: u64, epoch: u64, i: usize) -> bool
 
 // Whether the first entries of the buffer, count of them, are proper.
 pub fn is_buffer_proper(buffer: &[u64], count: usize, lines: u64, epoch: u64) -> bool
-    requires { ⌜ 2 * count ≤ length (now buffer) ⌝ }
+    requires { ⌜ entryWords * count ≤ length (now buffer) ⌝ }
     requires { ⌜ 1 ≤ lines ⌝ }
     requires { ⌜ lines ≤ mostLines ⌝ }
     requires { ⌜ epoch < 2 ^ epochBits ⌝ }
@@ -212,8 +213,9 @@ pub fn is_buffer_proper(buffer: &[u64], count: usize, lines: u64, epoch: u64) ->
     true
 }
 
+// Whether entry i of the buffer is of another address.
 fn is_elsewhere(buffer: &[u64], address: u64, i: usize) -> bool
-    requires { ⌜ 2 * i < length (now buffer) ⌝ }
+    requires { ⌜ entryWords * i < length (now buffer) ⌝ }
     ensures { λ r. ⌜ r ≡ elsewhere (now (buffer .entry)) address i ⌝ }
 {
     let entry = Entry::decode(buffer[ENTRY_WORDS * i]);
@@ -222,7 +224,7 @@ fn is_elsewhere(buffer: &[u64], address: u64, i: usize) -> bool
 
 // Whether one of the first entries of the buffer, count of them, has the address.
 pub fn is_buffering(buffer: &[u64], count: usize, address: u64) -> bool
-    requires { ⌜ 2 * count ≤ length (now buffer) ⌝ }
+    requires { ⌜ entryWords * count ≤ length (now buffer) ⌝ }
     ensures { λ r. ⌜ r ≡ buffers (now (buffer .entry)) count address ⌝ }
 {
     let mut i: usize = 0;
@@ -236,7 +238,7 @@ pub fn is_buffering(buffer: &[u64], count: usize, address: u64) -> bool
 }
 
 // An entry to the buffer's end.
-pub fn push(buffer: &mut [u64], undo: Undo, entry: Entry, old: u64) -> Undo
+pub fn push(buffer: &mut [u64], undo: LogState, entry: Entry, old: u64) -> LogState
     requires { ⌜ PushReady (now buffer) undo entry ⌝ }
     ensures { λ r. ⌜ Pushes (now (buffer .entry)) undo entry old (now (buffer .exit)) r ⌝ }
 {
@@ -246,9 +248,9 @@ pub fn push(buffer: &mut [u64], undo: Undo, entry: Entry, old: u64) -> Undo
 }
 
 // The buffered entries, oldest first, to the log part of the board.
-fn put_entries(log: &mut [u64], buffer: &[u64], undo: Undo, meter: Meter) -> Meter
+fn put_entries(log: &mut [u64], buffer: &[u64], undo: LogState, meter: Meter) -> Meter
     requires { ⌜ Sound undo ⌝ }
-    requires { ⌜ 2 * undo .entries ≤ length (now log) ⌝ }
+    requires { ⌜ entryWords * undo .entries ≤ length (now log) ⌝ }
     requires { ⌜ length (now buffer) ≡ bufferWords ⌝ }
     ensures { λ r. ⌜ Ran (now (log .entry)) meter (each (entryStores undo (now (buffer .entry))) (undo .buffered)) (now (log .exit)) r ⌝ }
 {
@@ -267,7 +269,7 @@ fn put_entries(log: &mut [u64], buffer: &[u64], undo: Undo, meter: Meter) -> Met
 }
 
 // The buffer to the board's log: the entries before the control word that counts them.
-pub fn flush(board: &mut [u64], buffer: &mut [u64], undo: Undo, meter: Meter) -> Progress
+pub fn flush(board: &mut [u64], buffer: &mut [u64], undo: LogState, meter: Meter) -> Progress
     requires { ⌜ FlushReady (now board) (now buffer) undo ⌝ }
     ensures { λ r. ⌜ Flushes (now (board .entry)) (now (buffer .entry)) undo meter (now (board .exit)) (now (buffer .exit)) r ⌝ }
 {
@@ -286,7 +288,7 @@ pub fn flush(board: &mut [u64], buffer: &mut [u64], undo: Undo, meter: Meter) ->
 }
 
 // The control word with the target as persisted epoch and the run of entries dropped that it makes useless.
-pub fn advance(board: &mut [u64], undo: Undo, target: u64, meter: Meter) -> Meter
+pub fn advance(board: &mut [u64], undo: LogState, target: u64, meter: Meter) -> Meter
     requires { ⌜ AdvanceReady (now board) undo target ⌝ }
     ensures { λ r. ⌜ Ran (now (board .entry)) meter (advanceStores (now (board .entry)) undo target) (now (board .exit)) r ⌝ }
 {
@@ -301,7 +303,7 @@ pub fn advance(board: &mut [u64], undo: Undo, target: u64, meter: Meter) -> Mete
 
 // The old data of the entry at a place to its line, if it covers the persisted epoch. The log is proper: no entry ends at that
 // epoch or before it.
-fn restore_entry(board: &mut [u64], undo: Undo, at: usize, meter: Meter) -> Meter
+fn restore_entry(board: &mut [u64], undo: LogState, at: usize, meter: Meter) -> Meter
     requires { ⌜ RestoreReady (now board) undo at ⌝ }
     ensures { λ r. ⌜ Ran (now (board .entry)) meter (restoreAt (now (board .entry)) undo at) (now (board .exit)) r ⌝ }
 {
@@ -310,12 +312,12 @@ fn restore_entry(board: &mut [u64], undo: Undo, at: usize, meter: Meter) -> Mete
         return meter;
     }
     let old = board[LOG_AT + at + 1];
-    let lines = layout::lines_at(undo.entries);
-    board::put(&mut board[lines..], entry.address as usize, old, meter)
+    let first_line = layout::lines_at(undo.entries);
+    board::put(&mut board[first_line..], entry.address as usize, old, meter)
 }
 
 // From the newest entry to the oldest, so that a line gets the data of its oldest covering entry.
-fn restore(board: &mut [u64], undo: Undo, lines: u64, meter: Meter) -> Meter
+fn restore(board: &mut [u64], undo: LogState, lines: u64, meter: Meter) -> Meter
     requires { ⌜ RecoverReady (now board) undo lines ⌝ }
     ensures { λ r. ⌜ Ran (now (board .entry)) meter (each (restoreTurn (now (board .entry)) undo) (undo .control .length)) (now (board .exit)) r ⌝ }
 {
@@ -332,7 +334,7 @@ fn restore(board: &mut [u64], undo: Undo, lines: u64, meter: Meter) -> Meter
 }
 
 // The lines as of the persisted epoch, and only then an empty log.
-pub fn recover(board: &mut [u64], undo: Undo, lines: u64, meter: Meter) -> Meter
+pub fn recover(board: &mut [u64], undo: LogState, lines: u64, meter: Meter) -> Meter
     requires { ⌜ RecoverReady (now board) undo lines ⌝ }
     ensures { λ r. ⌜ Ran (now (board .entry)) meter (recoverStores (now (board .entry)) undo) (now (board .exit)) r ⌝ }
 {

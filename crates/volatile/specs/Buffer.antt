@@ -12,17 +12,18 @@ use lib.ListN.{length, getD, set, length-set, length-drop, replicate, length-rep
 use lib.Seq.{getD-set-same, getD-set-other}
 use Rattle.base.specs.Walk.{first, first-all, all-first}
 use Rattle.layout.specs.declared.Entry as layout
-use Rattle.layout.specs.Laws.{decode-encode-entry}
+use Rattle.layout.specs.Laws.{entry-laws}
 use Rattle.layout.specs.Limits.{bufferPlaces}
 use Rattle.layout.specs.Memory.{bufferWords, bufferIn}
 use Rattle.layout.specs.Words.{encodeEntry, EntryFits}
-use Rattle.undo.specs.declared.Undo.{Undo}
+use Rattle.undo.specs.declared.LogState.{LogState}
 use Rattle.undo.specs.Entries.{properBuffered}
 use Rattle.undo.specs.Log.{bufferedIn, bufferedProper, bufferProper, elsewhere, buffers, pushed, flushedBuffer}
-use Rattle.history.specs.Every.{Every, every-split, every-map}
+use Rattle.base.specs.Every.{Every, every-split, every-map}
 use Rattle.history.specs.Invariant.{ProperEntry}
 use Rattle.history.specs.Machine.{Entry, Silent}
-use Rattle.history.specs.Recall.{here-or-there, silent-away}
+use Rattle.base.specs.Cases.{here-or-there}
+use Rattle.history.specs.Recall.{silent-away}
 use Rattle.durable.specs.Listed.{listed, listed-same, listed-append, every-listed}
 use Rattle.durable.specs.View.{entryWith, bufferedAt, bufferOf}
 
@@ -57,7 +58,7 @@ module _ (Q : Entry → Type 0) (buffer : List ℕ) where
 pub buffer-length : (work : List ℕ) → bufferWords ≤ length work → length (bufferIn work) ≡ bufferWords
 buffer-length work within = simp length-drop (omega arith)
 
-pub flushed-length : (u : Undo) (buffer : List ℕ) → length (flushedBuffer u buffer) ≡ length buffer
+pub flushed-length : (u : LogState) (buffer : List ℕ) → length (flushedBuffer u buffer) ≡ length buffer
 unfolding flushedBuffer
 flushed-length u buffer = go (eqb (u .buffered) 0)
   where
@@ -93,7 +94,7 @@ module _ (buffer : List ℕ) (n : ℕ) (e : layout.Entry) (old : ℕ) where
         let kept = getD-set-other (set buffer (2 * n) (encodeEntry e)) (2 * n + 1) (2 * n) old 0 (omega arith) in
         let word = getD-set-same buffer (2 * n) (encodeEntry e) 0 (omega arith) in
         let value = getD-set-same (set buffer (2 * n) (encodeEntry e)) (2 * n + 1) old 0 (simp length-set (omega arith)) in
-        rw (kept, word, decode-encode-entry e fits, value)
+        rw (kept, word, entry-laws .decode-encode e fits, value)
 
     pub pushed-buffer : bufferOf (pushed buffer n e old) (n + 1) ≡ bufferOf buffer n ++ (entryWith e old ∷ [])
     pushed-buffer =

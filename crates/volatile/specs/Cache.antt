@@ -1,4 +1,4 @@
--- The cache by address, read from the slots. Where an address may stand is known here and nowhere else.
+-- The cache by address, read from the slots. The laws above this file speak of `Belongs` and do not open where an address may stand.
 use Prim.Native.Nat.{ℕ, _+_, _*_, _<_, _≤_}
 use mathlib.Core.Path.{_≡_, refl, sym, fun-ext, _∙_}
 use mathlib.Core.Logic.{_≢_}
@@ -12,12 +12,12 @@ use lib.ListN.{length, getD}
 use Rattle.layout.specs.declared.Slot.{Slot}
 use Rattle.layout.specs.Memory.{bufferWords, slotIn, dataIn}
 use Rattle.layout.specs.Words.{SlotFits}
-use Rattle.cache.specs.Slots.{homeOf, holds, spotOf, cleanSlot, dirtySlot}
-use Rattle.history.specs.Machine.{Line, absent, clean, dirty, update}
-use Rattle.history.specs.Recall.{here-or-there, update-same, update-other}
+use Rattle.slots.specs.Slots.{homeOf, holds, spotOf, cleanSlot, dirtySlot}
+use Rattle.history.specs.Machine.{Line, absent, clean, dirty}
+use Rattle.base.specs.Cases.{here-or-there, update, update-same, update-other}
 use Rattle.layout.specs.ZeroWord.{emptySlot}
 use Rattle.volatile.specs.Parts.{slotPut, put-slot, put-value, put-other-word, put-other-value}
-use Rattle.volatile.specs.Held.{heldBy, heldIn, held-absent, empty-held, clean-held, dirty-held}
+use Rattle.volatile.specs.Held.{heldBy, heldIn, empty-held, clean-held, dirty-held}
 
 -- "Address a belongs in slot a mod S."
 abbrev pub Belongs : (slots address k : ℕ) → Type 0
@@ -51,11 +51,6 @@ module _ (work : List ℕ) (slots address : ℕ) where
   pub spot-holds : spotOf work slots address .held ≡ holds work (spotOf work slots address .slot) address
   unfolding spotOf
   spot-holds = refl
-
-  pub spot-absent : spotOf work slots address .held ≡ false → cacheOf work slots address ≡ absent
-  spot-absent h =
-      let k = spotOf work slots address .slot in
-      cache-at work slots address k spot-belongs ∙ held-absent work k address (sym spot-holds ∙ h)
 
 -- ---- the cache is in the slots' words alone
 

@@ -8,7 +8,7 @@ use borrow.Author.Tests.{eq-eqb, ne-eqb}
 use lib.Dec.{eqb}
 use Rattle.layout.specs.declared.Slot.{Slot}
 use Rattle.layout.specs.Memory.{slotIn, dataIn}
-use Rattle.cache.specs.Slots.{holds, cleanSlot, dirtySlot}
+use Rattle.slots.specs.Slots.{cleanSlot, dirtySlot}
 use Rattle.history.specs.Machine.{Line, absent, clean, dirty}
 use Rattle.layout.specs.ZeroWord.{emptySlot}
 
@@ -18,22 +18,6 @@ heldBy s value address =
 
 abbrev pub heldIn : List ℕ → (k address : ℕ) → Line
 heldIn work k address = heldBy (slotIn work k) (dataIn work k) address
-
--- ---- as the cache's own test finds it
-
-module _ (work : List ℕ) (k address : ℕ) where
-  pub held-absent : holds work k address ≡ false → heldIn work k address ≡ absent
-  unfolding holds heldBy
-  held-absent h = rw h
-
-  pub held-clean : holds work k address ≡ true → slotIn work k .dirty ≡ false → heldIn work k address ≡ clean (dataIn work k)
-  unfolding holds heldBy
-  held-clean h c = rw (h, c)
-
-  pub held-dirty : holds work k address ≡ true → slotIn work k .dirty ≡ true
-      → heldIn work k address ≡ dirty (slotIn work k .tag) (dataIn work k)
-  unfolding holds heldBy
-  held-dirty h d = rw (h, d)
 
 -- ---- by the kind of slot
 

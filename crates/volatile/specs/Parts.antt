@@ -7,12 +7,12 @@ use native.Mathlib.Omega.{arith}
 use lib.ListN.{length, getD, take, set, length-set, length-take, length-append, List·getD-append}
 use lib.Seq.{getD-set-same, getD-set-other, getD-take, drop-set-lt, drop-at, set-getD}
 use Rattle.layout.specs.declared.Slot.{Slot}
-use Rattle.layout.specs.Memory.{bufferWords, bufferIn, slotIn, dataIn}
+use Rattle.layout.specs.Memory.{bufferWords, bufferAt, bufferIn, slotIn, dataIn}
 use Rattle.layout.specs.Words.{encodeSlot, decodeSlot, SlotFits}
-use Rattle.layout.specs.Laws.{decode-encode-slot}
+use Rattle.layout.specs.Laws.{slot-laws}
 use Rattle.base.specs.Parts.{setPair}
-use Rattle.cache.specs.Slots.{cleanSlot, dirtySlot, zeroed, filled, dirtied, cleaned}
-use Rattle.cache.specs.Effects.{withBuffer}
+use Rattle.slots.specs.Slots.{cleanSlot, dirtySlot, zeroed, filled, dirtied, cleaned}
+use Rattle.layout.specs.Memory.{withBuffer}
 use Rattle.layout.specs.ZeroWord.{emptySlot, encode-empty}
 
 -- ---- another slot in place of slot k
@@ -67,7 +67,7 @@ module _ (work : List ℕ) (k : ℕ) (s : Slot) (value : ℕ) where
         ∙ getD-set-same work (2 * k) (encodeSlot s) 0 (omega arith)
 
     pub put-slot : SlotFits s → slotIn (slotPut work k s value) k ≡ s
-    put-slot fits = ap decodeSlot put-word ∙ decode-encode-slot s fits
+    put-slot fits = ap decodeSlot put-word ∙ slot-laws .decode-encode s fits
 
     pub put-value : dataIn (slotPut work k s value) k ≡ value
     unfolding slotPut
@@ -76,8 +76,8 @@ module _ (work : List ℕ) (k : ℕ) (s : Slot) (value : ℕ) where
     pub put-buffer : bufferIn (slotPut work k s value) ≡ bufferIn work
     unfolding slotPut
     put-buffer = simp length-set
-        (drop-set-lt (length work - bufferWords) (set work (2 * k) (encodeSlot s)) (2 * k + 1) value (omega arith)
-        ∙ drop-set-lt (length work - bufferWords) work (2 * k) (encodeSlot s) (omega arith))
+        (drop-set-lt (bufferAt (length work)) (set work (2 * k) (encodeSlot s)) (2 * k + 1) value (omega arith)
+        ∙ drop-set-lt (bufferAt (length work)) work (2 * k) (encodeSlot s) (omega arith))
 
 -- ---- another buffer
 
@@ -90,10 +90,10 @@ module _ (work buffer : List ℕ) (within : bufferWords ≤ length work) (words 
   pub with-word : (i : ℕ) → i + bufferWords < length work → getD (withBuffer work buffer) i 0 ≡ getD work i 0
   unfolding withBuffer
   with-word i below =
-      List·getD-append (take (length work - bufferWords) work) buffer 0 i (simp length-take (omega arith))
-      ∙ getD-take (length work - bufferWords) work i 0 (omega arith)
+      List·getD-append (take (bufferAt (length work)) work) buffer 0 i (simp length-take (omega arith))
+      ∙ getD-take (bufferAt (length work)) work i 0 (omega arith)
 
   pub with-buffer : bufferIn (withBuffer work buffer) ≡ buffer
   unfolding withBuffer
   with-buffer = simp with-length
-      (drop-at (take (length work - bufferWords) work) buffer (length work - bufferWords) (simp length-take (omega arith)))
+      (drop-at (take (bufferAt (length work)) work) buffer (bufferAt (length work)) (simp length-take (omega arith)))

@@ -9,12 +9,12 @@ use lib.Dec.{ltb, leb, eqb}
 use lib.ListN.{getD}
 use Rattle.base.specs.Tests.{held}
 use Rattle.layout.specs.declared.Slot.{Slot}
-use Rattle.layout.specs.Laws.{decode-encode-slot, decoded-fits-slot}
+use Rattle.layout.specs.Laws.{slot-laws}
 use Rattle.layout.specs.Limits.{addressBits}
 use Rattle.layout.specs.Memory.{slotIn}
 use Rattle.layout.specs.Words.{encodeSlot, decodeSlot, SlotFits}
-use Rattle.cache.specs.declared.Bounds.{Bounds}
-use Rattle.cache.specs.Slots.{properTag, properFull, properSlot, properAt, holds, cleanSlot, dirtySlot}
+use Rattle.slots.specs.declared.Bounds.{Bounds}
+use Rattle.slots.specs.Slots.{properTag, properFull, properSlot, properAt, holds, cleanSlot, dirtySlot}
 use Rattle.layout.specs.ZeroWord.{emptySlot, encode-empty, decode-zero}
 use Rattle.volatile.specs.Cache.{Belongs}
 
@@ -62,7 +62,7 @@ proper-slot b work k = go (eqb (getD work (2 * k) 0) 0) refl
     go : (t : Bool) → eqb (getD work (2 * k) 0) 0 ≡ t → t || properFull b k (slotIn work k) ≡ true → ProperSlot b k (slotIn work k)
     go true e h = is-empty (ap decodeSlot (eqb-true (getD work (2 * k) 0) 0 e) ∙ decode-zero)
     go false e h =
-        let r = full-read b k (slotIn work k) (decoded-fits-slot (getD work (2 * k) 0)) h in
+        let r = full-read b k (slotIn work k) (slot-laws .decoded-fits (getD work (2 * k) 0)) h in
         is-full (slotIn work k .address) (r .0) (r .1)
 
 -- ---- from the slot to the test
@@ -77,7 +77,7 @@ module _ (b : Bounds) (k : ℕ) where
   pub slot-proper : (s : Slot) → SlotFits s → ProperSlot b k s → properSlot b k (encodeSlot s) ≡ true
   unfolding properSlot
   slot-proper s fits (is-empty e) = rw (e, encode-empty)
-  slot-proper s fits (is-full a here f) = rw (decode-encode-slot s fits, full-proper a s here f) (or-true (eqb (encodeSlot s) 0))
+  slot-proper s fits (is-full a here f) = rw (slot-laws .decode-encode s fits, full-proper a s here f) (or-true (eqb (encodeSlot s) 0))
 
 -- ---- other epochs
 
@@ -105,7 +105,7 @@ module _ (b : Bounds) (persisted epoch : ℕ) (later : b .epoch ≤ epoch) where
       go : (t : Bool) → t || properFull b k s ≡ true → t || properFull (withEpochs b persisted epoch) k s ≡ true
       go true h = refl
       go false h =
-          let r = full-read b k s (decoded-fits-slot (getD work (2 * k) 0)) h in
+          let r = full-read b k s (slot-laws .decoded-fits (getD work (2 * k) 0)) h in
           full-proper (withEpochs b persisted epoch) k (s .address) s
           (record { inside = r .0 .inside; fits = r .0 .fits; home = r .0 .home }) (full-rebound (s .address) s after (r .1))
 
@@ -137,9 +137,3 @@ module _ (b : Bounds) (work : List ℕ) (k address : ℕ) where
     pub held-full : ProperSlot b k (slotIn work k) → FullSlot b address (slotIn work k)
     held-full (is-empty e) = absurd (false≢true (sym (empty-holds e) ∙ h))
     held-full (is-full a here f) = rw (sym (full-address f) ∙ holds-address h) at f
-
--- only a full slot is dirty
-pub dirty-holds : (b : Bounds) (work : List ℕ) (k : ℕ) → ProperSlot b k (slotIn work k) → slotIn work k .dirty ≡ true
-    → holds work k (slotIn work k .address) ≡ true
-dirty-holds b work k (is-empty e) d = absurd (false≢true (ap (λ (s : Slot). s .dirty) (sym e) ∙ d))
-dirty-holds b work k (is-full a here f) d = full-holds b work k (slotIn work k .address) (rw (← full-address f) at f)

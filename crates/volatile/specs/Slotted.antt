@@ -8,9 +8,9 @@ use lib.ListN.{length, getD, replicate, length-replicate, getD-replicate}
 use Rattle.layout.specs.Limits.{mostSlots}
 use Rattle.layout.specs.Memory.{bufferWords, workWords, slotIn, dataIn}
 use Rattle.layout.specs.Words.{decodeSlot}
-use Rattle.cache.specs.declared.Bounds.{Bounds}
-use Rattle.cache.specs.Slots.{properSlot, properAt, holds}
-use Rattle.cache.specs.Effects.{withBuffer}
+use Rattle.slots.specs.declared.Bounds.{Bounds}
+use Rattle.slots.specs.Slots.{properSlot, properAt, holds}
+use Rattle.layout.specs.Memory.{withBuffer}
 use Rattle.history.specs.Machine.{absent}
 use Rattle.layout.specs.ZeroWord.{decode-zero}
 use Rattle.volatile.specs.Parts.{with-length, with-word}

@@ -9,10 +9,10 @@ use Rattle.layout.specs.declared.Slot.{Slot}
 use Rattle.layout.specs.Limits.{epochBits}
 use Rattle.layout.specs.Memory.{bufferIn, slotIn, dataIn}
 use Rattle.layout.specs.Words.{SlotFits}
-use Rattle.cache.specs.declared.Bounds.{Bounds}
-use Rattle.cache.specs.Slots.{properAt, holds, cleanSlot, dirtySlot, zeroed, filled, dirtied, cleaned}
-use Rattle.history.specs.Machine.{Line, absent, clean, dirty, update}
-use Rattle.history.specs.Recall.{here-or-there}
+use Rattle.slots.specs.declared.Bounds.{Bounds}
+use Rattle.slots.specs.Slots.{properAt, holds, cleanSlot, dirtySlot, zeroed, filled, dirtied, cleaned}
+use Rattle.history.specs.Machine.{Line, absent, clean, dirty}
+use Rattle.base.specs.Cases.{here-or-there, update}
 use Rattle.layout.specs.ZeroWord.{emptySlot, empty-fits}
 use Rattle.volatile.specs.Parts.{slotPut, zeroed-put, filled-put, dirtied-put, cleaned-put}
 use Rattle.volatile.specs.Parts.{put-length, put-word, put-slot, put-value, put-other-word, put-buffer}

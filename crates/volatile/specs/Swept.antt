@@ -11,18 +11,19 @@ use lib.ListN.{length}
 use Rattle.layout.specs.declared.Entry.{Entry}
 use Rattle.layout.specs.declared.Slot.{Slot}
 use Rattle.layout.specs.Memory.{bufferWords, slotIn, dataIn}
-use Rattle.undo.specs.declared.Undo.{Undo}
-use Rattle.cache.specs.declared.Bounds.{Bounds}
-use Rattle.cache.specs.Effects.{withBuffer, logged}
-use Rattle.cache.specs.Laws.{spot-below}
-use Rattle.cache.specs.Slots.{spotOf}
+use Rattle.undo.specs.declared.LogState.{LogState}
+use Rattle.slots.specs.declared.Bounds.{Bounds}
+use Rattle.layout.specs.Memory.{withBuffer}
+use Rattle.steps.specs.Effects.{logged}
+use Rattle.slots.specs.Laws.{spot-below}
+use Rattle.slots.specs.Slots.{spotOf}
 use Rattle.history.specs.Machine.{Line, Scanned}
-use Rattle.history.specs.Recall.{here-or-there}
-use Rattle.volatile.specs.Held.{held-dirty, marked-dirty}
+use Rattle.base.specs.Cases.{here-or-there}
+use Rattle.volatile.specs.Held.{marked-dirty}
 use Rattle.volatile.specs.Cache.{cache-at, spot-belongs}
-use Rattle.volatile.specs.Proper.{is-clean, is-dirty, ProperSlot, is-empty, is-full, dirty-holds}
+use Rattle.volatile.specs.Proper.{is-clean, is-dirty, ProperSlot, is-empty, is-full}
 use Rattle.volatile.specs.Proper.{DirtyAfter, withEpochs, proper-rebound}
-use Rattle.volatile.specs.Slotted.{Slotted, slot-kind, slot-home, with-slot}
+use Rattle.volatile.specs.Slotted.{Slotted, slot-kind, with-slot}
 use Rattle.volatile.specs.Stores.{Stored}
 use Rattle.volatile.specs.View.{volatileOf, logged-slot}
 
@@ -49,7 +50,7 @@ pub swept-with : {b : Bounds} {work : List ℕ} → Slotted b work → (buffer :
     → (c target : ℕ) → c ≤ b .slots → SweptTo work c target → SweptTo (withBuffer work buffer) c target
 swept-with slotted buffer words c target within swept k below = rw (with-slot slotted buffer words k (omega arith)) (swept k below)
 
-pub swept-logged : {b : Bounds} {work : List ℕ} → Slotted b work → (u : Undo) (e : Entry) (old c target : ℕ) → c ≤ b .slots
+pub swept-logged : {b : Bounds} {work : List ℕ} → Slotted b work → (u : LogState) (e : Entry) (old c target : ℕ) → c ≤ b .slots
     → SweptTo work c target → SweptTo (logged u work e old) c target
 swept-logged slotted u e old c target within swept k below = rw (logged-slot slotted u e old k (omega arith)) (swept k below)
 
@@ -90,14 +91,6 @@ module _ {b : Bounds} {work : List ℕ} (slotted : Slotted b work) where
       let found = sym (cache-at work (b .slots) a k (spot-belongs work (b .slots) a)) ∙ e in
       let m = marked-dirty (slotIn work k) (dataIn work k) a t d found in
       rw (m .1) at (swept k (spot-below work (b .slots) a (slotted .some)) (m .0))
-
-  pub scanned-swept : (target epoch count : ℕ) → Scanned (volatileOf work (b .slots) epoch count) target
-      → SweptTo work (b .slots) target
-  scanned-swept target epoch count scanned k below d =
-      let a = slotIn work k .address in
-      let h = dirty-holds b work k (slot-kind slotted k below) d in
-      scanned a (slotIn work k .tag) (dataIn work k)
-      (cache-at work (b .slots) a k (slot-home slotted k a below h .home) ∙ held-dirty work k a h d)
 
   slotted-rebound : (persisted epoch : ℕ) → b .epoch ≤ epoch → SweptTo work (b .slots) persisted
       → Slotted (withEpochs b persisted epoch) work

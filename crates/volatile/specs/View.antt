@@ -12,12 +12,14 @@ use Rattle.layout.specs.declared.Slot.{Slot}
 use Rattle.layout.specs.Limits.{epochBits, bufferPlaces}
 use Rattle.layout.specs.Memory.{bufferWords, bufferIn, slotIn}
 use Rattle.layout.specs.Words.{EntryFits}
-use Rattle.undo.specs.declared.Undo.{Undo}
+use Rattle.undo.specs.declared.LogState.{LogState}
 use Rattle.undo.specs.Log.{pushed, flushedBuffer}
-use Rattle.cache.specs.declared.Bounds.{Bounds}
-use Rattle.cache.specs.Slots.{holds, dirtySlot, dirtied}
-use Rattle.cache.specs.Effects.{withBuffer, logged}
-use Rattle.history.specs.Machine.{Entry, Line, dirty, update, Durable, Volatile, marked, unbuffered, nextEpoch, awake}
+use Rattle.slots.specs.declared.Bounds.{Bounds}
+use Rattle.slots.specs.Slots.{holds, dirtySlot, dirtied}
+use Rattle.layout.specs.Memory.{withBuffer}
+use Rattle.steps.specs.Effects.{logged}
+use Rattle.history.specs.Machine.{Entry, Line, dirty, Durable, Volatile, marked, unbuffered, nextEpoch, awake}
+use Rattle.base.specs.Cases.{update}
 use Rattle.volatile.specs.Parts.{with-buffer}
 use Rattle.volatile.specs.Cache.{cacheOf}
 use Rattle.volatile.specs.Slotted.{Slotted, zeroWork, zero-cache, slot-home, with-slot, with-holds, with-cache, with-slotted}
@@ -72,7 +74,7 @@ module _ {b : Bounds} {work : List ℕ} (slotted : Slotted b work) where
       let same = with-cache slotted buffer words in
       λ i. record { running = epoch; buffer = bufferOf (read i) count′; cache = same i }
 
-  module _ (u : Undo) where
+  module _ (u : LogState) where
     pub flushed-words : length (flushedBuffer u (bufferIn work)) ≡ bufferWords
     flushed-words = flushed-length u (bufferIn work) ∙ buffer-words
 

@@ -5,24 +5,21 @@ use mathlib.Core.Bool.{Bool, true, false}
 use mathlib.Core.List.{List, [], _∷_, _++_}
 use lib.ListN.{length, replicate}
 use Rattle.layout.specs.declared.Control.{Control}
-use Rattle.layout.specs.declared.Shape.{Shape}
 use Rattle.layout.specs.declared.Entry.{Entry}
 use Rattle.layout.specs.declared.Slot.{Slot}
-use Rattle.layout.specs.Limits.{boardVersion}
-use Rattle.layout.specs.Memory.{bufferWords}
+use Rattle.layout.specs.Memory.{shapeFor, bufferWords}
 use Rattle.layout.specs.Words.{encodeControl, encodeShape, encodeEntry, encodeSlot}
 use Rattle.status.specs.declared.Status.the-variants as status
 use Rattle.checks.specs.declared.Registers.{Registers}
+use Rattle.checks.specs.Registers.{given}
 use Rattle.picl.specs.declared.Answer.{Answer}
-use Rattle.picl.specs.Answers.{Verdict, due}
+use Rattle.picl.specs.Answers.{Verdict, answer}
+use Rattle.board.specs.Verdict.{due}
 use Rattle.picl.specs.Calls.{storeVerdict, evictVerdict, commitVerdict, scanVerdict, powerUpVerdict}
 
 -- words by their fields
 abbrev pub control : (persisted start length : ℕ) → Control
 control persisted start length = record { persisted = persisted; start = start; length = length }
-
-abbrev pub shape : (lines entries : ℕ) → Shape
-shape lines entries = record { version = boardVersion; lines = lines; entries = entries }
 
 abbrev pub entry : (address from till : ℕ) → Entry
 entry address from till = record { address = address; from = from; till = till }
@@ -49,13 +46,10 @@ abbrev padded : ℕ → List ℕ → List ℕ
 padded size words = words ++ replicate (size - length words) 0
 
 abbrev pub board : Control → (log : List ℕ) → (line : ℕ) → List ℕ
-board c log line = encodeControl c ∷ encodeShape (shape 4 8) ∷ padded (2 * 8) log ++ 0 ∷ 0 ∷ 0 ∷ line ∷ []
+board c log line = encodeControl c ∷ encodeShape (shapeFor 4 8) ∷ padded (2 * 8) log ++ 0 ∷ 0 ∷ 0 ∷ line ∷ []
 
 abbrev pub work : Slot → (line : ℕ) → (buffer : List ℕ) → List ℕ
 work s line buffer = 0 ∷ 0 ∷ encodeSlot s ∷ line ∷ padded bufferWords buffer
-
-abbrev pub registers : (epoch buffered cursor : ℕ) → Registers
-registers epoch buffered cursor = record { epoch = epoch; buffered = buffered; cursor = cursor }
 
 -- a board with an empty log
 abbrev pub quiet : (persisted : ℕ) → List ℕ
@@ -67,23 +61,23 @@ wake c log = powerUpVerdict (board c log 7) (work clean 7 [])
 
 -- a store to line 3, as slot 1 holds it
 abbrev pub store : (persisted epoch : ℕ) → Slot → Verdict
-store persisted epoch held = storeVerdict (quiet persisted) (work held 7 []) (registers epoch 0 0) 3 9
+store persisted epoch held = storeVerdict (quiet persisted) (work held 7 []) (given epoch 0 0) 3 9
 
 -- an eviction of line 3, stored to in the running epoch 2, with one entry buffered
 abbrev pub evict : (buffer : List ℕ) → Verdict
-evict buffer = evictVerdict (quiet 0) (work (dirty 2) 9 buffer) (registers 2 1 0) 3
+evict buffer = evictVerdict (quiet 0) (work (dirty 2) 9 buffer) (given 2 1 0) 3
 
 -- a commit
 abbrev pub commit : (persisted epoch : ℕ) → Verdict
-commit persisted epoch = commitVerdict (quiet persisted) (work clean 7 []) (registers epoch 0 0)
+commit persisted epoch = commitVerdict (quiet persisted) (work clean 7 []) (given epoch 0 0)
 
 -- a scan's visit of slot 1, its target 1, with line 3 stored to in epoch 1 or 2 and its entry buffered
 abbrev pub scan : (tag : ℕ) → Verdict
-scan tag = scanVerdict (quiet 0) (work (dirty tag) 9 (undo 3 0 tag 7)) (registers 2 1 1)
+scan tag = scanVerdict (quiet 0) (work (dirty tag) 9 (undo 3 0 tag 7)) (given 2 1 1)
 
 -- what calls come to: a verdict with no store due, and an answer of number 0
 abbrev pub still : Registers → (work : List ℕ) → Verdict
 still r work = due (record { value = 0; registers = r; work = work; stores = [] })
 
 abbrev pub ok : (value stores : ℕ) → Registers → Answer
-ok value stores r = record { status = status.Ok; value = value; stores = stores; registers = r }
+ok value stores r = answer status.Ok value stores r

@@ -1,30 +1,39 @@
-use native.Mathlib.Omega.{arith}
+use borrow.Author.Needs.{needs}
 use Prim.Native.Nat.{_≤_, _-_}
 use mathlib.Core.Path.{_≡_}
+use native.Mathlib.Omega.{arith}
 use lib.ListN.{length}
-use borrow.Author.Needs.{needs}
 use Rattle.transcript.specs.Session.{Ready}
 use Rattle.loomreplay.proofs.replay_bytes.Statement.{statement}
 use Rattle.loomreplay.proofs.replay_bytes.Tie as tie
 
 abbrev Inv-loop : tie.InvT-loop
-Inv-loop input board₀ work₀ out₀ s₀ i₀ board work out s i =
-    (i ≤ length input) × (length board ≡ length board₀) × (length work ≡ length work₀) × (length out ≡ length out₀) × Ready s board work out
+Inv-loop input board₀ work₀ out₀ s₀ at₀ board work out s at =
+    (at ≤ length input) × (length board ≡ length board₀) × (length work ≡ length work₀) × (length out ≡ length out₀) × Ready s board work out
 
 abbrev μ-loop : tie.MeasureT-loop
-μ-loop input board₀ work₀ out₀ s₀ i₀ board work out s i = length input - i
+μ-loop input board₀ work₀ out₀ s₀ at₀ board work out s at = length input - at
 
 loop-holds : tie.Need-loop-holds Inv-loop μ-loop
 loop-holds c = search needs
 
-shared-slice-read-replay-byte : tie.Need-shared-slice-read-replay-byte Inv-loop μ-loop
-shared-slice-read-replay-byte c = search needs
+sub-replay-piece : tie.Need-sub-replay-piece Inv-loop μ-loop
+sub-replay-piece c = search needs
 
-replay-byte-requires : tie.Need-replay-byte-requires Inv-loop μ-loop
-replay-byte-requires c κs = search needs
+part-replay-piece-start : tie.Need-part-replay-piece-start Inv-loop μ-loop
+part-replay-piece-start c = search needs
 
-add-i : tie.Need-add-i Inv-loop μ-loop
-add-i c = omega (arith, c .before .before .before .before .before .before .before .before .before .before .before, c .before .before .before .before .before .before .before .before .before .before .before .before .before .before .before .before .before)
+part-replay-piece-end : tie.Need-part-replay-piece-end Inv-loop μ-loop
+part-replay-piece-end c = search needs
+
+replay-piece-requires : tie.Need-replay-piece-requires Inv-loop μ-loop
+replay-piece-requires c κs = search needs
+
+add-at : tie.Need-add-at Inv-loop μ-loop
+add-at c =
+    let called = c .before .before .before .before .before .before .before .before in
+    let turn = called .before .before .before .before .before in
+    omega (arith, called, turn, turn .before .before .before .before .before .before .good)
 
 loop-less : tie.Need-loop-less Inv-loop μ-loop
 loop-less c = search needs
@@ -51,9 +60,11 @@ replay-bytes-spec =
     Inv-loop
     μ-loop
     loop-holds
-    shared-slice-read-replay-byte
-    replay-byte-requires
-    add-i
+    sub-replay-piece
+    part-replay-piece-start
+    part-replay-piece-end
+    replay-piece-requires
+    add-at
     loop-less
     loop-again
     same-length

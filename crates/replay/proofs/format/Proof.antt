@@ -9,8 +9,8 @@ refused-requires c κs = search needs
 returns : tie.Need-returns
 returns c = search (format-again)
 
-is-good-sizes-requires : tie.Need-is-good-sizes-requires
-is-good-sizes-requires c κs = search needs
+is-bench-sized-requires : tie.Need-is-bench-sized-requires
+is-bench-sized-requires c κs = search needs
 
 refused-requires-2 : tie.Need-refused-requires-2
 refused-requires-2 c κs = search needs
@@ -36,7 +36,7 @@ format-spec =
     (tie.spec
     refused-requires
     returns
-    is-good-sizes-requires
+    is-bench-sized-requires
     refused-requires-2
     returns-2
     start-requires

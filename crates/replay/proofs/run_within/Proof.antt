@@ -1,5 +1,5 @@
-use borrow.Author.Needs.{needs}
 use Rattle.replay.specs.Laws.{ran-within}
+use borrow.Author.Needs.{needs}
 use Rattle.replay.proofs.run_within.Statement.{statement}
 use Rattle.replay.proofs.run_within.Tie as tie
 
@@ -23,9 +23,6 @@ part-run-end-2 c = search needs
 
 run-requires : tie.Need-run-requires
 run-requires c κs = search needs
-
-letter-of-requires : tie.Need-letter-of-requires
-letter-of-requires c κs = search needs
 
 slice-read-line-of : tie.Need-slice-read-line-of
 slice-read-line-of c = search needs
@@ -56,7 +53,6 @@ run-within-spec =
     part-run-start-2
     part-run-end-2
     run-requires
-    letter-of-requires
     slice-read-line-of
     line-of-requires
     answered-requires

@@ -1,19 +1,13 @@
-use borrow.Author.Needs.{needs}
 use Rattle.replay.specs.Laws.{start-done}
+use borrow.Author.Needs.{needs}
 use Rattle.replay.proofs.start.Statement.{statement}
 use Rattle.replay.proofs.start.Tie as tie
 
-lines-at-requires : tie.Need-lines-at-requires
-lines-at-requires c κs = search needs
+board-words-requires : tie.Need-board-words-requires
+board-words-requires c κs = search needs
 
-add-words : tie.Need-add-words
-add-words c = search needs
-
-mul-work-words : tie.Need-mul-work-words
-mul-work-words c = search needs
-
-add-work-words : tie.Need-add-work-words
-add-work-words c = search needs
+work-words-requires : tie.Need-work-words-requires
+work-words-requires c κs = search needs
 
 sub-wake : tie.Need-sub-wake
 sub-wake c = search needs
@@ -58,10 +52,8 @@ pub start-spec : {M : Type 1} → statement M
 start-spec =
     tie.close
     (tie.spec
-    lines-at-requires
-    add-words
-    mul-work-words
-    add-work-words
+    board-words-requires
+    work-words-requires
     sub-wake
     part-wake-start
     part-wake-end

@@ -3,8 +3,8 @@ use Rattle.replay.specs.Laws.{reply-last, reply-said}
 use Rattle.replay.proofs.start_reply.Statement.{statement}
 use Rattle.replay.proofs.start_reply.Tie as tie
 
-number-requires : tie.Need-number-requires
-number-requires c κs = search needs
+is-ok-requires : tie.Need-is-ok-requires
+is-ok-requires c κs = search needs
 
 returns : tie.Need-returns
 returns c = search (reply-last)
@@ -13,4 +13,4 @@ returns-2 : tie.Need-returns-2
 returns-2 c = search (reply-said)
 
 pub start-reply-spec : {M : Type 1} → statement M
-start-reply-spec = tie.close (tie.spec number-requires returns returns-2)
+start-reply-spec = tie.close (tie.spec is-ok-requires returns returns-2)

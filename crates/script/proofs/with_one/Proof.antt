@@ -17,8 +17,8 @@ returns-3 : tie.Need-returns-3
 unfolding commandWith
 returns-3 c = search tests
 
-cast-t4 : tie.Need-cast-t4
-cast-t4 c = search needs
+cast-t6 : tie.Need-cast-t6
+cast-t6 c = search needs
 
 returns-4 : tie.Need-returns-4
 unfolding commandWith
@@ -29,4 +29,4 @@ unfolding commandWith
 returns-5 c = search tests
 
 pub with-one-spec : {M : Type 1} → statement M
-with-one-spec = tie.close (tie.spec returns returns-2 returns-3 cast-t4 returns-4 returns-5)
+with-one-spec = tie.close (tie.spec returns returns-2 returns-3 cast-t6 returns-4 returns-5)

@@ -1,4 +1,4 @@
-use Rattle.steps.proofs.Marking.{entry-clean, entry-dirty}
+use Rattle.steps.proofs.StoringHeld.{entry-clean, entry-dirty}
 use Rattle.steps.proofs.entry_for.Statement.{statement}
 use Rattle.steps.proofs.entry_for.Tie as tie
 

@@ -6,8 +6,8 @@ use Rattle.steps.proofs.load.Tie as tie
 returns : tie.Need-returns
 returns c = search (load-held)
 
-leave-requires : tie.Need-leave-requires
-leave-requires c κs = search needs
+write-back-requires : tie.Need-write-back-requires
+write-back-requires c κs = search needs
 
 fill-requires : tie.Need-fill-requires
 fill-requires c κs = search needs
@@ -23,4 +23,4 @@ returns-2 c = search (load-brought)
 
 pub load-spec : {M : Type 1} → statement M
 load-spec =
-    tie.close (tie.spec returns leave-requires fill-requires same-length same-length-2 returns-2)
+    tie.close (tie.spec returns write-back-requires fill-requires same-length same-length-2 returns-2)

@@ -1,4 +1,4 @@
-use Rattle.steps.proofs.Marking.{log-ready, log-stored}
+use Rattle.steps.proofs.StoringHeld.{log-ready, log-stored}
 use borrow.Author.Needs.{needs}
 use Rattle.steps.proofs.log_store.Statement.{statement}
 use Rattle.steps.proofs.log_store.Tie as tie
@@ -18,8 +18,8 @@ slice-read-old c = search needs
 entry-for-requires : tie.Need-entry-for-requires
 entry-for-requires c κs = search needs
 
-log-requires : tie.Need-log-requires
-log-requires c κs = search (log-ready)
+push-entry-requires : tie.Need-push-entry-requires
+push-entry-requires c κs = search (log-ready)
 
 mul-set-pair : tie.Need-mul-set-pair
 mul-set-pair c = search needs
@@ -45,7 +45,7 @@ log-store-spec =
     mul-old-2
     slice-read-old
     entry-for-requires
-    log-requires
+    push-entry-requires
     mul-set-pair
     dirty-word-requires
     set-pair-requires

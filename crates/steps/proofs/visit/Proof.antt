@@ -1,4 +1,4 @@
-use Rattle.steps.proofs.Calls.{sweep-address, visit-clean, visit-other, visit-target}
+use Rattle.steps.proofs.Calls.{clean-address, visit-clean, visit-other, visit-target}
 use borrow.Author.Needs.{needs}
 use Rattle.steps.proofs.visit.Statement.{statement}
 use Rattle.steps.proofs.visit.Tie as tie
@@ -18,8 +18,8 @@ same-length-2 c = search needs
 returns-2 : tie.Need-returns-2
 returns-2 c = search (visit-other)
 
-sweep-requires : tie.Need-sweep-requires
-sweep-requires c κs = search (needs, sweep-address)
+clean-requires : tie.Need-clean-requires
+clean-requires c κs = search (needs, clean-address)
 
 same-length-3 : tie.Need-same-length-3
 same-length-3 c = search needs
@@ -39,7 +39,7 @@ visit-spec =
     returns
     same-length-2
     returns-2
-    sweep-requires
+    clean-requires
     same-length-3
     same-length-4
     returns-3)

@@ -18,6 +18,9 @@ wrapping-add-u64-requires c κs = search needs
 is-end-requires : tie.Need-is-end-requires
 is-end-requires c κs = search needs
 
+letter-requires : tie.Need-letter-requires
+letter-requires c κs = search needs
+
 put-reply-requires : tie.Need-put-reply-requires
 put-reply-requires c κs = search needs
 
@@ -42,6 +45,7 @@ end-line-spec =
     new-requires
     wrapping-add-u64-requires
     is-end-requires
+    letter-requires
     put-reply-requires
     same-length
     same-length-2

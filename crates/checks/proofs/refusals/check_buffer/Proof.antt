@@ -3,8 +3,8 @@ use borrow.Author.Needs.{needs}
 use Rattle.checks.proofs.refusals.check_buffer.Statement.{statement}
 use Rattle.checks.proofs.refusals.check_buffer.Tie as tie
 
-sub-at : tie.Need-sub-at
-sub-at c = search needs
+buffer-at-requires : tie.Need-buffer-at-requires
+buffer-at-requires c κs = search needs
 
 mul-is-buffer-proper : tie.Need-mul-is-buffer-proper
 mul-is-buffer-proper c = search needs
@@ -31,7 +31,7 @@ pub check-buffer-spec : {M : Type 1} → statement M
 check-buffer-spec =
     tie.close
     (tie.spec
-    sub-at
+    buffer-at-requires
     mul-is-buffer-proper
     sub-is-buffer-proper
     part-is-buffer-proper-start

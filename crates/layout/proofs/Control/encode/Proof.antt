@@ -1,5 +1,4 @@
-use Rattle.layout.specs.Fields.{width, pack}
-use Rattle.layout.specs.Words.{encodeControl}
+use Rattle.layout.specs.Fields.{width, pack, encode}
 use borrow.Author.Needs.{needs}
 use Rattle.layout.proofs.Control.encode.Statement.{statement}
 use Rattle.layout.proofs.Control.encode.Tie as tie
@@ -17,7 +16,7 @@ add-result-2 : tie.Need-add-result-2
 add-result-2 c = search needs
 
 returns : tie.Need-returns
-unfolding encodeControl pack width
+unfolding encode pack width
 returns c = search needs
 
 pub encode-spec : {M : Type 1} → statement M

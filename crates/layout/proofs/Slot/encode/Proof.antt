@@ -1,5 +1,4 @@
-use Rattle.layout.specs.Fields.{width, pack}
-use Rattle.layout.specs.Words.{encodeSlot}
+use Rattle.layout.specs.Fields.{width, pack, encode}
 use borrow.Author.Needs.{needs}
 use Rattle.layout.proofs.Slot.encode.Statement.{statement}
 use Rattle.layout.proofs.Slot.encode.Tie as tie
@@ -35,7 +34,7 @@ add-result-4 : tie.Need-add-result-4
 add-result-4 c = search needs
 
 returns : tie.Need-returns
-unfolding encodeSlot pack width
+unfolding encode pack width
 returns c = search needs
 
 pub encode-spec : {M : Type 1} → statement M

@@ -1,4 +1,4 @@
-use Rattle.checks.specs.Stages.{memories-passed, commit-first, memories-refused}
+use Rattle.checks.specs.Stages.{memories-fits, memories-refused, registers-passed, registers-refused, commit-first}
 use Rattle.picl.specs.Calls.{commitVerdict}
 use Rattle.picl.proofs.Calling.{judged-refused}
 use borrow.Author.Needs.{needs}
@@ -8,33 +8,54 @@ use Rattle.picl.proofs.epochs.commit.Tie as tie
 check-memories-requires : tie.Need-check-memories-requires
 check-memories-requires c κs = search needs
 
-enum-known-checked : tie.Need-enum-known-checked
-enum-known-checked c = search needs
+enum-known-memories : tie.Need-enum-known-memories
+enum-known-memories c = search needs
 
 refusal-requires : tie.Need-refusal-requires
 refusal-requires c κs = search needs
 
-enum-known-checked-2 : tie.Need-enum-known-checked-2
-enum-known-checked-2 c = search needs
+enum-known-memories-2 : tie.Need-enum-known-memories-2
+enum-known-memories-2 c = search needs
 
-commit-shaped-requires : tie.Need-commit-shaped-requires
-commit-shaped-requires c κs = search (memories-passed)
+check-registers-requires : tie.Need-check-registers-requires
+check-registers-requires c κs = search (memories-fits)
+
+enum-known-running : tie.Need-enum-known-running
+enum-known-running c = search needs
+
+refusal-requires-2 : tie.Need-refusal-requires-2
+refusal-requires-2 c κs = search needs
+
+enum-told : tie.Need-enum-told
+enum-told c = search needs
+
+commit-running-requires : tie.Need-commit-running-requires
+commit-running-requires c κs = search (registers-passed)
 
 returns : tie.Need-returns
 unfolding commitVerdict
 returns c = search (judged-refused, commit-first, memories-refused)
 
 returns-2 : tie.Need-returns-2
-returns-2 c = search needs
+unfolding commitVerdict
+returns-2 c = search (judged-refused, commit-first, registers-refused)
+
+returns-3 : tie.Need-returns-3
+returns-3 c = search needs
 
 pub commit-spec : {M : Type 1} → statement M
 commit-spec =
     tie.close
     (tie.spec
     check-memories-requires
-    enum-known-checked
+    enum-known-memories
     refusal-requires
-    enum-known-checked-2
-    commit-shaped-requires
+    enum-known-memories-2
+    check-registers-requires
+    enum-known-running
+    refusal-requires-2
+    enum-told
+    commit-running-requires
     returns
-    returns-2)
+    returns-2
+    returns-3)

@@ -1,5 +1,3 @@
-use Rattle.status.specs.declared.Status.the-variants as status
-use Rattle.picl.specs.Answers.{refusal}
 use borrow.Author.Needs.{needs}
 use Rattle.picl.proofs.epochs.commit_passed.Statement.{statement}
 use Rattle.picl.proofs.epochs.commit_passed.Tie as tie
@@ -7,11 +5,8 @@ use Rattle.picl.proofs.epochs.commit_passed.Tie as tie
 committed-requires : tie.Need-committed-requires
 committed-requires c κs = search needs
 
-refusal-requires : tie.Need-refusal-requires
-refusal-requires c κs = search needs
-
 returns : tie.Need-returns
-returns c = cc (c .refusal .ensures, c .before .committed .ensures)
+returns c = cc (c .committed .ensures)
 
 pub commit-passed-spec : {M : Type 1} → statement M
-commit-passed-spec = tie.close (tie.spec committed-requires refusal-requires returns)
+commit-passed-spec = tie.close (tie.spec committed-requires returns)

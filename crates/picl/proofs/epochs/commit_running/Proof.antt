@@ -1,6 +1,6 @@
 use Rattle.checks.specs.Stages.{running-ready, commit-refused}
 use Rattle.picl.specs.Calls.{commitVerdict}
-use Rattle.picl.proofs.Calling.{commit-within, judged-refused, commit-answered}
+use Rattle.picl.proofs.Calling.{judged-refused, commit-within, commit-answered}
 use borrow.Author.Needs.{needs}
 use Rattle.picl.proofs.epochs.commit_running.Statement.{statement}
 use Rattle.picl.proofs.epochs.commit_running.Tie as tie

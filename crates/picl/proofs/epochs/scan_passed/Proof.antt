@@ -7,8 +7,8 @@ use Rattle.picl.proofs.epochs.scan_passed.Tie as tie
 undo-requires : tie.Need-undo-requires
 undo-requires c κs = search needs
 
-add-target : tie.Need-add-target
-add-target c = search needs
+scan-target-requires : tie.Need-scan-target-requires
+scan-target-requires c κs = search needs
 
 stepped-requires : tie.Need-stepped-requires
 stepped-requires c κs = search needs
@@ -45,7 +45,7 @@ scan-passed-spec =
     tie.close
     (tie.spec
     undo-requires
-    add-target
+    scan-target-requires
     stepped-requires
     visit-at-requires
     same-length

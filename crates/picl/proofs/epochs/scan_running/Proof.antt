@@ -1,6 +1,6 @@
-use Rattle.checks.specs.Stages.{running-ready, scan-passed, scan-refused}
+use Rattle.checks.specs.Stages.{running-ready, scan-refused, scan-passed}
 use Rattle.picl.specs.Calls.{scanVerdict}
-use Rattle.picl.proofs.Calling.{scan-told, judged-refused, judged-passed}
+use Rattle.picl.proofs.Calling.{judged-refused, judged-passed, scan-told}
 use borrow.Author.Needs.{needs}
 use Rattle.picl.proofs.epochs.scan_running.Statement.{statement}
 use Rattle.picl.proofs.epochs.scan_running.Tie as tie

@@ -13,8 +13,8 @@ evict-requires c κs = search needs
 bit-requires : tie.Need-bit-requires
 bit-requires c κs = search needs
 
-buffering-requires : tie.Need-buffering-requires
-buffering-requires c κs = search needs
+leaving-requires : tie.Need-leaving-requires
+leaving-requires c κs = search needs
 
 finish-requires : tie.Need-finish-requires
 finish-requires c κs = search (acts-within)
@@ -35,7 +35,7 @@ evict-at-spec =
     new-requires
     evict-requires
     bit-requires
-    buffering-requires
+    leaving-requires
     finish-requires
     same-length
     same-length-2

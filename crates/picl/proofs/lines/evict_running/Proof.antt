@@ -1,6 +1,6 @@
-use Rattle.checks.specs.Stages.{running-ready, line-passed, line-refused}
+use Rattle.checks.specs.Stages.{running-ready, line-refused, line-passed}
 use Rattle.picl.specs.Calls.{evictVerdict}
-use Rattle.picl.proofs.Calling.{line-told, judged-refused, judged-passed}
+use Rattle.picl.proofs.Calling.{judged-refused, judged-passed, line-told}
 use borrow.Author.Needs.{needs}
 use Rattle.picl.proofs.lines.evict_running.Statement.{statement}
 use Rattle.picl.proofs.lines.evict_running.Tie as tie

@@ -22,8 +22,8 @@ mul-value c = search needs
 slice-read-value : tie.Need-slice-read-value
 slice-read-value c = search needs
 
-buffering-requires : tie.Need-buffering-requires
-buffering-requires c κs = search needs
+leaving-requires : tie.Need-leaving-requires
+leaving-requires c κs = search needs
 
 finish-requires : tie.Need-finish-requires
 finish-requires c κs = search (carries-within)
@@ -47,7 +47,7 @@ load-at-spec =
     load-requires
     mul-value
     slice-read-value
-    buffering-requires
+    leaving-requires
     finish-requires
     same-length
     same-length-2

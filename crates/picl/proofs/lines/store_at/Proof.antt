@@ -10,8 +10,8 @@ new-requires c κs = search needs
 store-requires : tie.Need-store-requires
 store-requires c κs = search needs
 
-buffering-requires : tie.Need-buffering-requires
-buffering-requires c κs = search needs
+leaving-requires : tie.Need-leaving-requires
+leaving-requires c κs = search needs
 
 finish-requires : tie.Need-finish-requires
 finish-requires c κs = search (carries-within)
@@ -31,7 +31,7 @@ store-at-spec =
     (tie.spec
     new-requires
     store-requires
-    buffering-requires
+    leaving-requires
     finish-requires
     same-length
     same-length-2

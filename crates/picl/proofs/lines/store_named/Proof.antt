@@ -1,4 +1,4 @@
-use Rattle.checks.specs.Stages.{line-ready, room-passed, room-refused}
+use Rattle.checks.specs.Stages.{line-ready, room-refused, room-passed}
 use Rattle.checks.specs.Laws.{line-named}
 use Rattle.picl.specs.Calls.{storeVerdict}
 use Rattle.picl.proofs.Calling.{store-told, judged-refused, judged-passed}
@@ -7,7 +7,7 @@ use Rattle.picl.proofs.lines.store_named.Statement.{statement}
 use Rattle.picl.proofs.lines.store_named.Tie as tie
 
 check-room-requires : tie.Need-check-room-requires
-check-room-requires c κs = search (line-ready, line-named)
+check-room-requires c κs = (search (line-ready), search (line-named))
 
 enum-known-checked : tie.Need-enum-known-checked
 enum-known-checked c = search needs

@@ -1,4 +1,4 @@
-use Rattle.checks.specs.Stages.{running-ready, line-passed, store-first, line-refused}
+use Rattle.checks.specs.Stages.{running-ready, line-refused, line-passed, store-first}
 use Rattle.picl.specs.Calls.{storeVerdict}
 use Rattle.picl.proofs.Calling.{judged-refused}
 use borrow.Author.Needs.{needs}

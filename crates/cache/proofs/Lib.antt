@@ -1,2 +1,0 @@
-pub mod Finding
-pub mod Moving

@@ -1,4 +1,0 @@
-pub mod Slots
-pub mod Effects
-pub mod Contracts
-pub mod Laws

@@ -1,0 +1,108 @@
+-- The premises of demand 3 can be met: one list of calls, computed. Document 01's listing (line 0 is stored 7 in epoch 1 and 9 in epoch 2,
+-- and S + 1 scan calls persist epoch 1); then 9 is written in place, the current goes in mid-flush, and power-up restores 7.
+use Prim.Native.Nat.{ℕ, _+_}
+use mathlib.Core.Path.{_≡_, refl}
+use mathlib.Core.List.{List, [], _∷_}
+use native.Mathlib.Omega.{arith}
+use lib.ListN.{length, getD, replicate}
+use Rattle.base.specs.Cases.{update}
+use Rattle.base.specs.Walk.{firstFrom}
+use Rattle.board.specs.Stores.{applied, each, shifted}
+use Rattle.board.specs.Verdict.{boardAfter, workAfter}
+use Rattle.layout.specs.Fields.{width, pack, unpack, encode, decode}
+use Rattle.layout.specs.Memory.{logAt, workWords, slotsOf, formatted, withBuffer, controlIn}
+use Rattle.layout.specs.Words.{encodeEntry}
+use Rattle.status.specs.declared.Status.the-variants as status
+use Rattle.undo.specs.Entries.{covers, properEntry, properBuffered}
+use Rattle.undo.specs.Log.{placeOf, entryIn, oldIn, olderTill, properAt, firstImproper, bufferedIn, bufferedProper, bufferProper}
+use Rattle.undo.specs.Log.{elsewhere, buffers, pushed, entryStores, flushed, flushStores, flushedBuffer, expired, dropped, advanceStores}
+use Rattle.undo.specs.Log.{restoreStores, restoreTurn, recoverStores}
+use Rattle.slots.specs.Slots as slots
+use Rattle.steps.specs.Effects as steps
+use Rattle.checks.specs.View.{viewOf, goodSizes, goodControl, goodShape, goodWork, properEpoch, properCounts, properRegisters, goodBuffer}
+use Rattle.checks.specs.Refusals.{boardChecked, memoriesChecked, runningChecked, lineChecked, storeChecked, commitChecked, scanChecked}
+use Rattle.picl.specs.Answers.{answerOf}
+use Rattle.picl.specs.Calls as calls
+use Rattle.reference.specs.Machine.{upTo}
+use Rattle.crash.specs.Statement.{Step, call, powerUp, made, Both, run, lineOn, start, Stretch, scans}
+
+-- "n 4 8 2", with allowances as large as a call can need
+abbrev entries : ℕ
+entries = 8
+
+abbrev blank : List ℕ
+blank = replicate (workWords 2) 0
+
+abbrev many : ℕ
+many = 66
+
+abbrev pub worked : List Step
+worked =
+    powerUp blank many
+    ∷ call (calls.store 0 7) many
+    ∷ call calls.commit many
+    ∷ call (calls.store 0 9) many
+    ∷ call calls.commit many
+    ∷ []
+
+abbrev pub pass : List Step
+pass = call calls.scan many ∷ call calls.scan many ∷ call calls.scan many ∷ []
+
+-- line 0 leaves the cache; line 1 is stored to, and its eviction is cut behind the first of four stores
+abbrev pub cutOff : List Step
+cutOff = call (calls.evict 0) many ∷ call (calls.store 1 5) many ∷ call (calls.evict 1) 1 ∷ []
+
+abbrev pub begun : Both
+begun = run (start entries (formatted 4 entries)) worked
+
+abbrev pub scanned : Both
+scanned = run begun pass
+
+abbrev pub cut : Both
+cut = run scanned cutOff
+
+pub record Met : Type 0 where
+  -- the premises of `Persists`
+  pub stretch : Stretch begun pass
+  pub all-accepted : slotsOf (length (begun .machine .work)) + 1 ≡ scans begun pass
+  pub persisted : (begun .reference .persisted ≡ 0) × (scanned .reference .persisted ≡ 1)
+  -- the cut came in mid-flush: the entry's first word is on the board, and the control word does not count it yet
+  pub off : cut .machine .registers .epoch ≡ 0
+  pub entry-word : getD (cut .machine .board) (logAt + 4) 0 ≡ encodeEntry (record { address = 1; from = 1; till = 3 })
+  pub uncounted : controlIn (cut .machine .board) .length ≡ 1
+  -- the premise of `wakes-to-copy`, and a line that is restored
+  pub in-place : lineOn entries (cut .machine .board) 0 ≡ 9
+  pub accepted : made (cut .machine) (powerUp blank many) .status ≡ status.Ok
+  pub restored : lineOn entries (made (cut .machine) (powerUp blank many) .left .board) 0 ≡ 7
+  pub copy : cut .reference .copies 1 0 ≡ 7
+
+differ : _≡_ {A = ℕ} 0 1 → ⊥
+differ e = omega arith
+
+pub met : Met
+unfolding update firstFrom applied each shifted boardAfter workAfter width pack unpack formatted withBuffer
+    encode decode
+    covers properEntry properBuffered placeOf entryIn oldIn olderTill properAt firstImproper bufferedIn bufferedProper bufferProper
+    elsewhere buffers pushed entryStores flushed flushStores flushedBuffer expired dropped advanceStores restoreStores restoreTurn recoverStores
+    slots.homeOf slots.properTag slots.properFull slots.properSlot slots.properAt slots.properFor slots.holds slots.spotOf slots.zeroed
+    slots.filled slots.dirtied slots.cleaned slots.entryDue slots.undoDue
+    steps.flushingIf steps.writingOut steps.writingBack steps.emptying steps.lineIn steps.bringing steps.entryFor steps.logged
+    steps.storingHeld steps.loading steps.storing steps.evicting steps.cleaning steps.visiting steps.persisting
+    viewOf goodSizes goodControl goodShape goodWork properEpoch properCounts properRegisters goodBuffer
+    boardChecked memoriesChecked runningChecked lineChecked storeChecked commitChecked scanChecked answerOf
+    calls.storeAt calls.storeOutcome calls.storeVerdict calls.evictAt calls.evictOutcome calls.evictVerdict calls.commitOutcome
+    calls.commitVerdict calls.scanOutcome calls.scanVerdict calls.wakeAt calls.wakeVerdict calls.powerUpVerdict
+    upTo made run scans
+met =
+    record {
+      stretch = (λ e. differ cc, (λ e. differ cc, (λ e. differ cc, tt)));
+      all-accepted = refl;
+      persisted = (refl, refl);
+      off = refl;
+      entry-word = refl;
+      uncounted = refl;
+      in-place = refl;
+      accepted = refl;
+      restored = refl;
+      copy = refl;
+    }

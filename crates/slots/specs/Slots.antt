@@ -1,0 +1,79 @@
+-- The slots of the write-back cache: which are proper, where an address belongs, and what a slot's two words become.
+use Prim.Native.Nat.{ℕ, _%_, _<_}
+use mathlib.Core.Path.{_≡_}
+use mathlib.Core.Bool.{Bool, true, false, cond, _&&_, _||_, not}
+use mathlib.Core.List.{List}
+use lib.Dec.{ltb, leb, eqb}
+use lib.ListN.{getD, set}
+use Rattle.base.specs.Parts.{setPair}
+use Rattle.layout.specs.declared.Slot.{Slot}
+use Rattle.slots.specs.declared.Bounds.{Bounds}
+use Rattle.slots.specs.declared.Spot.{Spot}
+use Rattle.layout.specs.Memory.{slotIn, slotAt}
+use Rattle.layout.specs.Words.{encodeSlot, decodeSlot}
+
+-- "Address a belongs in slot a mod S."
+unfoldable pub homeOf : (slots address : ℕ) → ℕ
+homeOf slots address = address % slots
+
+pub record IsHome (slots address r : ℕ) : Type 0 where
+  pub is : r ≡ homeOf slots address
+  pub below : r < slots
+
+-- "either clean with tag 0 or dirty with P < tag ≤ s"
+unfoldable pub properTag : Bounds → Slot → Bool
+properTag b s = cond (s .dirty) (ltb (b .persisted) (s .tag) && leb (s .tag) (b .epoch)) (eqb (s .tag) 0)
+
+-- "A proper slot word is zero, or is valid with the 22 bits zero, address < N, address mod S its slot, and .."
+unfoldable pub properFull : Bounds → (k : ℕ) → Slot → Bool
+properFull b k s =
+    s .valid && eqb (s .spare) 0 && ltb (s .address) (b .lines) && eqb (homeOf (b .slots) (s .address)) k && properTag b s
+
+unfoldable pub properSlot : Bounds → (k word : ℕ) → Bool
+properSlot b k word = eqb word 0 || properFull b k (decodeSlot word)
+
+-- "6 slot: the slot visited is not proper: slot a mod S, or slot c if c < S"
+unfoldable pub properAt : Bounds → List ℕ → (k : ℕ) → Bool
+properAt b work k = properSlot b k (getD work (slotAt k) 0)
+
+unfoldable pub properFor : Bounds → List ℕ → (address : ℕ) → Bool
+properFor b work address = properAt b work (homeOf (b .slots) address)
+
+-- slot k holds the line at an address
+unfoldable pub holds : List ℕ → (k address : ℕ) → Bool
+holds work k address = slotIn work k .valid && eqb (slotIn work k .address) address
+
+-- the slot that an address takes, and whether it is held there
+unfoldable pub spotOf : List ℕ → (slots address : ℕ) → Spot
+spotOf work slots address = record { slot = homeOf slots address; held = holds work (homeOf slots address) address }
+
+-- a slot that holds a line as memory has it, and one whose line was stored to in an epoch
+abbrev pub cleanSlot : ℕ → Slot
+cleanSlot address = record { valid = true; dirty = false; address = address; tag = 0; spare = 0 }
+
+abbrev pub dirtySlot : (address epoch : ℕ) → Slot
+dirtySlot address epoch = record { valid = true; dirty = true; address = address; tag = epoch; spare = 0 }
+
+-- "zeroes both slot words"
+unfoldable pub zeroed : List ℕ → ℕ → List ℕ
+zeroed work k = setPair work (slotAt k) 0 0
+
+-- "filled clean from memory"
+unfoldable pub filled : List ℕ → (k address line : ℕ) → List ℕ
+filled work k address line = setPair work (slotAt k) (encodeSlot (cleanSlot address)) line
+
+-- "The line is then dirty with tag s."
+unfoldable pub dirtied : List ℕ → (k address epoch value : ℕ) → List ℕ
+dirtied work k address epoch value = setPair work (slotAt k) (encodeSlot (dirtySlot address epoch)) value
+
+-- "becomes clean, tag 0"
+unfoldable pub cleaned : List ℕ → (k address : ℕ) → List ℕ
+cleaned work k address = set work (slotAt k) (encodeSlot (cleanSlot address))
+
+-- a store owes an undo entry, but "tag s makes none"
+unfoldable pub entryDue : (epoch : ℕ) → Slot → Bool
+entryDue epoch s = not (s .dirty && eqb (s .tag) epoch)
+
+-- "an undo entry is due": the line is brought clean, or held and due
+unfoldable pub undoDue : List ℕ → Spot → (epoch : ℕ) → Bool
+undoDue work spot epoch = not (spot .held) || entryDue epoch (slotIn work (spot .slot))

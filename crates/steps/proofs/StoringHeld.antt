@@ -1,0 +1,94 @@
+-- Making a held line dirty: the undo entry of a store, and where it goes.
+use Prim.Native.Nat.{ℕ, _+_, _-_, _*_, _^_, _<_}
+use mathlib.Core.Path.{_≡_, refl, sym, _∙_}
+use mathlib.Core.Bool.{Bool, true, false, not, cond}
+use mathlib.Core.List.{List, _++_}
+use native.Mathlib.Omega.{arith}
+use borrow.Author.Tests.{not-true, not-false}
+use lib.Dec.{eqb}
+use lib.ListN.{length, take, drop}
+use Rattle.base.specs.Parts.{setPair, rest-lent, rest-back}
+use Rattle.board.specs.declared.Meter.{Meter}
+use Rattle.board.specs.Laws.{ran-none}
+use Rattle.layout.specs.declared.Entry.{Entry}
+use Rattle.layout.specs.declared.Slot.{Slot}
+use Rattle.layout.specs.Limits.{epochBits, bufferPlaces}
+use Rattle.layout.specs.Memory.{bufferAt, slotIn, dataIn}
+use Rattle.layout.specs.Words.{Decoded, SlotFits, encodeSlot}
+use Rattle.undo.specs.declared.LogState.{LogState}
+use Rattle.undo.specs.declared.Progress.{Progress}
+use Rattle.undo.specs.Contracts.{Pushes}
+use Rattle.undo.specs.Laws.{sound-counted}
+use Rattle.slots.specs.Slots.{dirtySlot, dirtied}
+use Rattle.layout.specs.Memory.{withBuffer}
+use Rattle.steps.specs.Effects.{flushingIf, entryFor, logged, storingHeld}
+use Rattle.slots.specs.Slots.{entryDue}
+use Rattle.steps.specs.Contracts.{Acts, Logs, LogReady, LogsStore, LogStoreReady, Ready, StoreHeldReady}
+
+-- the undo entry of a store
+module _ (s : Slot) (epoch : ℕ) where
+  module _ (persisted address : ℕ) where
+    pub entry-clean : not (s .dirty) ≡ true → record { address = address; from = persisted; till = epoch } ≡ entryFor persisted epoch address s
+    unfolding entryFor
+    entry-clean h = rw (not-true (s .dirty) h)
+
+    pub entry-dirty : not (s .dirty) ≡ false → record { address = address; from = s .tag; till = epoch } ≡ entryFor persisted epoch address s
+    unfolding entryFor
+    entry-dirty h = rw (not-false (s .dirty) h)
+
+pub log-done : (work : List ℕ) (u : LogState) (e : Entry) (old at : ℕ) (buffer′ : List ℕ) (r : LogState) → at ≡ bufferAt (length work)
+    → Pushes (take (length work - at) (drop at work)) u e old buffer′ r
+    → Logs work u e old
+    (take at work
+    ++ (buffer′ ++ drop (length work - at) (drop at work)))
+    r
+unfolding logged withBuffer
+log-done work u e old at buffer′ r here x =
+    record { undo = x .undo; memory = rw (rest-back at work buffer′, x .memory, rest-lent at work, here) }
+
+-- the entry and the line together
+module _ (work : List ℕ) (u : LogState) (k : ℕ) (s : Slot) (address epoch : ℕ) (e : Entry) (entry : e ≡ entryFor (u .control .persisted) epoch address s) where
+  pub log-ready : LogStoreReady work u k s address epoch → LogReady work u e
+  unfolding entryFor
+  log-ready ready =
+      rw entry record {
+        fits = record { address = ready .address-fits; from = earlier (s .dirty); till = ready .epoch-fits };
+        place = ready .place;
+        work-words = omega (arith, ready .within);
+      }
+    where
+      earlier : (d : Bool) → cond d (s .tag) (u .control .persisted) < 2 ^ epochBits
+      earlier true = ready .tag
+      earlier false = ready .persisted
+
+  pub log-stored : (value word : ℕ) (work′ work″ : List ℕ) (r : LogState) → Logs work u e (dataIn work k) work′ r
+      → word ≡ encodeSlot (dirtySlot address epoch) → work″ ≡ setPair work′ (2 * k) word value
+      → LogsStore work u k s address epoch value work″ r
+  unfolding dirtied
+  log-stored value word work′ work″ r x w y = record { undo = x .undo; memory = rw (← entry, ← x .memory, ← w) y }
+
+-- a store to the line that slot k holds
+module _ (board work : List ℕ) (u : LogState) (k address epoch value : ℕ) (m : Meter) (s : Slot) (read : Decoded SlotFits (slotIn work k) s)
+    (t : Bool) (test : t ≡ entryDue epoch s) where
+  due : t ≡ entryDue epoch (slotIn work k)
+  due = rw (← read .is) test
+
+  pub held-again : (word : ℕ) (work′ : List ℕ) → not t ≡ true → word ≡ encodeSlot (dirtySlot address epoch)
+      → work′ ≡ setPair work (2 * k) word value
+      → Acts board m (storingHeld u work k address epoch value) board work′ (record { undo = u; meter = m })
+  unfolding storingHeld dirtied
+  held-again word work′ h w x = rw (← due, not-true t h, ← w) record { ran = ran-none board m; undo = refl; memory = x }
+
+  module _ (work′ : List ℕ) (u′ : LogState) (made : not t ≡ false) (log : LogsStore work u k s address epoch value work′ u′) where
+    pub held-flush-ready : StoreHeldReady board work u k address epoch → length work′ ≡ length work → Ready board work′ u′
+    held-flush-ready ready l =
+        rw (log .undo) record {
+          sound = sound-counted u (ready .ready .sound) (ready .place) (ready .room (sym due ∙ not-false t made));
+          board-words = ready .ready .board-words;
+          work-words = rw l (ready .ready .work-words);
+        }
+
+    pub held-logged : (board′ work″ : List ℕ) (r : Progress) → Acts board m (flushingIf (eqb (u′ .buffered) bufferPlaces) u′ work′) board′ work″ r
+        → Acts board m (storingHeld u work k address epoch value) board′ work″ r
+    unfolding storingHeld
+    held-logged board′ work″ r y = rw (← due, not-false t made, ← read .is, ← log .memory) (rw (log .undo) at y)
