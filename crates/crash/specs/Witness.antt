@@ -1,6 +1,6 @@
 -- The premises of demand 3 can be met: one list of calls, computed. Document 01's listing (line 0 is stored 7 in epoch 1 and 9 in epoch 2,
 -- and S + 1 scan calls persist epoch 1); then 9 is written in place, the current goes in mid-flush, and power-up restores 7.
-use Prim.Native.Nat.{ℕ, _+_}
+use Prim.Native.Nat.{ℕ, _+_, _*_}
 use mathlib.Core.Path.{_≡_, refl}
 use mathlib.Core.List.{List, [], _∷_}
 use native.Mathlib.Omega.{arith}
@@ -10,7 +10,7 @@ use Rattle.base.specs.Walk.{firstFrom}
 use Rattle.board.specs.Stores.{applied, each, shifted}
 use Rattle.board.specs.Verdict.{boardAfter, workAfter}
 use Rattle.layout.specs.Fields.{width, pack, unpack, encode, decode}
-use Rattle.layout.specs.Memory.{logAt, workWords, slotsOf, formatted, withBuffer, controlIn}
+use Rattle.layout.specs.Memory.{logAt, entryWords, workWords, slotsOf, formatted, withBuffer, controlIn}
 use Rattle.layout.specs.Words.{encodeEntry}
 use Rattle.status.specs.declared.Status.the-variants as status
 use Rattle.undo.specs.Entries.{covers, properEntry, properBuffered}
@@ -66,9 +66,9 @@ pub record Met : Type 0 where
   pub stretch : Stretch begun pass
   pub all-accepted : slotsOf (length (begun .machine .work)) + 1 ≡ scans begun pass
   pub persisted : (begun .reference .persisted ≡ 0) × (scanned .reference .persisted ≡ 1)
-  -- the cut came in mid-flush: the entry's first word is on the board, and the control word does not count it yet
+  -- the cut came in mid-flush: the first word of the entry at place 2 is on the board, and the control word does not count it yet
   pub off : cut .machine .registers .epoch ≡ 0
-  pub entry-word : getD (cut .machine .board) (logAt + 4) 0 ≡ encodeEntry (record { address = 1; from = 1; till = 3 })
+  pub entry-word : getD (cut .machine .board) (logAt + entryWords * 2) 0 ≡ encodeEntry (record { address = 1; from = 1; till = 3 })
   pub uncounted : controlIn (cut .machine .board) .length ≡ 1
   -- the premise of `wakes-to-copy`, and a line that is restored
   pub in-place : lineOn entries (cut .machine .board) 0 ≡ 9

@@ -1,4 +1,4 @@
--- The four packed words, as the paper lists their fields. Their layout is known here and nowhere else.
+-- The four packed words, as the paper lists their fields. No other crate of the library knows their layout.
 use Prim.Native.Nat.{ℕ, _^_, _<_}
 use mathlib.Core.Path.{_≡_}
 use mathlib.Core.Bool.{Bool, true, false}
