@@ -11,6 +11,7 @@ use Rattle.layout.specs.Limits.{wordBits}
 use Rattle.layout.specs.Fields.{width, unpack, Packing, decode}
 use Rattle.layout.specs.Words.{Decoded, IsBit}
 use Rattle.layout.specs.Laws.{Laws}
+use Rattle.layout.specs.Bytes.{byteWidths, bytesOfWord, bytesOf}
 
 -- the fields below the top; then all
 unfoldable pub lower : List ℕ → ℕ → List ℕ
@@ -42,3 +43,8 @@ decoded {p} l whole w h = rw (read-is (p .widths) w (rw whole h)) (record { is =
 pub is-bit : (b : Bool) → IsBit b (boolByte b)
 is-bit true = record { is = refl; below = omega arith }
 is-bit false = record { is = refl; below = omega arith }
+
+-- a word's bytes are such fields
+pub bytes-read : (w : ℕ) → w < 2 ^ wordBits → read (byteWidths bytesOfWord) w ≡ bytesOf w
+unfolding bytesOf width
+bytes-read w h = read-is (byteWidths bytesOfWord) w h

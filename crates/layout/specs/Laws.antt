@@ -11,6 +11,7 @@ use lib.ListN.{drop}
 use Rattle.layout.specs.Limits.{wordBits, flagBits}
 use Rattle.layout.specs.Fields.{width, pack, unpack, Packing, encode, decode, Fit, pack-below, unpack-fit, pack-unpack, unpack-pack}
 use Rattle.layout.specs.Words.{controlPacking, ControlFits, shapePacking, ShapeFits, entryPacking, EntryFits, bit, slotPacking, SlotFits}
+use Rattle.layout.specs.Words.{recordPacking, RecordFits}
 
 pub record Laws {A : Type 0} (p : Packing A) (Fits : A → Type 0) : Type 0 where
   -- fields that fit come back from their word
@@ -52,6 +53,10 @@ shape-laws = laws (record { whole = refl; fit = λ x. omega arith; of-fields = �
 pub entry-laws : Laws entryPacking EntryFits
 unfolding width unpack Fit
 entry-laws = laws (record { whole = refl; fit = λ x. omega arith; of-fields = λ x. refl; fields-of = λ w. refl })
+
+pub record-laws : Laws recordPacking RecordFits
+unfolding width unpack Fit
+record-laws = laws (record { whole = refl; fit = λ x. omega arith; of-fields = λ x. refl; fields-of = λ w. refl })
 
 -- the slot word, whose first two fields are flags
 bit-below : (b : Bool) → bit b < 2 ^ flagBits

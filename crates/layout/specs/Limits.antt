@@ -35,6 +35,13 @@ flagBits = 1
 abbrev pub spareBits : ℕ
 spareBits = 22
 
+-- the first word of a trace's record: "kind 3 bits .., address 16, zero 45"
+abbrev pub kindBits : ℕ
+kindBits = 3
+
+abbrev pub recordSpareBits : ℕ
+recordSpareBits = 45
+
 -- the shape word's first field: "zero 24"
 abbrev pub boardVersion : ℕ
 boardVersion = 0

@@ -1,4 +1,4 @@
--- The four packed words, as the paper lists their fields. No other crate of the library knows their layout.
+-- The packed words, as the paper lists their fields. No other crate of the library knows their layout.
 use Prim.Native.Nat.{ℕ, _^_, _<_}
 use mathlib.Core.Path.{_≡_}
 use mathlib.Core.Bool.{Bool, true, false}
@@ -9,7 +9,8 @@ use Rattle.layout.specs.declared.Control.{Control}
 use Rattle.layout.specs.declared.Shape.{Shape}
 use Rattle.layout.specs.declared.Entry.{Entry}
 use Rattle.layout.specs.declared.Slot.{Slot}
-use Rattle.layout.specs.Limits.{epochBits, addressBits, ringBits, versionBits, sizeBits, flagBits, spareBits}
+use Rattle.layout.specs.declared.Record.{Record}
+use Rattle.layout.specs.Limits.{epochBits, addressBits, ringBits, versionBits, sizeBits, flagBits, spareBits, kindBits, recordSpareBits}
 use Rattle.layout.specs.Fields.{Packing, encode, decode}
 
 -- What a decoding gives: the fields that its definition gives, each within its width.
@@ -101,3 +102,22 @@ pub record SlotFits (s : Slot) : Type 0 where
   pub address : s .address < 2 ^ addressBits
   pub tag : s .tag < 2 ^ epochBits
   pub spare : s .spare < 2 ^ spareBits
+
+-- a trace's record: "two words ..: kind 3 bits .., address 16, zero 45; then the value". This is the first word.
+abbrev pub recordPacking : Packing Record
+recordPacking = record {
+  widths = kindBits ∷ addressBits ∷ recordSpareBits ∷ [];
+  fields = λ r. r .kind ∷ r .address ∷ r .spare ∷ [];
+  of = λ vs. record { kind = getD vs 0 0; address = getD vs 1 0; spare = getD vs 2 0 };
+}
+
+abbrev pub encodeRecord : Record → ℕ
+encodeRecord = encode recordPacking
+
+abbrev pub decodeRecord : ℕ → Record
+decodeRecord = decode recordPacking
+
+pub record RecordFits (r : Record) : Type 0 where
+  pub kind : r .kind < 2 ^ kindBits
+  pub address : r .address < 2 ^ addressBits
+  pub spare : r .spare < 2 ^ recordSpareBits

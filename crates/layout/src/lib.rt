@@ -1,16 +1,22 @@
-// The packed words of the board and of the work memory, and the widths and limits that they have.
+// The packed words of the board, of the work memory and of recorded calls, and the widths and limits that they have.
 // No other crate knows where a field stands in its word.
+mod bytes;
+
 ghost use Rattle.layout.specs.Words.{Decoded};
 ghost use Rattle.layout.specs.Words.{encodeControl, decodeControl, ControlFits};
 ghost use Rattle.layout.specs.Words.{encodeShape, decodeShape, ShapeFits};
 ghost use Rattle.layout.specs.Words.{encodeEntry, decodeEntry, EntryFits};
 ghost use Rattle.layout.specs.Words.{encodeSlot, decodeSlot, SlotFits, IsBit};
+ghost use Rattle.layout.specs.Words.{encodeRecord, decodeRecord, RecordFits};
 ghost use Rattle.layout.specs.Limits.{epochBits, mostLines, mostEntries, mostSlots};
 ghost use Rattle.layout.specs.Memory.{linesAt, boardWords, bufferWords, workWords, slotsOf, bufferAt};
 ghost use Prim.Native.Nat.{_^_, _<_, _≤_};
 ghost use lib.Dec.{ltb, leb};
 ghost use mathlib.Core.Bool.{_&&_};
 ghost use mathlib.Core.Path.{_≡_};
+pub use bytes::BYTES_OF_WORD;
+pub use bytes::bytes_of;
+pub use bytes::with_byte;
 
 // Widths in bits.
 const WORD_BITS: u32 = 64;
@@ -27,6 +33,8 @@ const FLAG_BITS: u32 = 1;
 
 const SPARE_BITS: u32 = 22;
 
+const RECORD_SPARE_BITS: u32 = 45;
+
 // How many values a field of such a width has.
 const EPOCHS: u64 = 1 << EPOCH_BITS;
 
@@ -39,6 +47,8 @@ const SIZES: u64 = 1 << SIZE_BITS;
 const FLAGS: u64 = 1 << FLAG_BITS;
 
 const SPARES: u64 = 1 << SPARE_BITS;
+
+const RECORD_SPARES: u64 = 1 << RECORD_SPARE_BITS;
 
 // Limits.
 pub const LAST_EPOCH: u64 = EPOCHS - 1;
@@ -54,6 +64,9 @@ pub const MOST_SLOTS: usize = 256;
 pub const BUFFER_PLACES: usize = 32;
 
 pub const MOST_AHEAD: u64 = 16;
+
+// The last address that a field has room for.
+pub const LAST_ADDRESS: u64 = ADDRESSES - 1;
 
 // Where things stand on the board: the control word, the shape word, the log's entries, and then the lines.
 pub const CONTROL_AT: usize = 0;
@@ -296,4 +309,34 @@ pub fn is_dirty_word(word: u64) -> bool
     ensures { λ r. ⌜ r ≡ decodeSlot word .valid && decodeSlot word .dirty ⌝ }
 {
     word >= SLOT_VALID + SLOT_DIRTY
+}
+
+// The first word of a trace's record: the call's kind, the line's address, and the bits that are kept zero.
+pub struct Record {
+    pub kind: u64,
+    pub address: u64,
+    pub spare: u64,
+}
+
+const RECORD_ADDRESS: u64 = RECORD_SPARES;
+
+const RECORD_KIND: u64 = RECORD_ADDRESS * ADDRESSES;
+
+impl Record {
+    pub fn decode(word: u64) -> Record
+        ensures { λ r. ⌜ Decoded RecordFits (decodeRecord word) r ⌝ }
+    {
+        Record {
+            kind: word / RECORD_KIND,
+            address: word / RECORD_ADDRESS % ADDRESSES,
+            spare: word % RECORD_SPARES,
+        }
+    }
+
+    pub fn encode(self) -> u64
+        requires { ⌜ RecordFits self ⌝ }
+        ensures { λ r. ⌜ r ≡ encodeRecord self ⌝ }
+    {
+        self.kind * RECORD_KIND + self.address * RECORD_ADDRESS + self.spare
+    }
 }

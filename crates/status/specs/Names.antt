@@ -1,4 +1,5 @@
--- The names of the numbers. "The names are held as thirteen rows of eight bytes, filled with spaces."
+-- The names of the numbers. "The names are held as thirteen rows of eight bytes, filled with spaces", and each
+-- number that joins them has a row more.
 use Prim.Native.Nat.{ℕ, _-_}
 use Prim.Native.Char.{code}
 use Prim.Native.String as text
@@ -22,6 +23,7 @@ names =
     ∷ "last"
     ∷ "none"
     ∷ "cut"
+    ∷ "trace"
     ∷ []
 
 abbrev pub rowBytes : ℕ

@@ -1,4 +1,4 @@
--- "What an answer says", the column "Returned: number, name".
+-- "What an answer says", the column "Returned: number, name"; and "New numbers, here and later, join the names".
 use Prim.Native.Nat.{ℕ}
 use mathlib.Core.Bool.{Bool}
 use lib.Dec.{eqb}
@@ -17,6 +17,7 @@ use Rattle.status.specs.declared.Status.the-variants.{
   Last,
   None,
   Cut,
+  Trace,
 }
 
 abbrev pub numberOf : Status → ℕ
@@ -33,6 +34,7 @@ numberOf Waiting = 9
 numberOf Last = 10
 numberOf None = 11
 numberOf Cut = 12
+numberOf Trace = 13
 
 -- "0 ok"
 abbrev pub isOk : Status → Bool

@@ -18,6 +18,7 @@ pub enum Status {
     Last,
     None,
     Cut,
+    Trace,
 }
 
 const OK: u64 = 0;
@@ -40,6 +41,7 @@ impl Status {
             Status::Last => 10,
             Status::None => 11,
             Status::Cut => 12,
+            Status::Trace => 13,
         }
     }
 
@@ -50,7 +52,7 @@ impl Status {
     }
 }
 
-const NAMES: usize = 13;
+const NAMES: usize = 14;
 
 const ROW_BYTES: usize = 8;
 
@@ -70,6 +72,7 @@ const ROWS: [[u8; ROW_BYTES]; NAMES] = [
     *b"last    ",
     *b"none    ",
     *b"cut     ",
+    *b"trace   ",
 ];
 
 // A name: the first bytes of its row, as many as length says, and spaces behind them.

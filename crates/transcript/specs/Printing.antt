@@ -165,6 +165,7 @@ name-row status.Waiting = record { part = omega arith; most = omega arith; text 
 name-row status.Last = record { part = omega arith; most = omega arith; text = refl }
 name-row status.None = record { part = omega arith; most = omega arith; text = refl }
 name-row status.Cut = record { part = omega arith; most = omega arith; text = refl }
+name-row status.Trace = record { part = omega arith; most = omega arith; text = refl }
 
 module _ (s : Status) (n : ℕ) (m : Name) (e : n ≡ numberOf s) (g : m ≡ nameOf n) where
   name-fits : NameFits s m

@@ -1,0 +1,13 @@
+use mathlib.Core.Path.{refl}
+use Rattle.layout.specs.Fields.{width}
+use Rattle.layout.specs.Laws.{record-laws}
+use Rattle.layout.proofs.Reading.{lower, read, decoded}
+use Rattle.layout.proofs.Record.decode.Statement.{statement}
+use Rattle.layout.proofs.Record.decode.Tie as tie
+
+returns : tie.Need-returns
+unfolding width lower read
+returns c = decoded record-laws refl _ (c .fits .word .fits)
+
+pub decode-spec : {M : Type 1} → statement M
+decode-spec = tie.close (tie.spec returns)
