@@ -4,7 +4,7 @@ use mathlib.Core.Path.{_≡_, refl, sym, ap, _∙_}
 use mathlib.Core.List.{List, [], _∷_, _++_}
 use native.Mathlib.Omega.{arith}
 use native.Mathlib.Nat.{mod-eq-of-lt, lt-of-lt-of-le}
-use lib.ListN.{length, getD, replicate, length-append}
+use lib.ListN.{length, getD, take, drop, replicate, length-append}
 use lib.Pow.{pow-add, pow-mono}
 use Rattle.layout.specs.Limits.{wordBits}
 use Rattle.layout.specs.Fields.{width, pack, unpack, Fit, pack-below, pack-unpack, unpack-pack}
@@ -36,6 +36,17 @@ withByte word byte = word % 2 ^ (wordBits - byteBits) * 2 ^ byteBits + byte
 -- A list of bytes.
 abbrev pub AreBytes : List ℕ → Type 0
 AreBytes bytes = (i : ℕ) → getD bytes i 0 < 2 ^ byteBits
+
+pub bytes-drop : (n : ℕ) (bytes : List ℕ) → AreBytes bytes → AreBytes (drop n bytes)
+bytes-drop zero bytes h = h
+bytes-drop (suc n) [] h = h
+bytes-drop (suc n) (b ∷ bs) h = bytes-drop n bs (λ i. h (suc i))
+
+pub bytes-take : (n : ℕ) (bytes : List ℕ) → AreBytes bytes → AreBytes (take n bytes)
+bytes-take zero bytes h i = omega arith
+bytes-take (suc n) [] h i = h i
+bytes-take (suc n) (b ∷ bs) h zero = h 0
+bytes-take (suc n) (b ∷ bs) h (suc i) = bytes-take n bs (λ j. h (suc j)) i
 
 pub bytes-fit : (bytes : List ℕ) → AreBytes bytes → Fit (byteWidths (length bytes)) bytes
 unfolding Fit

@@ -38,7 +38,7 @@ const RECORD_SPARE_BITS: u32 = 45;
 // How many values a field of such a width has.
 const EPOCHS: u64 = 1 << EPOCH_BITS;
 
-const ADDRESSES: u64 = 1 << ADDRESS_BITS;
+pub const ADDRESSES: u64 = 1 << ADDRESS_BITS;
 
 const PLACES: u64 = 1 << RING_BITS;
 
@@ -64,9 +64,6 @@ pub const MOST_SLOTS: usize = 256;
 pub const BUFFER_PLACES: usize = 32;
 
 pub const MOST_AHEAD: u64 = 16;
-
-// The last address that a field has room for.
-pub const LAST_ADDRESS: u64 = ADDRESSES - 1;
 
 // Where things stand on the board: the control word, the shape word, the log's entries, and then the lines.
 pub const CONTROL_AT: usize = 0;
