@@ -10,8 +10,9 @@
  * and all lent memory afterwards are fixed by what went in, and proved to be what the definitions in
  * crates/picl/specs/Calls.antt and crates/capi/specs/Crossing.antt give.
  *
- * A refusal (1 to 11) leaves board and work memory as they were. The registers too stay as they were, but a refused
- * power-up leaves them zero. The answer is filled, refused or not. Only PICL_TOO_SHORT (255) touches nothing at all.
+ * A refusal (1 to 11, and 13) leaves board and work memory, or the record's bytes, as they were. The registers too stay as
+ * they were, but a refused power-up leaves them zero. The answer is filled, refused or not. Only PICL_TOO_SHORT (255)
+ * touches nothing at all.
  *
  *
  * THE BOARD MEMORY outlives the current. PICL_BOARD_WORDS(N, L) words of 64 bits, fields most significant bit first:
@@ -48,10 +49,20 @@
  * and L. Power-up fixes S: until the next power-up, each call gets a work memory of the same length.
  *
  *
+ * A RECORD is PICL_RECORD_BYTES bytes in which a controller notes a call, for the bench program loomtrace to make it again.
+ * Two words, most significant byte first, fields most significant bit first:
+ *
+ *     byte 0 to 7           head      kind 3 bits, address 16, zero 45
+ *     byte 8 to 15          value     64
+ *
+ * Address and value are zero for kinds that take none. Power-up has no kind: a trace is what one controller did from its
+ * board's first power-up until the current went.
+ *
+ *
  * THE CALLER'S DUTIES. The library cannot test these:
  *
- *  - Each pointer is aligned for 64 bits, is not null, and has as many words behind it as the length that follows it says.
- *    The arrays of one call do not overlap.
+ *  - No pointer is null, each to words is aligned for 64 bits, and each has as many words, or bytes, behind it as the length
+ *    that follows it says. The arrays of one call do not overlap.
  *  - One task makes all calls, one after the other; nothing else writes the board memory, the work memory or the registers.
  *  - Each call gets board, work memory and registers as the call before returned and left them. Only power-up may be
  *    given any work memory and any registers.
@@ -108,6 +119,9 @@ extern "C" {
 #define PICL_REGISTER_WORDS 3
 #define PICL_ANSWER_WORDS 2
 
+/* The bytes of a record. */
+#define PICL_RECORD_BYTES 16
+
 /* Places in the registers and in the answer. */
 #define PICL_EPOCH 0
 #define PICL_BUFFERED 1
@@ -133,11 +147,21 @@ enum {
     PICL_LAST = 10,      /* commit: the running epoch is the last that there is */
     PICL_NONE = 11,      /* scan: no epoch waits to be persisted */
     PICL_CUT = 12,       /* more stores were due than the allowance: the first of them are on the board */
-    PICL_TOO_SHORT = 255 /* the registers or the answer have too few words; no memory was touched */
+    PICL_TRACE = 13,     /* trace_write: a kind, an address or a value that has no place in a record */
+    PICL_TOO_SHORT = 255 /* the registers or the answer have too few words, or a record too few bytes; no memory was touched */
+};
+
+/* The kinds of recorded calls. Load, store and evict take an address, and store alone a value. */
+enum {
+    PICL_RECORD_LOAD = 0,
+    PICL_RECORD_STORE = 1,
+    PICL_RECORD_COMMIT = 2,
+    PICL_RECORD_SCAN = 3,
+    PICL_RECORD_EVICT = 4
 };
 
 /*
- * All but format and tally take an allowance: the number of board stores that the call may make. It stands in for the
+ * All but format, tally and trace_write take an allowance: the number of board stores that the call may make. It stands in for the
  * mains switch on a test bench; a controller passes PICL_NO_CUT. At a cut the first stores, as many as allowed, are on the
  * board, and the work memory and the registers are zero.
  *
@@ -179,6 +203,12 @@ uint64_t picl_scan(uint64_t *board, size_t board_words, uint64_t *work, size_t w
 
 /* The number of dirty lines that the cache holds, as value. */
 uint64_t picl_tally(const uint64_t *work, size_t work_words, uint64_t *answer, size_t answer_words);
+
+/* A call as a record, in the first PICL_RECORD_BYTES bytes; those behind are not touched, and a refusal (PICL_TRACE) touches
+ * none. Value and stores are 0. It makes no call and needs no board: a controller that records itself writes the record of each
+ * call that it makes, accepted or refused, in the order in which it makes them. */
+uint64_t picl_trace_write(uint8_t *bytes, size_t byte_count, uint64_t kind, uint64_t address, uint64_t value,
+                          uint64_t *answer, size_t answer_words);
 
 #ifdef __cplusplus
 }

@@ -2,15 +2,18 @@
 -- library's own definition; only the places of registers and answer are added here, and what is said where these are missing.
 use Prim.Native.Nat.{ℕ}
 use mathlib.Core.Bool.{cond}
-use mathlib.Core.List.{List}
-use Rattle.status.specs.Numbers.{numberOf}
+use mathlib.Core.List.{List, _++_}
+use lib.ListN.{drop}
+use Rattle.status.specs.Numbers.{numberOf, isOk}
 use Rattle.checks.specs.declared.Registers.{Registers}
 use Rattle.checks.specs.Registers.{zero}
 use Rattle.picl.specs.declared.Report.{Report}
 use Rattle.picl.specs.Answers.{Verdict, answerOf}
 use Rattle.board.specs.Verdict.{boardAfter, workAfter}
 use Rattle.picl.specs.Calls.{Call, verdictOf, powerUpVerdict, formatReport, formatAfter, tallyReport}
-use Rattle.capi.specs.Places.{hasAnswer, hasPlaces, readRegisters, writeRegisters, writeAnswer}
+use Rattle.records.specs.declared.Written.{Written}
+use Rattle.records.specs.Records.{recordBytes, written}
+use Rattle.capi.specs.Places.{hasAnswer, hasPlaces, hasRecordPlaces, readRegisters, writeRegisters, writeAnswer}
 
 -- the number of a call whose registers or answer have too few words, far from the paper's
 abbrev pub tooShort : ℕ
@@ -65,3 +68,12 @@ formatCrossing board answer lines entries =
 
 abbrev pub tallyCrossing : (work answer : List ℕ) → Reported
 tallyCrossing work answer = reporting (tallyReport work) work work answer
+
+-- The writer of records: the first sixteen bytes, or the refusal and no byte touched. It has no value and makes no stores.
+unfoldable pub recordPut : (bytes : List ℕ) → Written → List ℕ
+recordPut bytes w = cond (isOk (w .status)) (w .bytes ++ drop recordBytes bytes) bytes
+
+unfoldable pub recordCrossing : (bytes answer : List ℕ) → (kind address value : ℕ) → Reported
+recordCrossing bytes answer kind address value =
+    let w = written kind address value in
+    cond (hasRecordPlaces bytes answer) (reported (numberOf (w .status)) (recordPut bytes w) (writeAnswer answer 0 0)) (reported tooShort bytes answer)

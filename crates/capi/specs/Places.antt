@@ -7,6 +7,7 @@ use lib.Dec.{leb}
 use lib.ListN.{length, getD, set}
 use Rattle.checks.specs.declared.Registers.{Registers}
 use Rattle.checks.specs.Registers.{given}
+use Rattle.records.specs.Records.{recordBytes}
 
 abbrev pub epochAt : ℕ
 epochAt = 0
@@ -34,6 +35,10 @@ hasAnswer answer = leb answerWords (length answer)
 
 unfoldable pub hasPlaces : (registers answer : List ℕ) → Bool
 hasPlaces registers answer = leb registerWords (length registers) && hasAnswer answer
+
+-- the bytes of a record, and the answer
+unfoldable pub hasRecordPlaces : (bytes answer : List ℕ) → Bool
+hasRecordPlaces bytes answer = leb recordBytes (length bytes) && hasAnswer answer
 
 unfoldable pub readRegisters : List ℕ → Registers
 readRegisters words = given (getD words epochAt 0) (getD words bufferedAt 0) (getD words cursorAt 0)

@@ -1,17 +1,21 @@
-// The eight calls for C, as include/picl.h declares them: memories as pointer and length, registers and answer in small lent
-// arrays of words, the paper's number as result.
+// The calls for C, as include/picl.h declares them: memories as pointer and length, registers and answer in small lent arrays of
+// words, the paper's number as result.
 mod places;
 mod reading;
+mod recording;
 
 ghost use mathlib.Core.Path.{_≡_};
 ghost use Rattle.picl.specs.Calls as call;
 ghost use Rattle.capi.specs.Crossing.{back, callCrossing};
-ghost use Rattle.capi.specs.Crossing.{powerUpCrossing, reported, formatCrossing, tallyCrossing};
+ghost use Rattle.capi.specs.Crossing.{powerUpCrossing, reported, formatCrossing, tallyCrossing, recordCrossing};
+use picl::Report;
 use places::TOO_SHORT;
 use places::give;
 use places::has_answer;
 use places::has_places;
 use places::report;
+use recording::has_record_places;
+use recording::put_record;
 
 #[no_mangle]
 pub extern "C" fn picl_format(
@@ -150,4 +154,30 @@ pub extern "C" fn picl_tally(work: &[u64], answer: &mut [u64]) -> u64
     }
     let counted = picl::tally(work);
     report(answer, counted)
+}
+
+#[no_mangle]
+pub extern "C" fn picl_trace_write(
+    place: &mut [u8],
+    kind: u64,
+    address: u64,
+    value: u64,
+    answer: &mut [u64],
+) -> u64
+    ensures { λ r. ⌜ reported r (now (place .exit)) (now (answer .exit)) ≡ recordCrossing (now (place .entry)) (now (answer .entry)) kind address value ⌝ }
+{
+    if !has_record_places(place, answer) {
+        return TOO_SHORT;
+    }
+    let made = records::write(kind, address, value);
+    let status = made.status;
+    put_record(place, made);
+    report(
+        answer,
+        Report {
+            status,
+            value: 0,
+            stores: 0,
+        },
+    )
 }

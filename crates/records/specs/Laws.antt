@@ -11,7 +11,7 @@ use borrow.Author.Tests.{ltb-true, ltb-false, eqb-true, le-ltb, lt-ltb, le-leb, 
 use lib.Dec.{ltb, leb, eqb}
 use lib.ListN.{length, getD, take, drop, length-append, length-take, length-drop, drop-of-length-le}
 use lib.Seq.{take-all, take-append-le, drop-append-le, take-append-seam, drop-append-seam, take-take, length-take-le}
-use Rattle.base.specs.Cases.{below-or-not}
+use Rattle.base.specs.Cases.{below-or-not, either}
 use Rattle.base.specs.Tests.{and-left, and-right}
 use Rattle.layout.specs.declared.Record.{Record}
 use Rattle.layout.specs.Limits.{wordBits, addressBits}
@@ -170,6 +170,10 @@ unfolding reading bytesOf unpack
 words-read first value f v = ap₂ wordsReading (word-of-bytes first f) (word-of-bytes value v)
 
 module _ (kind address value : ℕ) where
+  pub written-length : length (written kind address value .bytes) ≡ recordBytes
+  unfolding written bytesOf unpack
+  written-length = either (λ (w : Written). length (w .bytes) ≡ recordBytes) (hasPlace kind address value) refl refl
+
   pub written-placed : hasPlace kind address value ≡ true
       → written kind address value ≡ record { status = Ok; bytes = bytesOf (firstWord kind address) ++ bytesOf value }
   unfolding written
