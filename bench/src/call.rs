@@ -56,6 +56,35 @@ impl Kind {
     }
 }
 
+/// Calls that are not to be cut.
+impl Call {
+    pub const POWER_UP: Call = Call::PowerUp { allowance: NO_CUT };
+    pub const COMMIT: Call = Call::Commit { allowance: NO_CUT };
+    pub const SCAN: Call = Call::Scan { allowance: NO_CUT };
+
+    pub const fn load(address: u64) -> Self {
+        Call::Load {
+            address,
+            allowance: NO_CUT,
+        }
+    }
+
+    pub const fn store(address: u64, data: u64) -> Self {
+        Call::Store {
+            address,
+            data,
+            allowance: NO_CUT,
+        }
+    }
+
+    pub const fn evict(address: u64) -> Self {
+        Call::Evict {
+            address,
+            allowance: NO_CUT,
+        }
+    }
+}
+
 impl Call {
     pub fn kind(self) -> Kind {
         match self {

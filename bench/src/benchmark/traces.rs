@@ -1,40 +1,15 @@
 //! The states and traces that the rows measure.
 
 use super::region::{Memories, Start};
-use crate::call::{Call, NO_CUT};
+use crate::call::Call;
 use crate::handwritten::layout::{entry_place, Control, Range, CONTROL_PLACE, MOST_AHEAD, MOST_ENTRIES, MOST_LINES};
 use crate::handwritten::HandWritten;
 use crate::interface::NO_REGISTERS;
-use crate::loom::workload::{Order, STORES_PER_EPOCH};
+use crate::loom::workload::{Order, Work, STORES_PER_EPOCH};
 use crate::random::Random;
 use crate::sizes::Sizes;
 
 const SEED: u64 = 2_600_400;
-
-const SCAN: Call = Call::Scan { allowance: NO_CUT };
-const COMMIT: Call = Call::Commit { allowance: NO_CUT };
-
-fn store(address: u64, data: u64) -> Call {
-    Call::Store {
-        address,
-        data,
-        allowance: NO_CUT,
-    }
-}
-
-fn load(address: u64) -> Call {
-    Call::Load {
-        address,
-        allowance: NO_CUT,
-    }
-}
-
-fn evict(address: u64) -> Call {
-    Call::Evict {
-        address,
-        allowance: NO_CUT,
-    }
-}
 
 /// A board of the largest size and a cache, formatted and powered up.
 fn fresh_board(slots: usize) -> Start {
@@ -48,8 +23,7 @@ fn fresh_board(slots: usize) -> Start {
         work: vec![0; sizes.work_words()],
         registers: NO_REGISTERS,
     };
-    let power_up = Call::PowerUp { allowance: NO_CUT };
-    after(start, &[sizes.format(), power_up])
+    after(start, &[sizes.format(), Call::POWER_UP])
 }
 
 /// The state after calls that all have to be accepted.
@@ -62,41 +36,35 @@ fn after(start: Start, calls: &[Call]) -> Start {
     memories.into_start()
 }
 
-/// One epoch: a store and another access by turns, each to a line drawn evenly, `scans` scan calls spread evenly, a
-/// commit.
-fn epoch(random: &mut Random, lines: &[u64], access: fn(u64) -> Call, scans: usize) -> Vec<Call> {
-    let mut calls = Vec::new();
-    let mut scans_made = 0;
-    for turn in 1..=STORES_PER_EPOCH {
-        calls.push(store(random.pick(lines), random.word()));
-        calls.push(access(random.pick(lines)));
-        while scans_made * STORES_PER_EPOCH < turn * scans {
-            calls.push(SCAN);
-            scans_made += 1;
-        }
-    }
-    calls.push(COMMIT);
-    calls
-}
-
 /// An epoch in the midst of work: one epoch waits before it, which its scan calls persist.
 fn epoch_in_midst(slots: usize, access: fn(u64) -> Call) -> (Start, Vec<Call>) {
     let random = &mut Random::new(SEED);
-    let lines = Order::Scattered.lines(random, MOST_LINES);
-    let mut calls = epoch(random, &lines, load, 0);
+    let order = Order::Scattered;
+    let lines = order.lines(random, MOST_LINES);
+    let before = Work {
+        order,
+        lines: &lines,
+        access: Call::load,
+        scans_per_epoch: slots + 1,
+    };
+    let without_scans = Work {
+        scans_per_epoch: 0,
+        ..before
+    };
+    let mut calls = without_scans.epoch(random);
     for _ in 0..2 {
-        calls.extend(epoch(random, &lines, load, slots + 1));
+        calls.extend(before.epoch(random));
     }
     let start = after(fresh_board(slots), &calls);
-    (start, epoch(random, &lines, access, slots + 1))
+    (start, Work { access, ..before }.epoch(random))
 }
 
 pub fn loom(slots: usize) -> (Start, Vec<Call>) {
-    epoch_in_midst(slots, load)
+    epoch_in_midst(slots, Call::load)
 }
 
 pub fn loom_with_evictions(slots: usize) -> (Start, Vec<Call>) {
-    epoch_in_midst(slots, evict)
+    epoch_in_midst(slots, Call::evict)
 }
 
 /// Stores by turns to lines of one slot: each one empties it of a line whose undo entry is buffered.
@@ -107,16 +75,16 @@ pub fn conflict(slots: usize) -> (Start, Vec<Call>) {
     let stores: Vec<Call> = addresses
         .cycle()
         .take(STORES_PER_EPOCH)
-        .map(|address| store(address, random.word()))
+        .map(|address| Call::store(address, random.word()))
         .collect();
     (after(fresh_board(slots), &stores), stores)
 }
 
 /// As many commits as may wait, with a half full buffer.
 pub fn commits(slots: usize) -> (Start, Vec<Call>) {
-    let stores: Vec<Call> = (0..16).map(|address| store(address, address)).collect();
+    let stores: Vec<Call> = (0..16).map(|address| Call::store(address, address)).collect();
     let start = after(fresh_board(slots), &stores);
-    (start, vec![COMMIT; MOST_AHEAD as usize - 1])
+    (start, vec![Call::COMMIT; MOST_AHEAD as usize - 1])
 }
 
 pub fn tallies(slots: usize) -> (Start, Vec<Call>) {
@@ -156,5 +124,5 @@ pub fn power_up() -> (Start, Vec<Call>) {
         start.board[place] = range.pack();
         start.board[place + 1] = random.word();
     }
-    (start, vec![Call::PowerUp { allowance: NO_CUT }])
+    (start, vec![Call::POWER_UP])
 }

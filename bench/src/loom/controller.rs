@@ -1,10 +1,10 @@
 //! A controller that works through the loom's epochs on the library, and what that took.
 
-use super::workload::{Order, STORES_PER_EPOCH};
-use crate::call::NO_CUT;
+use super::workload::{Order, Work};
+use crate::call::{Call, Kind};
 use crate::handwritten::layout::{Control, CONTROL_PLACE, ENTRY_WORDS, MOST_LINES};
 use crate::handwritten::Registers;
-use crate::interface::{Answer, CacheLog, RegisterWords, NO_REGISTERS, OK};
+use crate::interface::{Answer, RegisterWords, NO_REGISTERS, OK};
 use crate::library::Library;
 use crate::random::Random;
 use crate::sizes::Sizes;
@@ -53,12 +53,18 @@ struct Controller {
 pub fn work_through(plan: Plan) -> Result<Figures, String> {
     let random = &mut Random::new(SEED);
     let lines = plan.order.lines(random, MOST_LINES);
+    let work = Work {
+        order: plan.order,
+        lines: &lines,
+        access: Call::load,
+        scans_per_epoch: plan.scans_per_epoch,
+    };
     let mut controller = Controller::start(plan)?;
     for epoch in 0..EPOCHS_BEFORE + EPOCHS_COUNTED {
         if epoch == EPOCHS_BEFORE {
             controller.figures = Figures::default();
         }
-        controller.epoch(plan, random, &lines)?;
+        controller.epoch(&work.epoch(random))?;
     }
     Ok(controller.figures)
 }
@@ -78,54 +84,36 @@ impl Controller {
             figures: Figures::default(),
             entries_in_epoch: 0,
         };
-        accepted(
-            "format",
-            Library::format(&mut controller.board, sizes.lines, sizes.entries),
-        )?;
-        controller.counted("power-up", |board, work, registers| {
-            Library::power_up(board, work, registers, NO_CUT)
-        })?;
+        controller.make(sizes.format())?;
+        controller.counted(Call::POWER_UP)?;
         Ok(controller)
     }
 
-    /// The stores of an epoch, a load after each, the scan calls spread evenly between them, and a commit.
-    fn epoch(&mut self, plan: Plan, random: &mut Random, lines: &[u64]) -> Result<(), String> {
+    fn epoch(&mut self, calls: &[Call]) -> Result<(), String> {
         self.entries_in_epoch = 0;
-        let mut scans_made = 0;
-        for turn in 0..STORES_PER_EPOCH {
-            let address = plan.order.address(random, lines, turn);
-            self.store(address, random.word())?;
-            let address = plan.order.address(random, lines, turn);
-            self.counted("load", |board, work, registers| {
-                Library::load(board, work, registers, address, NO_CUT)
-            })?;
-            while scans_made * STORES_PER_EPOCH < (turn + 1) * plan.scans_per_epoch {
-                self.scan()?;
-                scans_made += 1;
+        for &call in calls {
+            match call.kind() {
+                Kind::Store => self.store(call)?,
+                Kind::Scan => self.scan(call)?,
+                _ => {
+                    self.counted(call)?;
+                }
             }
         }
-        self.counted("commit", |board, work, registers| {
-            Library::commit(board, work, registers, NO_CUT)
-        })?;
         self.note_state();
         Ok(())
     }
 
-    fn store(&mut self, address: u64, data: u64) -> Result<(), String> {
+    fn store(&mut self, call: Call) -> Result<(), String> {
         let before = self.entries_at_once();
-        self.counted("store", |board, work, registers| {
-            Library::store(board, work, registers, address, data, NO_CUT)
-        })?;
+        self.counted(call)?;
         self.entries_in_epoch += self.entries_at_once() - before;
         self.note_state();
         Ok(())
     }
 
-    fn scan(&mut self) -> Result<(), String> {
-        let answer = self.counted("scan", |board, work, registers| {
-            Library::scan(board, work, registers, NO_CUT)
-        })?;
-        if answer.value != 0 {
+    fn scan(&mut self, call: Call) -> Result<(), String> {
+        if self.counted(call)?.value != 0 {
             // The control word with the new persisted epoch; one for a flush before it is counted as that of any flush.
             self.figures.control_stores += 1;
             self.figures.line_stores -= 1;
@@ -135,27 +123,28 @@ impl Controller {
 
     /// Makes a call and counts its board stores: two words for each entry that left the buffer and a control word for
     /// each flush, and the others to lines.
-    fn counted(
-        &mut self,
-        name: &str,
-        call: impl FnOnce(&mut [u64], &mut [u64], &mut RegisterWords) -> Answer,
-    ) -> Result<Answer, String> {
+    fn counted(&mut self, call: Call) -> Result<Answer, String> {
         let end_before = self.ring_end();
-        let answer = call(&mut self.board, &mut self.work, &mut self.registers);
-        match answer.number {
-            OK => {}
-            NONE => return Ok(answer),
-            ROOM => {
-                self.figures.refused_for_room += 1;
-                return Ok(answer);
-            }
-            number => return Err(format!("{name} answered {number}")),
+        let answer = self.make(call)?;
+        if answer.number != OK {
+            return Ok(answer);
         }
         let flushed = (self.ring_end() + self.entries - end_before) % self.entries;
         let (entry_stores, control_stores) = (ENTRY_WORDS as u64 * flushed, u64::from(flushed > 0));
         self.figures.entry_stores += entry_stores;
         self.figures.control_stores += control_stores;
         self.figures.line_stores += answer.stores - entry_stores - control_stores;
+        Ok(answer)
+    }
+
+    /// Makes a call. A refusal that the plan may meet is an answer like any other.
+    fn make(&mut self, call: Call) -> Result<Answer, String> {
+        let answer = call.make::<Library>(&mut self.board, &mut self.work, &mut self.registers);
+        match answer.number {
+            OK | NONE => {}
+            ROOM => self.figures.refused_for_room += 1,
+            number => return Err(format!("{} answered {number}", call.kind().name())),
+        }
         Ok(answer)
     }
 
@@ -184,12 +173,5 @@ impl Controller {
 
     fn entries_at_once(&self) -> u64 {
         self.control().length as u64 + self.registers().buffered
-    }
-}
-
-fn accepted(name: &str, answer: Answer) -> Result<(), String> {
-    match answer.number {
-        OK => Ok(()),
-        number => Err(format!("{name} answered {number}")),
     }
 }

@@ -1,5 +1,6 @@
 //! What the customer counted on his looms, in an epoch of one second.
 
+use crate::call::Call;
 use crate::random::Random;
 
 pub const STORES_PER_EPOCH: usize = 2_600;
@@ -45,6 +46,34 @@ impl Order {
                 lines[pick * lines_of_a_pick + turn % lines_of_a_pick]
             }
         }
+    }
+}
+
+/// What an epoch's calls are made of.
+#[derive(Clone, Copy)]
+pub struct Work<'a> {
+    pub order: Order,
+    /// The lines of the loom.
+    pub lines: &'a [u64],
+    /// What comes after each store.
+    pub access: fn(u64) -> Call,
+    pub scans_per_epoch: usize,
+}
+
+impl Work<'_> {
+    /// The turns of an epoch, and a commit.
+    pub fn epoch(self, random: &mut Random) -> Vec<Call> {
+        let turns = (0..STORES_PER_EPOCH).flat_map(|turn| self.turn(random, turn));
+        turns.chain([Call::COMMIT]).collect()
+    }
+
+    /// A store, an access, and the scan calls that are due then: they are spread evenly over the epoch.
+    pub fn turn(self, random: &mut Random, turn: usize) -> Vec<Call> {
+        let store = Call::store(self.order.address(random, self.lines, turn), random.word());
+        let access = (self.access)(self.order.address(random, self.lines, turn));
+        let scans_before = |turn: usize| (turn * self.scans_per_epoch).div_ceil(STORES_PER_EPOCH);
+        let scans = scans_before(turn + 1) - scans_before(turn);
+        [store, access].into_iter().chain(vec![Call::SCAN; scans]).collect()
     }
 }
 
