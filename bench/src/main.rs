@@ -7,9 +7,11 @@ mod handwritten;
 mod interface;
 mod library;
 mod loom;
+mod memories;
 mod order;
 mod random;
 mod replay;
+mod repository;
 mod sizes;
 
 use std::process::ExitCode;

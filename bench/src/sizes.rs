@@ -10,7 +10,19 @@ pub struct Sizes {
     pub slots: u64,
 }
 
+/// The largest sizes that the replay has memories for.
+pub const MOST_OF_THE_REPLAY: Sizes = Sizes {
+    lines: 2_048,
+    entries: 1_024,
+    slots: 64,
+};
+
 impl Sizes {
+    pub fn fit_the_replay(self) -> bool {
+        let most = MOST_OF_THE_REPLAY;
+        self.lines <= most.lines && self.entries <= most.entries && self.slots <= most.slots
+    }
+
     pub fn shape(self) -> Shape {
         Shape {
             lines: self.lines,

@@ -3,13 +3,6 @@
 use crate::call::Call;
 use crate::sizes::Sizes;
 
-/// The sizes that the replay has memories for.
-const MOST: Sizes = Sizes {
-    lines: 2_048,
-    entries: 1_024,
-    slots: 64,
-};
-
 #[derive(Clone, Copy, Debug, PartialEq, Eq)]
 pub enum Command {
     /// `n N L S`: format and power-up.
@@ -61,13 +54,13 @@ fn number(word: &[u8]) -> Option<u64> {
 }
 
 fn start(sizes: Sizes) -> Option<Command> {
-    let has_memories = sizes.lines <= MOST.lines && sizes.entries <= MOST.entries && sizes.slots <= MOST.slots;
-    has_memories.then_some(Command::Start(sizes))
+    sizes.fit_the_replay().then_some(Command::Start(sizes))
 }
 
 #[cfg(test)]
 mod tests {
     use super::*;
+    use crate::sizes::MOST_OF_THE_REPLAY;
 
     fn lines(script: &[u8]) -> Vec<&[u8]> {
         lines_of(script).collect()
@@ -114,7 +107,7 @@ mod tests {
 
     #[test]
     fn sizes_end_at_what_the_replay_has_memories_for() {
-        assert_eq!(read(b"n 2048 1024 64", 0), Some(Command::Start(MOST)));
+        assert_eq!(read(b"n 2048 1024 64", 0), Some(Command::Start(MOST_OF_THE_REPLAY)));
         for line in [&b"n 2049 1 1"[..], b"n 1 1025 1", b"n 1 1 65"] {
             assert_eq!(read(line, 0), None);
         }

@@ -5,7 +5,7 @@ mod line;
 mod program;
 mod stored;
 
-use std::fs;
+use crate::repository::read;
 use std::io::{self, Write};
 use std::path::Path;
 
@@ -47,8 +47,4 @@ fn difference(replayed: &[u8], expected: &[u8]) -> String {
         text(expected),
         text(replayed)
     )
-}
-
-fn read(file: &Path) -> Result<Vec<u8>, String> {
-    fs::read(file).map_err(|error| format!("{}: {error}", file.display()))
 }

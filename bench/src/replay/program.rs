@@ -1,14 +1,12 @@
 //! The replay program: what each line of a script does, and what it prints.
 
 use super::line::{self, Command};
-use crate::call::{Call, NO_CUT};
-use crate::handwritten::layout::{Control, CONTROL_PLACE};
-use crate::handwritten::{HandWritten, Registers};
+use crate::call::NO_CUT;
+use crate::handwritten::layout::Control;
+use crate::handwritten::Registers;
 use crate::interface::{name_of, Answer, OK};
+use crate::memories::Loom;
 use crate::sizes::Sizes;
-
-/// What volatile memory holds once it is lost: any words.
-const LOST: u64 = u64::MAX;
 
 struct Program {
     /// None before the first line.
@@ -16,12 +14,6 @@ struct Program {
     /// The next call's.
     allowance: u32,
     output: String,
-}
-
-struct Loom {
-    board: Vec<u64>,
-    work: Vec<u64>,
-    registers: Registers,
 }
 
 enum Then {
@@ -60,7 +52,8 @@ impl Program {
             }
             (Command::Make(call), Some(loom)) => {
                 self.allowance = NO_CUT;
-                self.output += &loom.obey(char::from(line[0]), call);
+                let answer = loom.make(call);
+                self.output += &output_line(char::from(line[0]), answer, loom);
                 Some(Then::GoOn)
             }
             _ => None,
@@ -69,16 +62,8 @@ impl Program {
 
     /// Format and power-up: the line is power-up's, or format's where that refuses. A refusal is the end.
     fn start(&mut self, sizes: Sizes) -> Then {
-        let mut loom = Loom {
-            board: vec![0; sizes.board_words()],
-            work: vec![LOST; sizes.work_words()],
-            registers: Registers::default(),
-        };
-        let mut answer = loom.make(sizes.format());
-        if answer.number == OK {
-            answer = loom.make(Call::PowerUp { allowance: NO_CUT });
-        }
-        self.output += &loom.line('n', answer);
+        let (loom, answer) = Loom::wake(sizes);
+        self.output += &output_line('n', answer, &loom);
         self.loom = Some(loom);
         match answer.number {
             OK => Then::GoOn,
@@ -87,27 +72,11 @@ impl Program {
     }
 }
 
-impl Loom {
-    /// Makes a call and gives its line.
-    fn obey(&mut self, letter: char, call: Call) -> String {
-        if matches!(call, Call::PowerUp { .. }) {
-            self.work.fill(LOST);
-            self.registers = Registers::default();
-        }
-        let answer = self.make(call);
-        self.line(letter, answer)
-    }
-
-    fn make(&mut self, call: Call) -> Answer {
-        call.make::<HandWritten>(&mut self.board, &mut self.work, &mut self.registers)
-    }
-
-    /// Letter, name, value, stores, s, P, log length, b.
-    fn line(&self, letter: char, answer: Answer) -> String {
-        let Answer { number, value, stores } = answer;
-        let Registers { epoch, buffered, .. } = self.registers;
-        let Control { persisted, length, .. } = Control::unpack(self.board[CONTROL_PLACE]);
-        let name = name_of(number);
-        format!("{letter} {name} {value} {stores} {epoch} {persisted} {length} {buffered}\n")
-    }
+/// Letter, name, value, stores, s, P, log length, b.
+fn output_line(letter: char, answer: Answer, loom: &Loom) -> String {
+    let Answer { number, value, stores } = answer;
+    let Registers { epoch, buffered, .. } = loom.registers();
+    let Control { persisted, length, .. } = loom.control();
+    let name = name_of(number);
+    format!("{letter} {name} {value} {stores} {epoch} {persisted} {length} {buffered}\n")
 }

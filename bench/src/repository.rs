@@ -1,0 +1,30 @@
+//! The repository's files.
+
+use std::collections::BTreeSet;
+use std::fs;
+use std::path::{Path, PathBuf};
+
+/// The repository's root folder is above this package's.
+const ROOT: &str = concat!(env!("CARGO_MANIFEST_DIR"), "/..");
+
+pub fn path_of(name: &str) -> PathBuf {
+    Path::new(ROOT).join(name)
+}
+
+/// The names of a folder's files with that extension, without it.
+pub fn names_with(folder: &str, extension: &str) -> Result<BTreeSet<String>, String> {
+    let told = |error: std::io::Error| format!("{folder}: {error}");
+    let mut names = BTreeSet::new();
+    for file in fs::read_dir(path_of(folder)).map_err(told)? {
+        let path = file.map_err(told)?.path();
+        if path.extension().is_some_and(|its| its == extension) {
+            let name = path.file_stem().unwrap_or_default();
+            names.insert(name.to_string_lossy().into_owned());
+        }
+    }
+    Ok(names)
+}
+
+pub fn read(file: &Path) -> Result<Vec<u8>, String> {
+    fs::read(file).map_err(|error| format!("{}: {error}", file.display()))
+}
