@@ -9,9 +9,9 @@ pub struct Answer {
 }
 
 /// The paper's numbers and their names.
-pub const NAMES: [(u64, &str); 13] = [
+pub const NAMES: [(u64, &str); 14] = [
     (OK, "ok"),
-    (1, "shape"),
+    (SHAPE, "shape"),
     (2, "work"),
     (3, "entry"),
     (4, "regs"),
@@ -23,9 +23,13 @@ pub const NAMES: [(u64, &str); 13] = [
     (10, "last"),
     (11, "none"),
     (12, "cut"),
+    (TRACE, "trace"),
 ];
 
 pub const OK: u64 = 0;
+pub const SHAPE: u64 = 1;
+/// A record of a trace that breaks its layout or ends early, or what has no place in one.
+pub const TRACE: u64 = 13;
 
 pub fn name_of(number: u64) -> &'static str {
     NAMES

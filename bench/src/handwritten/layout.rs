@@ -270,3 +270,30 @@ impl SlotWord {
         self.is_valid() && self.address() == address
     }
 }
+
+/// The first word of a record: kind 3, address 16, zero 45.
+#[derive(Clone, Copy, Debug, PartialEq, Eq)]
+pub struct RecordHead {
+    pub kind: u64,
+    pub address: u64,
+}
+
+impl RecordHead {
+    const ZERO_BITS: u32 = 45;
+    const KIND_SHIFT: u32 = Self::ZERO_BITS + ADDRESS_BITS;
+
+    #[inline]
+    pub fn pack(self) -> u64 {
+        self.kind << Self::KIND_SHIFT | self.address << Self::ZERO_BITS
+    }
+
+    /// None where a bit that has to be zero is not.
+    #[inline]
+    pub fn unpack(word: u64) -> Option<Self> {
+        let head = RecordHead {
+            kind: word >> Self::KIND_SHIFT,
+            address: word >> Self::ZERO_BITS & LAST_ADDRESS,
+        };
+        (word & ones(Self::ZERO_BITS) == 0).then_some(head)
+    }
+}
