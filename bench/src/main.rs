@@ -13,6 +13,7 @@ mod random;
 mod replay;
 mod repository;
 mod sizes;
+mod trace;
 
 use std::process::ExitCode;
 
@@ -31,6 +32,8 @@ picl-bench scripts
     replay every script of the repository over the hand-written Rust and compare with its expected output
 picl-bench expected SCRIPT
     what the replay of one script prints
+picl-bench traces [--write]
+    hold every stored trace, and what it must print, to the hand-written Rust; or write them anew
 picl-bench order play
     play a history, for a tool that records stores; prints where board and mark are
 picl-bench order check PLACES RECORD
@@ -60,6 +63,7 @@ fn run(words: &[String]) -> Result<(), String> {
         "order" => run_order(flags),
         "scripts" => replay::compare_with_stored(),
         "expected" => run_expected(flags),
+        "traces" => run_traces(flags),
         _ => Err(USAGE.to_string()),
     }
 }
@@ -109,6 +113,14 @@ fn run_order(flags: &[String]) -> Result<(), String> {
 fn run_expected(flags: &[String]) -> Result<(), String> {
     match flags {
         [script] => replay::print_output(script),
+        _ => Err(USAGE.to_string()),
+    }
+}
+
+fn run_traces(flags: &[String]) -> Result<(), String> {
+    match flags {
+        [] => trace::compare_with_stored(),
+        [write] if write == "--write" => trace::write_stored(),
         _ => Err(USAGE.to_string()),
     }
 }

@@ -28,3 +28,7 @@ pub fn names_with(folder: &str, extension: &str) -> Result<BTreeSet<String>, Str
 pub fn read(file: &Path) -> Result<Vec<u8>, String> {
     fs::read(file).map_err(|error| format!("{}: {error}", file.display()))
 }
+
+pub fn write(file: &Path, bytes: &[u8]) -> Result<(), String> {
+    fs::write(file, bytes).map_err(|error| format!("{}: {error}", file.display()))
+}

@@ -1,0 +1,182 @@
+//! Traces whose records all keep the layout.
+
+use super::file::trace_of;
+use crate::call::Call;
+use crate::handwritten::layout::MOST_AHEAD;
+use crate::handwritten::record::RECORD_BYTES;
+use crate::random::Random;
+use crate::sizes::{Sizes, MOST_OF_THE_REPLAY};
+
+/// The sizes of the paper's listing, and of the traces that need no others.
+pub const SMALL: Sizes = sizes(4, 8, 2);
+
+const fn sizes(lines: u64, entries: u64, slots: u64) -> Sizes {
+    Sizes { lines, entries, slots }
+}
+
+/// The trace of calls that all have a record.
+pub fn records(calls: &[Call]) -> Vec<u8> {
+    trace_of(calls).expect("each call of a stored trace has a record")
+}
+
+/// The calls of the paper's listing, but for its power-ups.
+pub fn listing() -> (Sizes, Vec<u8>) {
+    let calls = [
+        Call::store(0, 7),
+        Call::COMMIT,
+        Call::store(0, 9),
+        Call::COMMIT,
+        Call::SCAN,
+        Call::SCAN,
+        Call::SCAN,
+        Call::load(0),
+    ];
+    (SMALL, records(&calls))
+}
+
+/// Loads, stores, evictions and scans make 4, 8, 12 and 1 board stores. At the end line 0 is dirty in its slot, its undo
+/// entry is buffered, and the next scan call ends a pass: an eviction of 0, a load of 2 and a scan would make 4 each.
+pub fn every_kind() -> Vec<Call> {
+    vec![
+        Call::store(0, 7),
+        Call::load(2),
+        Call::store(1, 5),
+        Call::store(3, 6),
+        Call::evict(3),
+        Call::COMMIT,
+        Call::SCAN,
+        Call::SCAN,
+        Call::SCAN,
+        Call::store(1, 9),
+        Call::store(3, 4),
+        Call::evict(3),
+        Call::store(1, 2),
+        Call::evict(1),
+        Call::COMMIT,
+        Call::SCAN,
+        Call::SCAN,
+        Call::store(0, 3),
+    ]
+}
+
+/// Evictions of a dirty line with its entry buffered, of one not held, of a clean one, of one whose entry is flushed already,
+/// and of one whose slot holds another.
+pub fn evictions() -> (Sizes, Vec<u8>) {
+    let calls = [
+        Call::store(1, 7),
+        Call::evict(1),
+        Call::evict(1),
+        Call::load(1),
+        Call::evict(1),
+        Call::store(1, 5),
+        Call::store(2, 6),
+        Call::evict(2),
+        Call::evict(5),
+        Call::evict(1),
+    ];
+    (sizes(8, 8, 4), records(&calls))
+}
+
+/// Calls that are refused as address, room, waiting and none, and accepted ones after them.
+pub fn refused() -> (Sizes, Vec<u8>) {
+    let mut calls = vec![
+        Call::SCAN,
+        Call::load(4),
+        Call::store(65_535, 1),
+        Call::evict(4),
+        Call::store(0, 7),
+        Call::store(1, 8),
+        Call::store(2, 9),
+        Call::store(3, 1),
+    ];
+    calls.extend([Call::COMMIT; MOST_AHEAD as usize]);
+    calls.extend([
+        Call::evict(2),
+        Call::SCAN,
+        Call::SCAN,
+        Call::SCAN,
+        Call::COMMIT,
+        Call::COMMIT,
+        Call::store(2, 9),
+        Call::load(0),
+        Call::load(65_535),
+        Call::store(0, 2),
+        Call::evict(0),
+    ]);
+    (sizes(4, 3, 2), records(&calls))
+}
+
+/// For a board of one line, one entry and one slot. With more of any of them it has other totals.
+pub fn smallest() -> (Sizes, Vec<u8>) {
+    let calls = [
+        Call::store(0, 7),
+        Call::store(0, 8),
+        Call::COMMIT,
+        Call::store(0, 9),
+        Call::load(1),
+        Call::evict(0),
+        Call::SCAN,
+        Call::SCAN,
+        Call::SCAN,
+        Call::store(0, 9),
+        Call::load(0),
+    ];
+    (sizes(1, 1, 1), records(&calls))
+}
+
+/// Each entry, slot and last address of the largest board is used.
+pub fn largest() -> (Sizes, Vec<u8>) {
+    let Sizes { lines, entries, slots } = MOST_OF_THE_REPLAY;
+    let mut calls: Vec<Call> = (lines - entries..lines)
+        .map(|address| Call::store(address, address))
+        .collect();
+    calls.extend([
+        Call::store(0, 1),
+        Call::load(lines),
+        Call::load(lines - 1),
+        Call::evict(lines - 1),
+        Call::load(0),
+        Call::COMMIT,
+    ]);
+    calls.extend(vec![Call::SCAN; slots as usize + 1]);
+    calls.push(Call::store(0, 5));
+    (MOST_OF_THE_REPLAY, records(&calls))
+}
+
+/// 64 KiB, behind which a reader that counts in 16 bits begins anew.
+const LONG_BYTES: usize = 1 << 16;
+pub const LONG_SIZES: Sizes = sizes(40, 60, 8);
+const LONG_CALLS: usize = 5_000;
+const LONG_SEED: u64 = 1_013;
+
+/// A mixed history of more than 64 KiB.
+pub fn long() -> Vec<u8> {
+    let random = &mut Random::new(LONG_SEED);
+    let calls: Vec<Call> = (0..LONG_CALLS).map(|_| any_call(random)).collect();
+    records(&calls)
+}
+
+/// A third of the calls are stores, and an epoch has about as many scan calls as persist one.
+fn any_call(random: &mut Random) -> Call {
+    // Now and then one that the board does not have.
+    let address = random.below(LONG_SIZES.lines + 1);
+    match random.below(100) {
+        0..34 => Call::store(address, random.any_width()),
+        34..58 => Call::load(address),
+        58..68 => Call::evict(address),
+        68..97 => Call::SCAN,
+        _ => Call::COMMIT,
+    }
+}
+
+/// The first 64 KiB of the long history.
+pub fn first_64_kib() -> Vec<u8> {
+    long()[..LONG_BYTES].to_vec()
+}
+
+/// The first 64 KiB of the long history, and less than a record more.
+pub fn part_after_64_kib() -> Vec<u8> {
+    const PART: usize = 7;
+    const { assert!(PART < RECORD_BYTES) };
+    long()[..LONG_BYTES + PART].to_vec()
+}
