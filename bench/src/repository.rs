@@ -32,3 +32,23 @@ pub fn read(file: &Path) -> Result<Vec<u8>, String> {
 pub fn write(file: &Path, bytes: &[u8]) -> Result<(), String> {
     fs::write(file, bytes).map_err(|error| format!("{}: {error}", file.display()))
 }
+
+/// The lines of a text, with their line feeds.
+fn lines(text: &[u8]) -> impl Iterator<Item = &[u8]> {
+    text.split_inclusive(|&byte| byte == b'\n')
+}
+
+/// The first line in which a text differs from what it should be.
+pub fn first_difference(text: &[u8], expected: &[u8]) -> String {
+    let same = lines(text).zip(lines(expected)).take_while(|(a, b)| a == b).count();
+    let line_of = |text| match lines(text).nth(same) {
+        Some(line) => format!("`{}`", line.escape_ascii()),
+        None => "nothing".to_string(),
+    };
+    format!(
+        "line {} is expected to be {}, and is {}",
+        same + 1,
+        line_of(expected),
+        line_of(text)
+    )
+}

@@ -5,7 +5,7 @@ mod line;
 mod program;
 mod stored;
 
-use crate::repository::read;
+use crate::repository::{first_difference, read};
 use std::io::{self, Write};
 use std::path::Path;
 
@@ -22,29 +22,10 @@ pub fn compare_with_stored() -> Result<(), String> {
         let replayed = program::output_of(&read(&pair.script)?);
         let expected = read(&pair.expected)?;
         if replayed != expected {
-            return Err(format!("{}: {}", pair.name, difference(&replayed, &expected)));
+            let difference = first_difference(&replayed, &expected);
+            return Err(format!("{}: in the output {difference}", pair.name));
         }
     }
     println!("{} scripts replayed, each as expected", pairs.len());
     Ok(())
-}
-
-/// The lines of an output, with their line feeds.
-fn lines(output: &[u8]) -> impl Iterator<Item = &[u8]> {
-    output.split_inclusive(|&byte| byte == b'\n')
-}
-
-/// The first line in which two outputs differ.
-fn difference(replayed: &[u8], expected: &[u8]) -> String {
-    let same = lines(replayed).zip(lines(expected)).take_while(|(a, b)| a == b).count();
-    let text = |output| match lines(output).nth(same) {
-        Some(line) => format!("`{}`", line.escape_ascii()),
-        None => "nothing".to_string(),
-    };
-    format!(
-        "line {} of the output is expected to be {}, and is {}",
-        same + 1,
-        text(expected),
-        text(replayed)
-    )
 }

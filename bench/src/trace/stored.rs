@@ -1,7 +1,7 @@
 //! Where the repository keeps traces and the lines that they must print.
 
 use super::cases::{cases, traces, Trace, EXTENSION};
-use crate::repository::{names_with, path_of, read, write};
+use crate::repository::{first_difference, names_with, path_of, read, write};
 use std::collections::BTreeSet;
 
 const FOLDER: &str = "crates/loomtrace/data";
@@ -30,7 +30,8 @@ pub fn compare_all() -> Result<usize, String> {
     let made = table_of(&traces);
     let stored = read(&path_of(FOLDER).join(TABLE))?;
     if stored != made.as_bytes() {
-        return Err(table_difference(&String::from_utf8_lossy(&stored), &made));
+        let difference = first_difference(&stored, made.as_bytes());
+        return Err(format!("{FOLDER}/{TABLE}: {difference}"));
     }
     Ok(made.lines().count())
 }
@@ -49,16 +50,4 @@ fn same_names(traces: &[Trace]) -> Result<(), String> {
         return Err(format!("{FOLDER}/{name}.{EXTENSION} is no trace that is run"));
     }
     Ok(())
-}
-
-/// The first line in which the stored table and the one that is made differ.
-fn table_difference(stored: &str, made: &str) -> String {
-    let same = stored.lines().zip(made.lines()).take_while(|(a, b)| a == b).count();
-    let text = |table: &str| table.lines().nth(same).unwrap_or("(nothing)").to_string();
-    format!(
-        "{FOLDER}/{TABLE}: line {} should be\n{}\nand is\n{}",
-        same + 1,
-        text(made),
-        text(stored)
-    )
 }
