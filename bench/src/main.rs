@@ -34,6 +34,8 @@ picl-bench expected SCRIPT
     what the replay of one script prints
 picl-bench traces [--write]
     hold every stored trace, and what it must print, to the hand-written Rust; or write them anew
+picl-bench trace FILE [EPOCHS]
+    write the loom's work as a trace; prints what its run must print, then the board stores by kind
 picl-bench order play
     play a history, for a tool that records stores; prints where board and mark are
 picl-bench order check PLACES RECORD
@@ -64,6 +66,7 @@ fn run(words: &[String]) -> Result<(), String> {
         "scripts" => replay::compare_with_stored(),
         "expected" => run_expected(flags),
         "traces" => run_traces(flags),
+        "trace" => run_trace(flags),
         _ => Err(USAGE.to_string()),
     }
 }
@@ -121,6 +124,14 @@ fn run_traces(flags: &[String]) -> Result<(), String> {
     match flags {
         [] => trace::compare_with_stored(),
         [write] if write == "--write" => trace::write_stored(),
+        _ => Err(USAGE.to_string()),
+    }
+}
+
+fn run_trace(flags: &[String]) -> Result<(), String> {
+    match flags {
+        [file] => trace::write_trace(file, trace::DEFAULT_EPOCHS),
+        [file, epochs] => trace::write_trace(file, number(epochs)?),
         _ => Err(USAGE.to_string()),
     }
 }

@@ -41,12 +41,22 @@ impl Order {
         match self {
             Order::Scattered => random.pick(lines),
             Order::ByPicks => {
-                let pick = turn * PICKS_PER_EPOCH / STORES_PER_EPOCH;
-                let lines_of_a_pick = LINES_OF_A_LOOM / PICKS_PER_EPOCH;
-                lines[pick * lines_of_a_pick + turn % lines_of_a_pick]
+                let lines = lines_of_pick(lines, pick_of(turn));
+                lines[turn % lines.len()]
             }
         }
     }
+}
+
+/// The pick in which a turn of an epoch comes.
+pub fn pick_of(turn: usize) -> usize {
+    turn * PICKS_PER_EPOCH / STORES_PER_EPOCH
+}
+
+/// The lines that a pick works on. Each epoch has the same picks.
+pub fn lines_of_pick(lines: &[u64], pick: usize) -> &[u64] {
+    let count = lines.len() / PICKS_PER_EPOCH;
+    &lines[pick % PICKS_PER_EPOCH * count..][..count]
 }
 
 /// What an epoch's calls are made of.

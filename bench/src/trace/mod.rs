@@ -5,10 +5,16 @@ mod broken;
 mod cases;
 mod file;
 mod histories;
+mod loom;
 mod run;
 mod stored;
 #[cfg(test)]
 mod tests;
+
+pub use loom::write_trace;
+
+/// The epochs of a trace of the loom's work, where nobody asks for others.
+pub const DEFAULT_EPOCHS: u64 = 20;
 
 /// Writes the repository's traces, and what they must print, anew.
 pub fn write_stored() -> Result<(), String> {

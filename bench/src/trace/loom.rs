@@ -1,0 +1,115 @@
+//! The loom's work as a trace: by picks, on the replay's largest board.
+
+use super::file::trace_of;
+use super::run::{Outcome, Run, Totals};
+use crate::call::Call;
+use crate::interface::{name_of, OK};
+use crate::loom::workload::{lines_of_pick, pick_of, Order, Work, STORES_PER_EPOCH};
+use crate::random::Random;
+use crate::repository::write;
+use crate::sizes::{Sizes, MOST_OF_THE_REPLAY};
+use std::path::Path;
+
+const SIZES: Sizes = MOST_OF_THE_REPLAY;
+const SEED: u64 = 2_600_400;
+const NONE: u64 = 11;
+
+/// Writes so many epochs as a trace, and prints how its run ends and what each kind of call has stored.
+pub fn write_trace(file: &str, epochs: u64) -> Result<(), String> {
+    if epochs == 0 {
+        return Err("the loom's work is one epoch or more".to_string());
+    }
+    let calls = calls_of_epochs(epochs);
+    let outcome = outcome_of(&calls)?;
+    write(Path::new(file), &trace_of(&calls)?)?;
+    println!("{outcome}\n");
+    println!("{} calls in {epochs} epochs\n", calls.len());
+    print_stores(outcome.totals, epochs);
+    Ok(())
+}
+
+fn calls_of_epochs(epochs: u64) -> Vec<Call> {
+    let random = &mut Random::new(SEED);
+    let order = Order::ByPicks;
+    let lines = order.lines(random, SIZES.lines);
+    let work = Work {
+        order,
+        lines: &lines,
+        access: Call::load,
+        scans_per_epoch: SIZES.slots as usize + 1,
+    };
+    (0..epochs).flat_map(|_| epoch(work, random)).collect()
+}
+
+fn epoch(work: Work, random: &mut Random) -> Vec<Call> {
+    let mut calls = Vec::new();
+    for turn in 0..STORES_PER_EPOCH {
+        calls.extend(work.turn(random, turn));
+        if pick_of(turn + 1) != pick_of(turn) {
+            calls.extend(change_of_picks(work.lines, pick_of(turn)));
+        }
+    }
+    calls.push(Call::COMMIT);
+    calls
+}
+
+/// The controller reads the lines of the next pick, and then gives back those of the one that is done, for which it has no
+/// use before the next epoch. Some of these are in the way of the others: so loads make board stores, and evictions the rest.
+fn change_of_picks(lines: &[u64], done: usize) -> impl Iterator<Item = Call> + '_ {
+    let loads = lines_of_pick(lines, done + 1).iter().copied().map(Call::load);
+    let evictions = lines_of_pick(lines, done).iter().copied().map(Call::evict);
+    loads.chain(evictions)
+}
+
+/// Makes the calls. Any refusal but that of a scan when no epoch waits is a fault of the work.
+fn outcome_of(calls: &[Call]) -> Result<Outcome, String> {
+    let mut run = Run::start(SIZES).map_err(|outcome| format!("the board does not wake: {outcome}"))?;
+    for &call in calls {
+        run.make(call);
+    }
+    let outcome = run.end(OK);
+    match outcome.answered.iter().find(|&&number| number != OK && number != NONE) {
+        Some(&number) => Err(format!("a call of the loom answered {number} {}", name_of(number))),
+        None => Ok(outcome),
+    }
+}
+
+fn print_stores(totals: Totals, epochs: u64) {
+    let Totals {
+        loads,
+        stores,
+        evictions,
+        scans,
+    } = totals;
+    let rows = [
+        ("loads", loads),
+        ("stores", stores),
+        ("evictions", evictions),
+        ("scans", scans),
+        ("all", loads + stores + evictions + scans),
+    ];
+    println!("{:<24}{:>10}{:>10}", "board stores made by", "in all", "an epoch");
+    for (kind, total) in rows {
+        println!("{kind:<24}{total:>10}{:>10.1}", total as f64 / epochs as f64);
+    }
+}
+
+#[cfg(test)]
+mod tests {
+    use super::super::run::run;
+    use super::*;
+
+    #[test]
+    fn the_trace_runs_as_the_calls_do_and_every_kind_stores() {
+        let calls = calls_of_epochs(3);
+        let outcome = outcome_of(&calls).unwrap();
+        let Totals {
+            loads,
+            stores,
+            evictions,
+            scans,
+        } = outcome.totals;
+        assert!([loads, stores, evictions, scans].iter().all(|&total| total > 0));
+        assert_eq!(run(SIZES, Some(&trace_of(&calls).unwrap())), outcome);
+    }
+}
