@@ -36,6 +36,8 @@ picl-bench traces [--write]
     hold every stored trace, and what it must print, to the hand-written Rust; or write them anew
 picl-bench trace FILE [EPOCHS]
     write the loom's work as a trace; prints what its run must print, then the board stores by kind
+picl-bench pace TRACE SCRIPT
+    write a million calls of the loom as a trace and as a script; prints what the trace's run must print, and their number
 picl-bench order play
     play a history, for a tool that records stores; prints where board and mark are
 picl-bench order check PLACES RECORD
@@ -67,6 +69,7 @@ fn run(words: &[String]) -> Result<(), String> {
         "expected" => run_expected(flags),
         "traces" => run_traces(flags),
         "trace" => run_trace(flags),
+        "pace" => run_pace(flags),
         _ => Err(USAGE.to_string()),
     }
 }
@@ -132,6 +135,13 @@ fn run_trace(flags: &[String]) -> Result<(), String> {
     match flags {
         [file] => trace::write_trace(file, trace::DEFAULT_EPOCHS),
         [file, epochs] => trace::write_trace(file, number(epochs)?),
+        _ => Err(USAGE.to_string()),
+    }
+}
+
+fn run_pace(flags: &[String]) -> Result<(), String> {
+    match flags {
+        [trace, script] => trace::write_timed(trace, script),
         _ => Err(USAGE.to_string()),
     }
 }

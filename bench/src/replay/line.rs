@@ -42,6 +42,19 @@ pub fn read(line: &[u8], allowance: u32) -> Option<Command> {
     Some(Command::Make(call))
 }
 
+/// The line that makes a call, where there is one for it.
+pub fn line_of(call: Call) -> Option<String> {
+    match call {
+        Call::Store { address, data, .. } => Some(format!("s {address} {data}")),
+        Call::Load { address, .. } => Some(format!("l {address}")),
+        Call::Evict { address, .. } => Some(format!("e {address}")),
+        Call::Commit { .. } => Some("c".to_string()),
+        Call::Scan { .. } => Some("a".to_string()),
+        Call::PowerUp { .. } => Some("p".to_string()),
+        Call::Format { .. } | Call::Tally => None,
+    }
+}
+
 /// One decimal digit or more, of any number, with a value below 2^64.
 fn number(word: &[u8]) -> Option<u64> {
     if word.is_empty() {
@@ -60,6 +73,7 @@ fn start(sizes: Sizes) -> Option<Command> {
 #[cfg(test)]
 mod tests {
     use super::*;
+    use crate::call::NO_CUT;
     use crate::sizes::MOST_OF_THE_REPLAY;
 
     fn lines(script: &[u8]) -> Vec<&[u8]> {
@@ -110,6 +124,22 @@ mod tests {
         assert_eq!(read(b"n 2048 1024 64", 0), Some(Command::Start(MOST_OF_THE_REPLAY)));
         for line in [&b"n 2049 1 1"[..], b"n 1 1025 1", b"n 1 1 65"] {
             assert_eq!(read(line, 0), None);
+        }
+    }
+
+    #[test]
+    fn the_line_of_a_call_makes_that_call() {
+        let calls = [
+            Call::store(3, u64::MAX),
+            Call::load(3),
+            Call::evict(3),
+            Call::COMMIT,
+            Call::SCAN,
+            Call::POWER_UP,
+        ];
+        for call in calls {
+            let line = line_of(call).unwrap();
+            assert_eq!(read(line.as_bytes(), NO_CUT), Some(Command::Make(call)), "{line}");
         }
     }
 }

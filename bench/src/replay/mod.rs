@@ -6,6 +6,7 @@ mod program;
 mod stored;
 
 use crate::repository::{first_difference, read};
+pub use line::line_of;
 use std::io::{self, Write};
 use std::path::Path;
 

@@ -6,6 +6,7 @@ use crate::call::Call;
 use crate::interface::{name_of, OK};
 use crate::loom::workload::{lines_of_pick, pick_of, Order, Work, STORES_PER_EPOCH};
 use crate::random::Random;
+use crate::replay::line_of;
 use crate::repository::write;
 use crate::sizes::{Sizes, MOST_OF_THE_REPLAY};
 use std::path::Path;
@@ -13,6 +14,9 @@ use std::path::Path;
 const SIZES: Sizes = MOST_OF_THE_REPLAY;
 const SEED: u64 = 2_600_400;
 const NONE: u64 = 11;
+
+/// The calls of a trace that is long enough to be timed, at least.
+const TIMED_CALLS: usize = 1_000_000;
 
 /// Writes so many epochs as a trace, and prints how its run ends and what each kind of call has stored.
 pub fn write_trace(file: &str, epochs: u64) -> Result<(), String> {
@@ -25,6 +29,18 @@ pub fn write_trace(file: &str, epochs: u64) -> Result<(), String> {
     println!("{outcome}\n");
     println!("{} calls in {epochs} epochs\n", calls.len());
     print_stores(outcome.totals, epochs);
+    Ok(())
+}
+
+/// Writes the same calls as a trace and as a script, enough of them to be timed, and prints how the trace's run ends, then
+/// the number of calls.
+pub fn write_timed(trace: &str, script: &str) -> Result<(), String> {
+    let epochs = TIMED_CALLS.div_ceil(calls_of_epochs(1).len());
+    let calls = calls_of_epochs(epochs as u64);
+    let outcome = outcome_of(&calls)?;
+    write(Path::new(trace), &trace_of(&calls)?)?;
+    write(Path::new(script), script_of(&calls)?.as_bytes())?;
+    println!("{outcome}\n{}", calls.len());
     Ok(())
 }
 
@@ -72,6 +88,17 @@ fn outcome_of(calls: &[Call]) -> Result<Outcome, String> {
         Some(&number) => Err(format!("a call of the loom answered {number} {}", name_of(number))),
         None => Ok(outcome),
     }
+}
+
+fn script_of(calls: &[Call]) -> Result<String, String> {
+    let Sizes { lines, entries, slots } = SIZES;
+    let mut script = format!("n {lines} {entries} {slots}\n");
+    for &call in calls {
+        let line = line_of(call).ok_or_else(|| format!("{call}: no line"))?;
+        script.push_str(&line);
+        script.push('\n');
+    }
+    Ok(script)
 }
 
 fn print_stores(totals: Totals, epochs: u64) {

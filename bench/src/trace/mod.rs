@@ -11,7 +11,7 @@ mod stored;
 #[cfg(test)]
 mod tests;
 
-pub use loom::write_trace;
+pub use loom::{write_timed, write_trace};
 
 /// The epochs of a trace of the loom's work, where nobody asks for others.
 pub const DEFAULT_EPOCHS: u64 = 20;
