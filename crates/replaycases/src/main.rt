@@ -96,8 +96,8 @@ fn file_name(name: &[u8], suffix: &[u8], path: &mut [u8]) -> usize
     if path.len() < NAME_BYTES + SUFFIX_BYTES {
         return 0;
     }
-    let end = transcript::put(path, 0, name);
-    transcript::put(path, end, suffix)
+    let end = text::put(path, 0, name);
+    text::put(path, end, suffix)
 }
 
 fn run_case(name: &[u8]) -> u64

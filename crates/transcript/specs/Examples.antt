@@ -1,23 +1,12 @@
--- Texts that the definitions give: numbers at the bounds, and two lines of the paper's worked replay.
+-- Two lines of the paper's worked replay, as the definitions give them.
 use mathlib.Core.Path.{_≡_, refl}
 use Rattle.base.specs.Walk.{firstFrom}
 use Rattle.status.specs.Names.{bytes}
 use Rattle.status.specs.declared.Status.the-variants as status
 use Rattle.replay.specs.declared.Line.{Line}
 use Rattle.replay.specs.declared.Reply.the-variants.{Bad}
-use Rattle.transcript.specs.Text.{placesOf, decimalOf, numbersText, nameText, lineText, badText, replyText}
-
-pub smallest : decimalOf 0 ≡ bytes "0"
-unfolding decimalOf placesOf firstFrom
-smallest = refl
-
-pub two-digits : decimalOf 10 ≡ bytes "10"
-unfolding decimalOf placesOf firstFrom
-two-digits = refl
-
-pub largest : decimalOf 18446744073709551615 ≡ bytes "18446744073709551615"
-unfolding decimalOf placesOf firstFrom
-largest = refl
+use Rattle.text.specs.Text.{placesOf, decimalOf, numbersText, nameText}
+use Rattle.transcript.specs.Text.{lineText, badText, replyText}
 
 abbrev persisting : Line
 persisting = record { status = status.Ok; value = 1; stores = 6; epoch = 3; persisted = 1; length = 1; buffered = 0 }

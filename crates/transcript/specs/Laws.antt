@@ -21,7 +21,8 @@ use Rattle.replay.specs.Sizes.{new-sized, performed-sized}
 use Rattle.transcript.specs.declared.Session.{Session}
 use Rattle.transcript.specs.declared.Fed.{Fed}
 use Rattle.transcript.specs.Text.{replyText}
-use Rattle.transcript.specs.Printing.{longest, Prints}
+use Rattle.text.specs.Printing.{Prints}
+use Rattle.transcript.specs.Printing.{longest}
 use Rattle.transcript.specs.Session.{newSession, emptiedSession, Turn, resting, reading, closed, ends, lineTurn, feedTurn, closing, finishTurn}
 use Rattle.transcript.specs.Session.{roomy, bytesTurn, takenOf, Ready, Turns, Feeds}
 

@@ -1,200 +1,38 @@
--- Printing into a buffer, and the laws of it that the proofs cite.
-use Prim.Native.Nat.{ℕ, zero, suc, _+_, _-_, _*_, _^_, _<_, _≤_}
-use mathlib.Core.Path.{_≡_, refl, sym, ap, _∙_}
-use mathlib.Core.Bool.{Bool, true, false}
-use mathlib.Core.List.{List, [], _∷_, _++_, append-assoc, append-nil}
-use borrow.Author.Tests.{ltb-true, ltb-false, le-leb, lt-leb}
-use native.Mathlib.Nat.{pow-le-pow-right}
-use native.Mathlib.Numerals.{add-one}
+-- What a command prints, put into a buffer: the laws that the proofs cite.
+use Prim.Native.Nat.{ℕ, _*_}
+use mathlib.Core.Path.{_≡_, refl}
+use mathlib.Core.List.{List, [], _∷_}
 use native.Mathlib.Omega.{arith}
-use lib.Dec.{ltb, leb}
-use lib.ListN.{length, getD, set, take, length-append}
-use lib.Seq.{take-all, take-suc, take-suc-set, length-take-le, paste, paste-suc, take-paste}
-use Rattle.base.specs.Walk.{firstFrom}
-use Rattle.io.specs.Digits.{digits, Fewest}
-use Rattle.status.specs.declared.Name.{Name}
+use lib.ListN.{length}
 use Rattle.status.specs.declared.Status.{Status}
-use Rattle.status.specs.declared.Status.the-variants as status
-use Rattle.status.specs.Names.{rowOf, nameOf}
-use Rattle.status.specs.Numbers.{numberOf}
 use Rattle.replay.specs.declared.Line.{Line}
 use Rattle.replay.specs.declared.Reply.{Reply}
 use Rattle.replay.specs.declared.Reply.the-variants.{Quiet, Said, Last, Bad}
-use Rattle.transcript.specs.Text.{placesOf, decimalOf, numbersText, nameText, headText, numbersIn, lineText, badText, replyText}
+use Rattle.text.specs.Text.{spaceByte, lineFeed, numberBytes, numbersText, nameText}
+use Rattle.text.specs.Printing.{Prints, prints-none, prints-as, prints-then}
+use Rattle.status.specs.Names.{rowBytes}
+use Rattle.transcript.specs.Text.{headText, numbersIn, lineText, badText, replyText}
 
 -- the most bytes that a command prints: letter, space and name, six numbers with a space before each, and the line feed
 abbrev pub longest : ℕ
 longest = 137
 
--- A text of at most so many bytes was put into a buffer, from `at` on, and what stood before it is kept.
-pub record Prints (most : ℕ) (out : List ℕ) (at : ℕ) (text : List ℕ) (out′ : List ℕ) (r : ℕ) : Type 0 where
-  pub short : length text ≤ most
-  pub end : r ≡ at + length text
-  pub shown : take r out′ ≡ take at out ++ text
-
-pub prints-none : (most : ℕ) (out : List ℕ) (at : ℕ) → Prints most out at [] out at
-prints-none most out at = record { short = omega arith; end = omega arith; shown = sym (append-nil (take at out)) }
-
--- the same text, by another name, within another bound
-pub prints-as : {m n : ℕ} {out out′ : List ℕ} {at r : ℕ} {t u : List ℕ} → t ≡ u → m ≤ n → Prints m out at t out′ r → Prints n out at u out′ r
-prints-as e h p = rw (← e) (record { short = omega (arith, p .short, h); end = p .end; shown = p .shown })
-
-pub prints-then : {m n : ℕ} {out out′ out″ : List ℕ} {at q r : ℕ} {t u : List ℕ} → Prints m out at t out′ q → Prints n out′ q u out″ r
-    → Prints (m + n) out at (t ++ u) out″ r
-prints-then {out = out} {at = at} {t = t} {u = u} p s =
-    record {
-      short = rw length-append (omega (arith, p .short, s .short));
-      end = rw length-append (omega (arith, p .end, s .end));
-      shown = s .shown ∙ ap (λ (x : List ℕ). x ++ u) (p .shown) ∙ append-assoc (take at out) t u;
-    }
-
-pub prints-byte : (out : List ℕ) (at b : ℕ) → at < length out → Prints 1 out at (b ∷ []) (set out at b) (at + 1)
-prints-byte out at b h = record { short = omega arith; end = omega arith; shown = rw add-one (take-suc-set out at b h) }
-
--- ── a text that is copied byte by byte ──
-
-pub copy-next : (out out′ text : List ℕ) (at i : ℕ) → out′ ≡ paste out at text i → i < length text → at + length text ≤ length out
-    → set out′ (at + i) (getD text i 0) ≡ paste out at text (i + 1)
-copy-next out out′ text at i e h g = rw (add-one, e) (paste-suc out at text i 0 (omega (arith, h, g)) h)
-
-pub copy-done : (out out′ text : List ℕ) (at i : ℕ) → out′ ≡ paste out at text i → length text ≤ i → i ≤ length text → at + length text ≤ length out
-    → Prints (length text) out at text out′ (at + length text)
-copy-done out out′ text at i e h g f =
-    let all : i ≡ length text = omega (arith, h, g) in
-    let is = rw all at e in
-    record {
-      short = omega arith;
-      end = refl;
-      shown = rw is (take-paste out at text (length text) (omega (arith, f)) (omega arith)
-          ∙ ap (λ (x : List ℕ). take at out ++ x) (take-all (length text) text (omega arith)));
-    }
-
--- ── a number ──
-
-digits-most : (n k : ℕ) → Fewest 10 1 n k → n < 2 ^ 64 → k ≤ 20
-digits-most n k f h = go (ltb 20 k) refl
-  where
-    go : (t : Bool) → ltb 20 k ≡ t → k ≤ 20
-    go true e =
-        let g : 20 < k = ltb-true 20 k e in
-        let p : 10 ^ 20 ≤ 10 ^ (k - 1) = pow-le-pow-right {n = 10} (omega arith) {i = 20} {j = k - 1} (omega arith) in
-        let q : 10 ^ (k - 1) ≤ n = f .2 (omega arith) in
-        absurd (omega (arith, p, q, h))
-    go false e = ltb-false 20 k e
-
--- the first place where a test fails, d places on
-first-is : (f : ℕ → Bool) (d i k : ℕ) → ((j : ℕ) → i ≤ j → j < i + d → f j ≡ true) → f (i + d) ≡ false → d < k → firstFrom f i k ≡ i + d
-unfolding firstFrom
-first-is f d i zero p e h = absurd (omega arith)
-first-is f zero i (suc k) p e h = let z : i + 0 ≡ i = omega arith in rw ((rw z at e), z)
-first-is f (suc d) i (suc k) p e h =
-    let s : i + suc d ≡ suc i + d = omega arith in
-    rw (p i (omega arith) (omega arith), s) (first-is f d (suc i) k (λ j x y. p j (omega arith) (omega arith)) (rw s at e) (omega arith))
-
-places-is : (n k : ℕ) → Fewest 10 1 n k → n < 2 ^ 64 → placesOf n ≡ k
-unfolding placesOf
-places-is n k f h =
-    let m : k ≤ 20 = digits-most n k f h in
-    let s : 1 + (k - 1) ≡ k = omega (arith, f .0) in
-    first-is (λ j. leb (10 ^ j) n) (k - 1) 1 20 passed failed (omega (arith, m)) ∙ s
-  where
-    passed : (j : ℕ) → 1 ≤ j → j < 1 + (k - 1) → leb (10 ^ j) n ≡ true
-    passed j x y =
-        le-leb (10 ^ j) n (omega (arith, pow-le-pow-right {n = 10} (omega arith) {i = j} {j = k - 1} (omega arith), f .2 (omega arith)))
-
-    failed : leb (10 ^ (1 + (k - 1))) n ≡ false
-    failed = let s : 1 + (k - 1) ≡ k = omega (arith, f .0) in rw s (lt-leb (10 ^ k) n (f .1))
-
-pub decimal-fits : (n k at : ℕ) (text out : List ℕ) → Fewest 10 1 n k → k ≡ length (take k text) → n < 2 ^ 64 → at + 20 ≤ length out
-    → at + length (take k text) ≤ length out
-decimal-fits n k at text out f e h g = omega (arith, digits-most n k f h, e)
-
-pub decimal-printed : (n k at r : ℕ) (text out out′ : List ℕ) → Fewest 10 1 n k → k ≡ length (take k text) → take k text ≡ digits 10 k n → n < 2 ^ 64
-    → Prints (length (take k text)) out at (take k text) out′ r → Prints 20 out at (decimalOf n) out′ r
-unfolding decimalOf
-decimal-printed n k at r text out out′ f e d h p =
-    let m : length (take k text) ≤ 20 = omega (arith, digits-most n k f h, e) in
-    prints-as (d ∙ ap (λ (x : ℕ). digits 10 x n) (sym (places-is n k f h))) m p
-
--- ── numbers ──
-
-numbers-more : (ns : List ℕ) (n : ℕ) → numbersText (ns ++ (n ∷ [])) ≡ numbersText ns ++ ((32 ∷ []) ++ decimalOf n)
-unfolding numbersText
-numbers-more [] n = rw append-nil
-numbers-more (x ∷ ns) n =
-    ap (λ (t : List ℕ). 32 ∷ (decimalOf x ++ t)) (numbers-more ns n)
-    ∙ ap (λ (t : List ℕ). 32 ∷ t) (sym (append-assoc (decimalOf x) (numbersText ns) ((32 ∷ []) ++ decimalOf n)))
-
-pub numbers-start : (out numbers : List ℕ) (at : ℕ) → Prints 0 out at (numbersText (take 0 numbers)) out at
-unfolding numbersText
-numbers-start out numbers at = prints-none 0 out at
-
-pub numbers-next : (out out′ out″ out‴ numbers : List ℕ) (at i p q r : ℕ) → Prints (21 * i) out at (numbersText (take i numbers)) out′ p
-    → Prints 1 out′ p (32 ∷ []) out″ q → Prints 20 out″ q (decimalOf (getD numbers i 0)) out‴ r → i < length numbers
-    → Prints (21 * (i + 1)) out at (numbersText (take (i + 1) numbers)) out‴ r
-numbers-next out out′ out″ out‴ numbers at i p q r a b d h =
-    let is : numbersText (take (i + 1) numbers) ≡ numbersText (take i numbers) ++ ((32 ∷ []) ++ decimalOf (getD numbers i 0))
-    = rw (add-one, take-suc numbers i 0 h) (numbers-more (take i numbers) (getD numbers i 0)) in
-    prints-as (sym is) (omega arith) (prints-then a (prints-then b d))
-
-pub numbers-done : (out out′ numbers : List ℕ) (at i r : ℕ) → Prints (21 * i) out at (numbersText (take i numbers)) out′ r → length numbers ≤ i
-    → i ≤ length numbers → Prints (21 * length numbers) out at (numbersText numbers) out′ r
-numbers-done out out′ numbers at i r p h g =
-    prints-as (ap numbersText (take-all i numbers h)) (omega (arith, g)) p
-
--- ── a name ──
-
--- the row of a name: the bytes of it that are the name's
-record NameFits (s : Status) (m : Name) : Type 0 where
-  part : m .length ≤ length (m .row)
-  most : m .length ≤ 8
-  text : take (m .length) (m .row) ≡ nameText s
-
-name-row : (s : Status) → NameFits s (nameOf (numberOf s))
-unfolding nameOf rowOf nameText
-name-row status.Ok = record { part = omega arith; most = omega arith; text = refl }
-name-row status.Shape = record { part = omega arith; most = omega arith; text = refl }
-name-row status.Work = record { part = omega arith; most = omega arith; text = refl }
-name-row status.Entry = record { part = omega arith; most = omega arith; text = refl }
-name-row status.Regs = record { part = omega arith; most = omega arith; text = refl }
-name-row status.Address = record { part = omega arith; most = omega arith; text = refl }
-name-row status.Slot = record { part = omega arith; most = omega arith; text = refl }
-name-row status.Buffer = record { part = omega arith; most = omega arith; text = refl }
-name-row status.Room = record { part = omega arith; most = omega arith; text = refl }
-name-row status.Waiting = record { part = omega arith; most = omega arith; text = refl }
-name-row status.Last = record { part = omega arith; most = omega arith; text = refl }
-name-row status.None = record { part = omega arith; most = omega arith; text = refl }
-name-row status.Cut = record { part = omega arith; most = omega arith; text = refl }
-name-row status.Trace = record { part = omega arith; most = omega arith; text = refl }
-
-module _ (s : Status) (n : ℕ) (m : Name) (e : n ≡ numberOf s) (g : m ≡ nameOf n) where
-  name-fits : NameFits s m
-  name-fits = rw (g, e) (name-row s)
-
-  pub name-part : m .length ≤ length (m .row)
-  name-part = name-fits .part
-
-  pub name-taken : length (take (m .length - 0) (m .row)) ≤ 8
-  name-taken = omega (arith, length-take-le (m .length - 0) (m .row) (omega (arith, name-fits .part)), name-fits .most)
-
-  pub head-printed : (letter at p q r : ℕ) (out out′ out″ out‴ : List ℕ) → Prints 1 out at (letter ∷ []) out′ p → Prints 1 out′ p (32 ∷ []) out″ q
-      → Prints (length (take (m .length - 0) (m .row))) out″ q (take (m .length - 0) (m .row)) out‴ r → Prints 10 out at (headText letter s) out‴ r
-  head-printed letter at p q r out out′ out″ out‴ a b d =
-      let z : m .length - 0 ≡ m .length = omega arith in
-      let is : take (m .length - 0) (m .row) ≡ nameText s = rw z (name-fits .text) in
-      prints-then (prints-then a b) (prints-as is name-taken d)
+-- the letter, a space and the name
+pub head-printed : (letter at p q r : ℕ) (s : Status) (out out′ out″ out‴ : List ℕ) → Prints 1 out at (letter ∷ []) out′ p
+    → Prints 1 out′ p (spaceByte ∷ []) out″ q → Prints rowBytes out″ q (nameText s) out‴ r → Prints 10 out at (headText letter s) out‴ r
+head-printed letter at p q r s out out′ out″ out‴ a b d = prints-then (prints-then a b) d
 
 -- ── a line ──
 
 module _ (out out′ out″ out‴ : List ℕ) (at p q r : ℕ) where
   pub line-printed : (letter : ℕ) (l : Line) → Prints 10 out at (headText letter (l .status)) out′ p
-      → Prints (21 * length (numbersIn l)) out′ p (numbersText (numbersIn l)) out″ q → Prints 1 out″ q (10 ∷ []) out‴ r
+      → Prints (numberBytes * length (numbersIn l)) out′ p (numbersText (numbersIn l)) out″ q → Prints 1 out″ q (lineFeed ∷ []) out‴ r
       → Prints longest out at (lineText letter l) out‴ r
   unfolding lineText
   line-printed letter l a b d = prints-as refl (omega arith) (prints-then a (prints-then b d))
 
-  pub bad-printed : (number : ℕ) → Prints 1 out at (63 ∷ []) out′ p → Prints (21 * length (number ∷ [])) out′ p (numbersText (number ∷ [])) out″ q
-      → Prints 1 out″ q (10 ∷ []) out‴ r → Prints longest out at (badText number) out‴ r
+  pub bad-printed : (number : ℕ) → Prints 1 out at (63 ∷ []) out′ p → Prints (numberBytes * length (number ∷ [])) out′ p (numbersText (number ∷ [])) out″ q
+      → Prints 1 out″ q (lineFeed ∷ []) out‴ r → Prints longest out at (badText number) out‴ r
   unfolding badText
   bad-printed number a b d = prints-as refl (omega arith) (prints-then a (prints-then b d))
 

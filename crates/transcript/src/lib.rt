@@ -4,8 +4,9 @@ ghost use Prim.Native.Nat.{_+_, _*_, _≤_, _<_};
 ghost use mathlib.Core.Path.{_≡_};
 ghost use mathlib.Core.List.{[], _∷_};
 ghost use lib.ListN.{length};
-ghost use Rattle.transcript.specs.Text.{decimalOf, numbersText, headText, lineText, badText, replyText};
-ghost use Rattle.transcript.specs.Printing.{longest, Prints};
+ghost use Rattle.text.specs.Printing.{Prints};
+ghost use Rattle.transcript.specs.Text.{headText, lineText, badText, replyText};
+ghost use Rattle.transcript.specs.Printing.{longest};
 ghost use Rattle.transcript.specs.Session.{newSession, emptiedSession, closed, ends, roomy, lineTurn, feedTurn, finishTurn, Ready, Turns, Feeds};
 ghost use Rattle.transcript.specs.Session.{reading as readOn};
 use replay::Bench;
@@ -13,11 +14,12 @@ use replay::Line;
 use replay::Reply;
 use script::Reader;
 use status::Status;
+use text::put_byte;
+use text::put_name;
+use text::put_numbers;
 
 // The most bytes of a line: letter, space and name, six numbers with a space before each, and the line feed.
 const LONGEST_LINE: usize = 137;
-
-const DIGITS: usize = 20;
 
 // A replay between two bytes of its script.
 pub struct Session {
@@ -38,62 +40,14 @@ pub struct Fed {
     pub taken: usize,
 }
 
-fn put_byte(out: &mut [u8], at: usize, byte: u8) -> usize
-    requires { ⌜ at < length (now out) ⌝ }
-    ensures { λ r. ⌜ Prints 1 (now (out .entry)) at (byte ∷ []) (now (out .exit)) r ⌝ }
-{
-    out[at] = byte;
-    at + 1
-}
-
-// Puts a text into a buffer from a place on, and answers the place behind it.
-pub fn put(out: &mut [u8], at: usize, text: &[u8]) -> usize
-    requires { ⌜ at + length (now text) ≤ length (now out) ⌝ }
-    ensures { λ r. ⌜ Prints (length (now (text .entry))) (now (out .entry)) at (now (text .entry)) (now (out .exit)) r ⌝ }
-{
-    let mut i = 0;
-    while i < text.len() {
-        out[at + i] = text[i];
-        i += 1;
-    }
-    at + text.len()
-}
-
-fn put_decimal(out: &mut [u8], at: usize, n: u64) -> usize
-    requires { ⌜ at + 20 ≤ length (now out) ⌝ }
-    ensures { λ r. ⌜ Prints 20 (now (out .entry)) at (decimalOf n) (now (out .exit)) r ⌝ }
-{
-    let mut digits = [0u8; DIGITS];
-    let count = io::decimal(n, &mut digits);
-    put(out, at, &digits[..count])
-}
-
-// Each number with a space before it.
-fn put_numbers(out: &mut [u8], at: usize, numbers: &[u64]) -> usize
-    requires { ⌜ at + 21 * length (now numbers) ≤ length (now out) ⌝ }
-    ensures { λ r. ⌜ Prints (21 * length (now (numbers .entry))) (now (out .entry)) at (numbersText (now (numbers .entry))) (now (out .exit)) r ⌝ }
-{
-    let mut end = at;
-    let mut i = 0;
-    while i < numbers.len() {
-        end = put_byte(out, end, b' ');
-        end = put_decimal(out, end, numbers[i]);
-        i += 1;
-    }
-    end
-}
-
 // The letter, a space and the name.
 fn put_head(out: &mut [u8], at: usize, letter: u8, status: Status) -> usize
     requires { ⌜ at + 10 ≤ length (now out) ⌝ }
     ensures { λ r. ⌜ Prints 10 (now (out .entry)) at (headText letter status) (now (out .exit)) r ⌝ }
 {
-    let name = status::name_of(status.number());
-    let row = name.row;
-    let count = name.length;
     let next = put_byte(out, at, letter);
     let start = put_byte(out, next, b' ');
-    put(out, start, &row[0..count])
+    put_name(out, start, status)
 }
 
 fn put_line(out: &mut [u8], at: usize, letter: u8, line: Line) -> usize

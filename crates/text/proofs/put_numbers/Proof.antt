@@ -2,14 +2,14 @@ use Prim.Native.Nat.{_*_, _≤_, _-_}
 use mathlib.Core.Path.{_≡_}
 use lib.ListN.{length, take}
 use borrow.Author.Needs.{needs}
-use Rattle.transcript.specs.Text.{numbersText}
-use Rattle.transcript.specs.Printing.{Prints, numbers-start, numbers-next, numbers-done}
-use Rattle.transcript.proofs.put_numbers.Statement.{statement}
-use Rattle.transcript.proofs.put_numbers.Tie as tie
+use Rattle.text.specs.Text.{numberBytes, numbersText}
+use Rattle.text.specs.Printing.{Prints, numbers-start, numbers-next, numbers-done}
+use Rattle.text.proofs.put_numbers.Statement.{statement}
+use Rattle.text.proofs.put_numbers.Tie as tie
 
 abbrev Inv-loop : tie.InvT-loop
 Inv-loop out₀ at numbers end₀ i₀ out end i =
-    (i ≤ length numbers) × (length out ≡ length out₀) × Prints (21 * i) out₀ at (numbersText (take i numbers)) out end
+    (i ≤ length numbers) × (length out ≡ length out₀) × Prints (numberBytes * i) out₀ at (numbersText (take i numbers)) out end
 
 abbrev μ-loop : tie.MeasureT-loop
 μ-loop out₀ at numbers end₀ i₀ out end i = length numbers - i

@@ -1,7 +1,7 @@
 use borrow.Author.Needs.{needs}
-use Rattle.transcript.specs.Printing.{decimal-fits, decimal-printed}
-use Rattle.transcript.proofs.put_decimal.Statement.{statement}
-use Rattle.transcript.proofs.put_decimal.Tie as tie
+use Rattle.text.specs.Printing.{decimal-fits, decimal-printed}
+use Rattle.text.proofs.put_decimal.Statement.{statement}
+use Rattle.text.proofs.put_decimal.Tie as tie
 
 decimal-requires : tie.Need-decimal-requires
 decimal-requires c κs = search needs

@@ -1,7 +1,7 @@
 use borrow.Author.Needs.{needs}
-use Rattle.transcript.specs.Printing.{prints-byte}
-use Rattle.transcript.proofs.put_byte.Statement.{statement}
-use Rattle.transcript.proofs.put_byte.Tie as tie
+use Rattle.text.specs.Printing.{prints-byte}
+use Rattle.text.proofs.put_byte.Statement.{statement}
+use Rattle.text.proofs.put_byte.Tie as tie
 
 slice-write-out : tie.Need-slice-write-out
 slice-write-out c = search needs

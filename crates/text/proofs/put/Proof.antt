@@ -3,9 +3,9 @@ use mathlib.Core.Path.{_≡_}
 use lib.ListN.{length}
 use lib.Seq.{paste, paste-zero}
 use borrow.Author.Needs.{needs}
-use Rattle.transcript.specs.Printing.{copy-next, copy-done}
-use Rattle.transcript.proofs.put.Statement.{statement}
-use Rattle.transcript.proofs.put.Tie as tie
+use Rattle.text.specs.Printing.{copy-next, copy-done}
+use Rattle.text.proofs.put.Statement.{statement}
+use Rattle.text.proofs.put.Tie as tie
 
 abbrev Inv-loop : tie.InvT-loop
 Inv-loop out₀ at text i₀ out i = (i ≤ length text) × (length out ≡ length out₀) × (out ≡ paste out₀ at text i)

@@ -1,0 +1,179 @@
+-- Printing into a buffer, and the laws of it that the proofs cite.
+use Prim.Native.Nat.{ℕ, zero, suc, _+_, _-_, _*_, _^_, _<_, _≤_}
+use Prim.Native.String as text
+use mathlib.Core.Path.{_≡_, refl, sym, ap, _∙_}
+use mathlib.Core.Bool.{Bool, true, false, _&&_}
+use mathlib.Core.List.{List, [], _∷_, _++_, append-assoc, append-nil}
+use borrow.Author.Tests.{ltb-true, ltb-false, leb-true, le-leb, lt-leb}
+use native.Mathlib.Nat.{pow-le-pow-right}
+use native.Mathlib.Numerals.{add-one}
+use native.Mathlib.Omega.{arith}
+use lib.Dec.{ltb, leb}
+use lib.ListN.{length, getD, set, take, length-append}
+use lib.Seq.{take-all, take-suc, take-suc-set, take-append-seam, length-take-le, paste, paste-suc, take-paste}
+use Rattle.base.specs.Tests.{and-left, and-right}
+use Rattle.base.specs.Walk.{firstFrom}
+use Rattle.io.specs.Digits.{digits, Fewest}
+use Rattle.status.specs.declared.Name.{Name}
+use Rattle.status.specs.declared.Status.{Status}
+use Rattle.status.specs.Names.{names, bytes, rowBytes, rowOf, nameOf}
+use Rattle.status.specs.Numbers.{numberOf}
+use Rattle.text.specs.Text.{spaceByte, mostDigits, numberBytes, placesOf, decimalOf, numbersText, nameText}
+
+-- A text of at most so many bytes was put into a buffer, from `at` on, and what stood before it is kept.
+pub record Prints (most : ℕ) (out : List ℕ) (at : ℕ) (text : List ℕ) (out′ : List ℕ) (r : ℕ) : Type 0 where
+  pub short : length text ≤ most
+  pub end : r ≡ at + length text
+  pub shown : take r out′ ≡ take at out ++ text
+
+pub prints-none : (most : ℕ) (out : List ℕ) (at : ℕ) → Prints most out at [] out at
+prints-none most out at = record { short = omega arith; end = omega arith; shown = sym (append-nil (take at out)) }
+
+-- the same text, by another name, within another bound
+pub prints-as : {m n : ℕ} {out out′ : List ℕ} {at r : ℕ} {t u : List ℕ} → t ≡ u → m ≤ n → Prints m out at t out′ r → Prints n out at u out′ r
+prints-as e h p = rw (← e) (record { short = omega (arith, p .short, h); end = p .end; shown = p .shown })
+
+pub prints-then : {m n : ℕ} {out out′ out″ : List ℕ} {at q r : ℕ} {t u : List ℕ} → Prints m out at t out′ q → Prints n out′ q u out″ r
+    → Prints (m + n) out at (t ++ u) out″ r
+prints-then {out = out} {at = at} {t = t} {u = u} p s =
+    record {
+      short = rw length-append (omega (arith, p .short, s .short));
+      end = rw length-append (omega (arith, p .end, s .end));
+      shown = s .shown ∙ ap (λ (x : List ℕ). x ++ u) (p .shown) ∙ append-assoc (take at out) t u;
+    }
+
+pub prints-byte : (out : List ℕ) (at b : ℕ) → at < length out → Prints 1 out at (b ∷ []) (set out at b) (at + 1)
+prints-byte out at b h = record { short = omega arith; end = omega arith; shown = rw add-one (take-suc-set out at b h) }
+
+-- ── a text that is copied byte by byte ──
+
+pub copy-next : (out out′ text : List ℕ) (at i : ℕ) → out′ ≡ paste out at text i → i < length text → at + length text ≤ length out
+    → set out′ (at + i) (getD text i 0) ≡ paste out at text (i + 1)
+copy-next out out′ text at i e h g = rw (add-one, e) (paste-suc out at text i 0 (omega (arith, h, g)) h)
+
+pub copy-done : (out out′ text : List ℕ) (at i : ℕ) → out′ ≡ paste out at text i → length text ≤ i → i ≤ length text → at + length text ≤ length out
+    → Prints (length text) out at text out′ (at + length text)
+copy-done out out′ text at i e h g f =
+    let all : i ≡ length text = omega (arith, h, g) in
+    let is = rw all at e in
+    record {
+      short = omega arith;
+      end = refl;
+      shown = rw is (take-paste out at text (length text) (omega (arith, f)) (omega arith)
+          ∙ ap (λ (x : List ℕ). take at out ++ x) (take-all (length text) text (omega arith)));
+    }
+
+-- ── a number ──
+
+digits-most : (n k : ℕ) → Fewest 10 1 n k → n < 2 ^ 64 → k ≤ mostDigits
+digits-most n k f h = go (ltb mostDigits k) refl
+  where
+    go : (t : Bool) → ltb mostDigits k ≡ t → k ≤ mostDigits
+    go true e =
+        let g : mostDigits < k = ltb-true mostDigits k e in
+        let p : 10 ^ mostDigits ≤ 10 ^ (k - 1) = pow-le-pow-right {n = 10} (omega arith) {i = mostDigits} {j = k - 1} (omega arith) in
+        let q : 10 ^ (k - 1) ≤ n = f .2 (omega arith) in
+        absurd (omega (arith, p, q, h))
+    go false e = ltb-false mostDigits k e
+
+-- the first place where a test fails, d places on
+first-is : (f : ℕ → Bool) (d i k : ℕ) → ((j : ℕ) → i ≤ j → j < i + d → f j ≡ true) → f (i + d) ≡ false → d < k → firstFrom f i k ≡ i + d
+unfolding firstFrom
+first-is f d i zero p e h = absurd (omega arith)
+first-is f zero i (suc k) p e h = let z : i + 0 ≡ i = omega arith in rw ((rw z at e), z)
+first-is f (suc d) i (suc k) p e h =
+    let s : i + suc d ≡ suc i + d = omega arith in
+    rw (p i (omega arith) (omega arith), s) (first-is f d (suc i) k (λ j x y. p j (omega arith) (omega arith)) (rw s at e) (omega arith))
+
+places-is : (n k : ℕ) → Fewest 10 1 n k → n < 2 ^ 64 → placesOf n ≡ k
+unfolding placesOf
+places-is n k f h =
+    let m : k ≤ mostDigits = digits-most n k f h in
+    let s : 1 + (k - 1) ≡ k = omega (arith, f .0) in
+    first-is (λ j. leb (10 ^ j) n) (k - 1) 1 mostDigits passed failed (omega (arith, m)) ∙ s
+  where
+    passed : (j : ℕ) → 1 ≤ j → j < 1 + (k - 1) → leb (10 ^ j) n ≡ true
+    passed j x y =
+        le-leb (10 ^ j) n (omega (arith, pow-le-pow-right {n = 10} (omega arith) {i = j} {j = k - 1} (omega arith), f .2 (omega arith)))
+
+    failed : leb (10 ^ (1 + (k - 1))) n ≡ false
+    failed = let s : 1 + (k - 1) ≡ k = omega (arith, f .0) in rw s (lt-leb (10 ^ k) n (f .1))
+
+pub decimal-fits : (n k at : ℕ) (text out : List ℕ) → Fewest 10 1 n k → k ≡ length (take k text) → n < 2 ^ 64 → at + mostDigits ≤ length out
+    → at + length (take k text) ≤ length out
+decimal-fits n k at text out f e h g = omega (arith, digits-most n k f h, e)
+
+pub decimal-printed : (n k at r : ℕ) (text out out′ : List ℕ) → Fewest 10 1 n k → k ≡ length (take k text) → take k text ≡ digits 10 k n → n < 2 ^ 64
+    → Prints (length (take k text)) out at (take k text) out′ r → Prints mostDigits out at (decimalOf n) out′ r
+unfolding decimalOf
+decimal-printed n k at r text out out′ f e d h p =
+    let m : length (take k text) ≤ mostDigits = omega (arith, digits-most n k f h, e) in
+    prints-as (d ∙ ap (λ (x : ℕ). digits 10 x n) (sym (places-is n k f h))) m p
+
+-- ── numbers ──
+
+numbers-more : (ns : List ℕ) (n : ℕ) → numbersText (ns ++ (n ∷ [])) ≡ numbersText ns ++ ((spaceByte ∷ []) ++ decimalOf n)
+unfolding numbersText
+numbers-more [] n = rw append-nil
+numbers-more (x ∷ ns) n =
+    ap (λ (t : List ℕ). spaceByte ∷ (decimalOf x ++ t)) (numbers-more ns n)
+    ∙ ap (λ (t : List ℕ). spaceByte ∷ t) (sym (append-assoc (decimalOf x) (numbersText ns) ((spaceByte ∷ []) ++ decimalOf n)))
+
+pub numbers-start : (out numbers : List ℕ) (at : ℕ) → Prints 0 out at (numbersText (take 0 numbers)) out at
+unfolding numbersText
+numbers-start out numbers at = prints-none 0 out at
+
+pub numbers-next : (out out′ out″ out‴ numbers : List ℕ) (at i p q r : ℕ) → Prints (numberBytes * i) out at (numbersText (take i numbers)) out′ p
+    → Prints 1 out′ p (spaceByte ∷ []) out″ q → Prints mostDigits out″ q (decimalOf (getD numbers i 0)) out‴ r → i < length numbers
+    → Prints (numberBytes * (i + 1)) out at (numbersText (take (i + 1) numbers)) out‴ r
+numbers-next out out′ out″ out‴ numbers at i p q r a b d h =
+    let is : numbersText (take (i + 1) numbers) ≡ numbersText (take i numbers) ++ ((spaceByte ∷ []) ++ decimalOf (getD numbers i 0))
+    = rw (add-one, take-suc numbers i 0 h) (numbers-more (take i numbers) (getD numbers i 0)) in
+    prints-as (sym is) (omega arith) (prints-then a (prints-then b d))
+
+pub numbers-done : (out out′ numbers : List ℕ) (at i r : ℕ) → Prints (numberBytes * i) out at (numbersText (take i numbers)) out′ r → length numbers ≤ i
+    → i ≤ length numbers → Prints (numberBytes * length numbers) out at (numbersText numbers) out′ r
+numbers-done out out′ numbers at i r p h g =
+    prints-as (ap numbersText (take-all i numbers h)) (omega (arith, g)) p
+
+-- ── a name ──
+
+-- ── a name ──
+
+-- every name fits into its row, by one test of the whole table
+abbrev allShort : List text.String → Bool
+allShort [] = true
+allShort (s ∷ ss) = leb (length (bytes s)) rowBytes && allShort ss
+
+short-at : (ss : List text.String) (n : ℕ) → allShort ss ≡ true → length (bytes (getD ss n "")) ≤ rowBytes
+short-at [] n h = omega arith
+short-at (s ∷ ss) zero h = leb-true (length (bytes s)) rowBytes (and-left (leb (length (bytes s)) rowBytes) (allShort ss) h)
+short-at (s ∷ ss) (suc n) h = short-at ss n (and-right (leb (length (bytes s)) rowBytes) (allShort ss) h)
+
+module _ (s : Status) (n : ℕ) (m : Name) (e : n ≡ numberOf s) (g : m ≡ nameOf n) where
+  name-is : m ≡ nameOf (numberOf s)
+  name-is = rw (g, e)
+
+  pub name-part : m .length ≤ length (m .row)
+  unfolding nameOf rowOf
+  name-part = rw name-is (rw length-append (omega arith))
+
+  name-text : take (m .length) (m .row) ≡ nameText s
+  unfolding nameOf rowOf nameText
+  name-text = rw name-is (take-append-seam (bytes (getD names (numberOf s) "")) _)
+
+  name-short : m .length ≤ rowBytes
+  unfolding nameOf
+  name-short = rw name-is (short-at names (numberOf s) refl)
+
+  name-taken : length (take (m .length - 0) (m .row)) ≤ rowBytes
+  name-taken = omega (arith, length-take-le (m .length - 0) (m .row) (omega (arith, name-part)), name-short)
+
+  pub name-room : (at : ℕ) (out : List ℕ) → at + rowBytes ≤ length out → at + length (take (m .length - 0) (m .row)) ≤ length out
+  name-room at out h = omega (arith, name-taken, h)
+
+  pub name-printed : (at r : ℕ) (out out′ : List ℕ) → Prints (length (take (m .length - 0) (m .row))) out at (take (m .length - 0) (m .row)) out′ r
+      → Prints rowBytes out at (nameText s) out′ r
+  name-printed at r out out′ p =
+      let z : m .length - 0 ≡ m .length = omega arith in
+      prints-as (rw z name-text) name-taken p
