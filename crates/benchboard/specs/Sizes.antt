@@ -1,9 +1,10 @@
 -- The largest sizes of a bench program, and the memories that these take.
 use Prim.Native.Nat.{ℕ, _≤_}
-use mathlib.Core.Path.{_≡_, refl}
-use mathlib.Core.Bool.{Bool, true, _&&_}
+use mathlib.Core.Path.{_≡_, refl, sym, _∙_}
+use mathlib.Core.Bool.{Bool, true, false, not, _&&_}
 use mathlib.Core.List.{List}
 use native.Mathlib.Omega.{arith}
+use borrow.Author.Tests.{not-false}
 use lib.Dec.{leb}
 use lib.ListN.{length}
 use Rattle.base.specs.Tests.{held}
@@ -60,6 +61,11 @@ module _ (lines entries slots : ℕ) (g : benchSized lines entries slots ≡ tru
   pub work-within : workWords slots ≤ benchWork
   work-within = omega (arith, most-slots)
 
-  pub sizes-within : (board work : List ℕ) → benchBoard ≤ length board → benchWork ≤ length work → Sizes lines entries slots board work
+  sizes-within : (board work : List ℕ) → benchBoard ≤ length board → benchWork ≤ length work → Sizes lines entries slots board work
   sizes-within board work b w =
       record { lines-most = most-lines; entries-most = most-entries; slots-most = most-slots; board-length = b; work-length = w }
+
+-- after the test that the programs make
+pub sizes-tested : (lines entries slots : ℕ) (board work : List ℕ) (t : Bool) → t ≡ benchSized lines entries slots → not t ≡ false
+    → benchBoard ≤ length board → benchWork ≤ length work → Sizes lines entries slots board work
+sizes-tested lines entries slots board work t is n b w = sizes-within lines entries slots (sym is ∙ not-false t n) board work b w

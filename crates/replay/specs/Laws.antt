@@ -19,7 +19,7 @@ use Rattle.picl.specs.Calls.{powerUpVerdict}
 use Rattle.picl.specs.Contracts.{Answers, Calls}
 use Rattle.benchcalls.specs.declared.Call.{Call}
 use Rattle.benchboard.specs.Calls.{Left, fullAllowance, callOf, left, woken, Leaves}
-use Rattle.benchboard.specs.Sizes.{benchSized, Sizes, sizes-within}
+use Rattle.benchboard.specs.Sizes.{benchSized, Sizes, sizes-tested}
 use Rattle.script.specs.declared.Command.{Command}
 use Rattle.script.specs.declared.Command.the-variants as command
 use Rattle.replay.specs.declared.Request.{Request}
@@ -154,8 +154,7 @@ module _ (b : Bench) (board work : List ℕ) (s : Step) where
 
 pub sizes-good : (lines entries slots : ℕ) (b : Bench) (board work : List ℕ) (good : Bool) → good ≡ benchSized lines entries slots → not good ≡ false
     → Lent b board work → Sizes lines entries slots board work
-sizes-good lines entries slots b board work good is h l =
-    sizes-within lines entries slots (sym is ∙ not-false good h) board work (l .board-length) (l .work-length)
+sizes-good lines entries slots b board work good is h l = sizes-tested lines entries slots board work good is h (l .board-length) (l .work-length)
 
 -- ── a command ──
 
