@@ -1,11 +1,13 @@
 // A second model of the cache log, written from the paper "PiCL cache log for loom controller
-// boards" alone, for a test program to compare with the library. Each call decodes the lent words
-// into a `Machine`, tests it, works on it, and last makes the board stores that are due. The
-// comments quote the paper. The model takes boards of up to words::BOARD_CAPACITY words; for a
-// larger one each call answers refusals::TOO_LARGE and touches nothing.
+// boards" and the requests of document 02 alone, for a test program to compare with the library.
+// Each call decodes the lent words into a `Machine`, tests it, works on it, and last makes the board
+// stores that are due. The comments quote the paper. The model takes boards of up to
+// words::BOARD_CAPACITY words; for a larger one each call answers refusals::TOO_LARGE and touches
+// nothing.
 mod effects;
 mod finish;
 mod machine;
+mod record;
 mod reference_machine;
 mod refusals;
 mod registers;
@@ -14,6 +16,11 @@ mod words;
 use effects::*;
 use finish::*;
 use machine::decoded;
+pub use record::Read;
+pub use record::Record;
+pub use record::Written;
+pub use record::read_record;
+pub use record::write_record;
 pub use reference_machine::Reference;
 use refusals::*;
 pub use registers::Registers;

@@ -29,6 +29,9 @@ pub const NONE: u64 = 11;
 
 pub const CUT: u64 = 12;
 
+// "New numbers, here and later, join the names and return as 1 to 11 do: 13 trace".
+pub const TRACE: u64 = 13;
+
 // Not in the paper: the model does not take a board of more than BOARD_CAPACITY words.
 pub const TOO_LARGE: u64 = 99;
 
