@@ -1,7 +1,7 @@
 // A second model of the cache log, written from the paper "PiCL cache log for loom controller
 // boards" and the requests of document 02 alone, for a test program to compare with the library.
-// Each call decodes the lent words into a `Machine`, tests it, works on it, and last makes the board
-// stores that are due. The comments quote the paper. The model takes boards of up to
+// Each call decodes the lent words into a `Machine`, tests it, works on it, and last makes the
+// board stores that are due. The comments quote the paper. The model takes boards of up to
 // words::BOARD_CAPACITY words; for a larger one each call answers refusals::TOO_LARGE and touches
 // nothing.
 mod effects;
@@ -11,6 +11,7 @@ mod record;
 mod reference_machine;
 mod refusals;
 mod registers;
+mod trace;
 mod words;
 
 use effects::*;
@@ -24,6 +25,12 @@ pub use record::write_record;
 pub use reference_machine::Reference;
 use refusals::*;
 pub use registers::Registers;
+pub use trace::RecordRun;
+pub use trace::Totals;
+pub use trace::TraceRun;
+pub use trace::run_fresh;
+pub use trace::run_record;
+pub use trace::run_trace;
 use words::*;
 
 // A call's answer: its number in the table, its value, the board stores made, the registers.
