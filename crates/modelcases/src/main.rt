@@ -1,7 +1,9 @@
 // Runs the paper's replay listing and its examples W5 to W12 on the model, and prints the listing's
-// columns; the stored output holds what the paper says.
+// columns; then records of traces, of document 02's request 1/13. The stored output holds what the
+// papers say.
 mod packing;
 mod random;
+mod records;
 
 use libc::STDOUT_FILENO;
 use model::Answer;
@@ -174,6 +176,7 @@ fn main() {
         b"n48* p00* c000 c000 c000 c000 c000 c000 c000 c000 c000 c000 c000 c000 c000 c000 c000 c000 ",
     );
     recoveries();
+    records::cases();
     random::list(1, 3000);
     random::list(2, 3000);
     random::list(77, 3000);

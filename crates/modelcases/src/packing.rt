@@ -53,3 +53,32 @@ pub fn shape_word(lines: u64, entries: u64) -> u64 {
 pub fn entry_word(address: u64, from: u64, till: u64) -> u64 {
     (address << 48) | (from << 24) | till
 }
+
+// 2^64 - 1 and 2^63, the largest word and the one with the leading bit alone.
+pub const LARGEST: u64 = 18446744073709551615;
+
+pub const LEADING: u64 = 9223372036854775808;
+
+// A record of a trace: two words, most significant byte first; of the first, kind 3 bits, address
+// 16, zero 45.
+pub const WORD_BYTES: usize = 8;
+
+pub const RECORD_BYTES: usize = 2 * WORD_BYTES;
+
+pub const BYTE_BITS: usize = 8;
+
+pub const RECORD_BITS: usize = RECORD_BYTES * BYTE_BITS;
+
+pub fn record_word(kind: u64, address: u64) -> u64 {
+    (kind << 61) | (address << 45)
+}
+
+// Byte i of a word, 0 the most significant.
+pub fn byte_of(word: u64, i: usize) -> u8 {
+    ((word >> (56 - 8 * (i % WORD_BYTES))) % 256) as u8
+}
+
+// A byte with one bit the other way round, bit 0 the most significant.
+pub fn byte_flipped(byte: u8, bit: usize) -> u8 {
+    byte ^ (128 >> (bit % BYTE_BITS))
+}
