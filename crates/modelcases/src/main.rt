@@ -1,9 +1,10 @@
 // Runs the paper's replay listing and its examples W5 to W12 on the model, and prints the listing's
-// columns; then records of traces, of document 02's request 1/13. The stored output holds what the
+// columns; then records and traces, of document 02's request 1/13. The stored output holds what the
 // papers say.
 mod packing;
 mod random;
 mod records;
+mod traces;
 
 use libc::STDOUT_FILENO;
 use model::Answer;
@@ -177,6 +178,7 @@ fn main() {
     );
     recoveries();
     records::cases();
+    traces::cases();
     random::list(1, 3000);
     random::list(2, 3000);
     random::list(77, 3000);
