@@ -14,13 +14,15 @@
  * also writes the calls that it made, in the language of the bench program `loomreplay`, and what they answered, as that
  * prints it.
  */
+#include <stdbool.h>
 #include <stdio.h>
 #include <stdlib.h>
 
 #include "picl.h"
 #include "recorder.h"
 
-/* The figures that decide whether the log fills up, whether epochs have to wait, and how often the mains goes. */
+/* The figures that decide whether the log fills up, whether epochs have to wait, how often the mains goes, and whether cards
+ * are evicted. */
 #ifndef LOG_ENTRIES
 #define LOG_ENTRIES 96
 #endif
@@ -29,6 +31,9 @@
 #endif
 #ifndef MOST_STORES_BETWEEN_CUTS
 #define MOST_STORES_BETWEEN_CUTS 300
+#endif
+#ifndef CARDS_KEPT
+#define CARDS_KEPT CARDS
 #endif
 
 enum {
@@ -121,6 +126,12 @@ static uint64_t load(uint64_t address, uint64_t *value)
     return number;
 }
 
+static uint64_t evict(uint64_t address)
+{
+    record_call(stores_left, "e %u", (unsigned)address);
+    return answered("evict", picl_evict(LENT_BOARD, LENT_WORK, LENT_REGISTERS, address, stores_left, LENT_ANSWER));
+}
+
 static uint64_t scan(void)
 {
     record_call(stores_left, "a");
@@ -188,6 +199,14 @@ static uint64_t card_at(uint64_t pick)
     return pick % CARDS;
 }
 
+/* After a pick: the cards of the last picks stay in the cache, since a weaver who mends a fault goes back by some picks. The
+ * one before them is not needed again for long, and is evicted now, so that no later call has to write it out. */
+static uint64_t evict_card(uint64_t pick)
+{
+    bool is_any = CARDS_KEPT < CARDS && pick > CARDS_KEPT;
+    return is_any ? evict(FIRST_CARD + card_at(pick - CARDS_KEPT)) : PICL_OK;
+}
+
 /* Weaves one pick: what it stores depends on its number alone. */
 static uint64_t weave(void)
 {
@@ -201,6 +220,8 @@ static uint64_t weave(void)
         number = store(CARD_POSITION, card_at(pick));
     if (number == PICL_OK)
         number = store(BEAM_TENSION, tension_at(pick));
+    if (number == PICL_OK)
+        number = evict_card(pick);
     for (int i = 0; number == PICL_OK && i < SCANS_A_PICK; i++)
         number = scan();
     return number == PICL_NONE ? PICL_OK : number; /* that no epoch waits is no fault */

@@ -5,7 +5,7 @@
 # the running epoch. After it comes an epoch of no pick, and from then on an epoch has half as many picks.
 BEGIN {
     picks_an_epoch[0] = 20; epochs = 40
-    call["l"] = "load"; call["s"] = "store"; call["a"] = "scan"; call["p"] = "power-up"
+    call["l"] = "load"; call["s"] = "store"; call["e"] = "evict"; call["a"] = "scan"; call["p"] = "power-up"
 }
 $1 == "n" { print "new board: formatted" }
 $1 == "s" { is_refused = $2 == "room" }
