@@ -1,7 +1,7 @@
 #include <stdarg.h>
 #include <stdio.h>
-#include <stdlib.h>
 
+#include "files.h"
 #include "picl.h"
 #include "recorder.h"
 
@@ -12,28 +12,10 @@ static char letter;
 static const char *const names[] = {"ok",   "shape",  "work", "entry",   "regs", "address", "slot",
                                     "buffer", "room", "waiting", "last", "none",    "cut"};
 
-static FILE *opened(const char *name)
-{
-    FILE *file = fopen(name, "w");
-    if (file == NULL) {
-        perror(name);
-        exit(1);
-    }
-    return file;
-}
-
 void open_records(const char *script_name, const char *transcript_name)
 {
     script = opened(script_name);
     transcript = opened(transcript_name);
-}
-
-static void closed(FILE *file)
-{
-    if (file != NULL && fclose(file) != 0) {
-        perror("records");
-        exit(1);
-    }
 }
 
 void close_records(void)
