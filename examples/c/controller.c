@@ -13,6 +13,11 @@
  *
  * also writes the calls that it made, in the language of the bench program `loomreplay`, and what they answered, as that
  * prints it.
+ *
+ *     controller SCRIPT TRANSCRIPT TRACE TOTALS
+ *
+ * weaves without a cut. It also records itself: it writes its calls as a trace, and the board stores that each kind of call has
+ * made, as the bench program `loomtrace` prints them for that trace.
  */
 #include <stdbool.h>
 #include <stdio.h>
@@ -20,6 +25,7 @@
 
 #include "picl.h"
 #include "recorder.h"
+#include "trace.h"
 
 /* The figures that decide whether the log fills up, whether epochs have to wait, how often the mains goes, and whether cards
  * are evicted. */
@@ -72,8 +78,9 @@ static uint64_t answer[PICL_ANSWER_WORDS];
 #define LENT_REGISTERS registers, PICL_REGISTER_WORDS
 #define LENT_ANSWER answer, PICL_ANSWER_WORDS
 
-/* The simulated mains switch: so many board stores still reach the board. */
+/* The simulated mains switch: so many board stores still reach the board, or PICL_NO_CUT. */
 static uint32_t stores_left;
+static bool is_uncut; /* nobody turns it off */
 static unsigned cuts;
 
 /* Epochs that needed more entries than the log has. */
@@ -97,14 +104,15 @@ static void turn_on(void)
 {
     static uint64_t hand = 1; /* Knuth's MMIX generator */
     hand = hand * 6364136223846793005u + 1442695040888963407u;
-    stores_left = (uint32_t)(hand >> 33) % MOST_STORES_BETWEEN_CUTS;
+    stores_left = is_uncut ? PICL_NO_CUT : (uint32_t)(hand >> 33) % MOST_STORES_BETWEEN_CUTS;
 }
 
 /* What every call comes back to. A cut loses work memory and registers, and the loop starts again from the board. */
 static uint64_t answered(const char *call, uint64_t number)
 {
     record_answer(number, answer, registers, board);
-    stores_left -= (uint32_t)answer[PICL_STORES];
+    if (stores_left != PICL_NO_CUT)
+        stores_left -= (uint32_t)answer[PICL_STORES];
     if (number == PICL_CUT) {
         cuts++;
         printf("mains off in %s after %llu of its stores\n", call, (unsigned long long)answer[PICL_STORES]);
@@ -112,8 +120,10 @@ static uint64_t answered(const char *call, uint64_t number)
     return number;
 }
 
+/* Not the first of a board: a power-up has no record, so a trace ends before it. */
 static uint64_t power_up(void)
 {
+    end_trace();
     record_call(stores_left, "p");
     return answered("power-up", picl_power_up(LENT_BOARD, LENT_WORK, LENT_REGISTERS, stores_left, LENT_ANSWER));
 }
@@ -122,6 +132,7 @@ static uint64_t load(uint64_t address, uint64_t *value)
 {
     record_call(stores_left, "l %u", (unsigned)address);
     uint64_t number = answered("load", picl_load(LENT_BOARD, LENT_WORK, LENT_REGISTERS, address, stores_left, LENT_ANSWER));
+    trace_call(PICL_RECORD_LOAD, address, NO_VALUE, answer[PICL_STORES]);
     *value = answer[PICL_VALUE];
     return number;
 }
@@ -129,19 +140,26 @@ static uint64_t load(uint64_t address, uint64_t *value)
 static uint64_t evict(uint64_t address)
 {
     record_call(stores_left, "e %u", (unsigned)address);
-    return answered("evict", picl_evict(LENT_BOARD, LENT_WORK, LENT_REGISTERS, address, stores_left, LENT_ANSWER));
+    uint64_t number =
+        answered("evict", picl_evict(LENT_BOARD, LENT_WORK, LENT_REGISTERS, address, stores_left, LENT_ANSWER));
+    trace_call(PICL_RECORD_EVICT, address, NO_VALUE, answer[PICL_STORES]);
+    return number;
 }
 
 static uint64_t scan(void)
 {
     record_call(stores_left, "a");
-    return answered("scan", picl_scan(LENT_BOARD, LENT_WORK, LENT_REGISTERS, stores_left, LENT_ANSWER));
+    uint64_t number = answered("scan", picl_scan(LENT_BOARD, LENT_WORK, LENT_REGISTERS, stores_left, LENT_ANSWER));
+    trace_call(PICL_RECORD_SCAN, NO_ADDRESS, NO_VALUE, answer[PICL_STORES]);
+    return number;
 }
 
 static uint64_t commit_once(void)
 {
     record_call(stores_left, "c");
-    return answered("commit", picl_commit(LENT_BOARD, LENT_WORK, LENT_REGISTERS, stores_left, LENT_ANSWER));
+    uint64_t number = answered("commit", picl_commit(LENT_BOARD, LENT_WORK, LENT_REGISTERS, stores_left, LENT_ANSWER));
+    trace_call(PICL_RECORD_COMMIT, NO_ADDRESS, NO_VALUE, answer[PICL_STORES]);
+    return number;
 }
 
 /* Scan calls until one of them has persisted an epoch, or none waits. */
@@ -169,8 +187,10 @@ static uint64_t commit(void)
 static uint64_t store_once(uint64_t address, uint64_t value)
 {
     record_call(stores_left, "s %u %llu", (unsigned)address, (unsigned long long)value);
-    return answered("store",
-                    picl_store(LENT_BOARD, LENT_WORK, LENT_REGISTERS, address, value, stores_left, LENT_ANSWER));
+    uint64_t number =
+        answered("store", picl_store(LENT_BOARD, LENT_WORK, LENT_REGISTERS, address, value, stores_left, LENT_ANSWER));
+    trace_call(PICL_RECORD_STORE, address, value, answer[PICL_STORES]);
+    return number;
 }
 
 /* Where the log is full, the oldest epoch that waits has to be persisted first: its entries then go. It may have had none, so
@@ -357,16 +377,24 @@ static uint64_t run(void)
     return number;
 }
 
+/* The program's words, behind its name. */
+enum { SCRIPT = 1, TRANSCRIPT, TRACE, TOTALS };
+
 int main(int count, char **words)
 {
-    if (count == 3)
-        open_records(words[1], words[2]);
+    if (count > TRANSCRIPT)
+        open_records(words[SCRIPT], words[TRANSCRIPT]);
+    if (count > TOTALS) {
+        is_uncut = true;
+        open_trace(words[TRACE], words[TOTALS]);
+    }
     uint64_t number;
     do {
         number = run();
     } while (number == PICL_CUT && cuts < MOST_CUTS);
     if (number != PICL_OK)
         fail("the last call answered", number);
+    end_trace();
     close_records();
     printf("wove %d epochs through %u cuts, gave up %u\n", EPOCHS, cuts, given_up);
     return 0;

@@ -26,4 +26,4 @@ $1 == "c" && $2 == "ok" {
     due = now
 }
 { before = $1 " " $2; running = $5 }
-END { print "wove " epochs " epochs through " cuts " cuts, gave up " given_up + 0 }
+END { print "wove " epochs " epochs through " cuts + 0 " cuts, gave up " given_up + 0 }
