@@ -30,13 +30,22 @@ use Rattle.records.specs.declared.Written.{Written}
 use Rattle.records.specs.Records.{loadKind, storeKind, commitKind, scanKind, evictKind, recordBytes, isZero}
 use Rattle.records.specs.Records.{takesAddress, takesNothing, hasPlaceAlone, hasPlaceInIt, hasPlace, callOf, firstWord}
 use Rattle.records.specs.Records.{written, wordsReading, firstIn, valueIn, reading}
-use Rattle.records.specs.Steps.{newReader, isFull, stepOf, readingBy}
+use Rattle.records.specs.Steps.{newReader, isNew, isFull, stepOf, readingBy}
 
 -- ── the reader, byte by byte ──
 
 -- the reader after so many bytes, sixteen at most
 abbrev pub readerOf : List ℕ → Reader
 readerOf bytes = record { count = length bytes; first = wordOf (take bytesOfWord bytes); value = wordOf (drop bytesOfWord bytes) }
+
+pub new-reader : (r : Reader) → isNew r ≡ true → r ≡ newReader
+unfolding isNew
+new-reader r h =
+    let rest = and-right (isZero (r .count)) (isZero (r .first) && isZero (r .value)) h in
+    let count = eqb-true (r .count) 0 (and-left (isZero (r .count)) (isZero (r .first) && isZero (r .value)) h) in
+    let first = eqb-true (r .first) 0 (and-left (isZero (r .first)) (isZero (r .value)) rest) in
+    let value = eqb-true (r .value) 0 (and-right (isZero (r .first)) (isZero (r .value)) rest) in
+    λ i. record { count = count i; first = first i; value = value i }
 
 pub reader-new : newReader ≡ readerOf []
 unfolding wordOf pack
@@ -231,7 +240,7 @@ module _ (bytes : List ℕ) (c : Call) where
       go false false true true n s p q x =
           record { long = ltb-false (length bytes) recordBytes s; spare = eqb-true (word .spare) 0 p; placed = q; call = cc }
 
-take-twice : (m n : ℕ) (bytes : List ℕ) → take m bytes ++ take n (drop m bytes) ≡ take (m + n) bytes
+pub take-twice : (m n : ℕ) (bytes : List ℕ) → take m bytes ++ take n (drop m bytes) ≡ take (m + n) bytes
 take-twice zero n bytes = rw zero-add
 take-twice (suc m) zero [] = rw suc-add
 take-twice (suc m) (suc n) [] = rw suc-add

@@ -1,6 +1,6 @@
 -- What the reader's functions answer, byte by byte. That bytes so read give what `Records` says of them is `reader-reads`, in `Laws`.
 use Prim.Native.Nat.{ℕ, _+_}
-use mathlib.Core.Bool.{Bool, cond}
+use mathlib.Core.Bool.{Bool, cond, _&&_}
 use lib.Dec.{ltb, leb, eqb}
 use Rattle.layout.specs.Bytes.{bytesOfWord, withByte}
 use Rattle.status.specs.declared.Status.the-variants.{Trace}
@@ -12,6 +12,9 @@ use Rattle.records.specs.Records.{recordBytes, isZero, wordsReading}
 -- before the first byte
 abbrev pub newReader : Reader
 newReader = record { count = 0; first = 0; value = 0 }
+
+unfoldable pub isNew : Reader → Bool
+isNew r = isZero (r .count) && (isZero (r .first) && isZero (r .value))
 
 unfoldable pub isFull : Reader → Bool
 isFull r = leb recordBytes (r .count)

@@ -6,7 +6,7 @@ ghost use Prim.Native.Nat.{min};
 ghost use mathlib.Core.Bool.{true};
 ghost use Rattle.layout.specs.Bytes.{bytesOf};
 ghost use Rattle.records.specs.Records.{recordBytes, hasPlace, callOf, firstWord, written, wordsReading, reading as bytesReading};
-ghost use Rattle.records.specs.Steps.{newReader, stepOf, isFull, readingBy};
+ghost use Rattle.records.specs.Steps.{newReader, isNew, isFull, stepOf, readingBy};
 use benchcalls::Call;
 use layout::ADDRESSES;
 use layout::BYTES_OF_WORD;
@@ -171,6 +171,19 @@ impl Reader {
             first: 0,
             value: 0,
         }
+    }
+
+    // Whether no byte has been read.
+    pub fn is_new(self) -> bool
+        ensures { λ r. ⌜ r ≡ isNew self ⌝ }
+    {
+        if self.count != 0 {
+            return false;
+        }
+        if self.first != 0 {
+            return false;
+        }
+        self.value == 0
     }
 
     // Whether a whole record has been read.

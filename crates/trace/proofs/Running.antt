@@ -1,13 +1,16 @@
 -- One law for each way out of a function.
-use Prim.Native.Nat.{ℕ, _+_, _<_, _≤_}
+use Prim.Native.Nat.{ℕ, _+_, _-_, _<_, _≤_}
 use mathlib.Core.Path.{_≡_, refl, sym, ap, _∙_}
 use mathlib.Core.Bool.{Bool, true, false, not}
 use mathlib.Core.List.{List, [], _∷_, _++_, foldl, foldl-append}
 use native.Mathlib.Omega.{arith}
-use native.Mathlib.Numerals.{add-one}
-use borrow.Author.Tests.{not-true, not-false}
-use lib.ListN.{length, getD, take}
-use lib.Seq.{take-all, take-suc}
+use borrow.Author.Tests.{leb-true, not-true, not-false}
+use lib.Dec.{leb}
+use lib.ListN.{length, getD, take, drop, length-drop}
+use lib.Seq.{take-all}
+use Rattle.base.specs.Parts.{rest-lent}
+use Rattle.base.specs.Tests.{and-left, and-right}
+use Rattle.layout.specs.Bytes.{AreBytes}
 use Rattle.status.specs.declared.Status.{Status}
 use Rattle.status.specs.Numbers.{isOk}
 use Rattle.checks.specs.declared.Registers.{Registers}
@@ -19,12 +22,16 @@ use Rattle.benchboard.specs.Calls.{fullAllowance, callOf, woken, Leaves}
 use Rattle.records.specs.declared.Reader.{Reader}
 use Rattle.records.specs.declared.Reading.{Reading}
 use Rattle.records.specs.declared.Reading.the-variants.{End, Recorded, Refused}
-use Rattle.records.specs.Steps.{newReader, stepOf, isFull, readingBy}
+use Rattle.records.specs.Records.{recordBytes, reading}
+use Rattle.records.specs.Steps.{newReader, isNew, isFull, stepOf, readingBy}
+use Rattle.records.specs.Laws.{new-reader, take-twice}
 use Rattle.trace.specs.declared.Run.{Run}
 use Rattle.trace.specs.declared.Totals.{Totals}
 use Rattle.trace.specs.Run.{noTotals, plus, counted, wokenState, called, taken, turn}
-use Rattle.trace.specs.Steps.{Machine, machineOf, runOf, newRun, readingRun, endedRun, resting, turned, stepped, fed, finished}
-use Rattle.trace.specs.Contracts.{Runs}
+use Rattle.trace.specs.Steps.{Machine, machineOf, runOf, newRun, readingRun, endedRun, resting, turned, waiting, stepped, hasRecord, fed, finished}
+use Rattle.trace.specs.declared.Fed.{Fed}
+use Rattle.trace.specs.Contracts.{Runs, Feeds}
+use Rattle.trace.specs.Laws.{record-fed}
 
 pub run-new : (status : Status) (registers : Registers) (t : Totals) (reader : Reader) → t ≡ noTotals → reader ≡ newReader
     → record { status = status; registers = registers; totals = t; reader = reader } ≡ newRun status registers
@@ -108,6 +115,36 @@ module _ (r : Run) (board work : List ℕ) where
 
 -- ── bytes ──
 
+fed-one : (m : Machine) (input : List ℕ) → 0 < length input → fed m (take 1 input) ≡ stepped m (getD input 0 0)
+unfolding fed
+fed-one m [] h = absurd (omega arith)
+fed-one m (b ∷ bs) h = refl
+
+module _ (r : Run) (input board work board′ work′ : List ℕ) (r′ : Run) (some : 0 < length input) where
+  pub some-byte : Runs (stepped (machineOf r board work) (getD input 0 0)) board′ work′ r′
+      → Feeds (machineOf r board work) input board′ work′ (record { run = r′; taken = 1 })
+  some-byte p = record { some = omega arith; most = omega arith; runs = rw (fed-one (machineOf r board work) input some) p }
+
+  pub some-record : AreBytes input → (x : Reading) (t : Bool) → t ≡ hasRecord (r .reader) (length input) → not t ≡ false → x ≡ reading input
+      → Runs (turned (machineOf r board work) x) board′ work′ r′ → Feeds (machineOf r board work) input board′ work′ (record { run = r′; taken = recordBytes })
+  unfolding hasRecord
+  some-record h x t is n e p =
+      let both = sym is ∙ not-false t n in
+      let fresh = new-reader (r .reader) (and-left (isNew (r .reader)) (leb recordBytes (length input)) both) in
+      let long = leb-true recordBytes (length input) (and-right (isNew (r .reader)) (leb recordBytes (length input)) both) in
+      let from : machineOf r board work ≡ resting (machineOf r board work .state) = ap (waiting (machineOf r board work)) fresh in
+      let whole = ap (λ (m : Machine). fed m (take recordBytes input)) from ∙ record-fed (machineOf r board work .state) input h long in
+      record { some = omega arith; most = long; runs = rw (whole, ← e) p }
+
+module _ (r : Reader) (count : ℕ) (t : Bool) (is : t ≡ isNew r) where
+  pub record-begun : not t ≡ true → false ≡ hasRecord r count
+  unfolding hasRecord
+  record-begun n = rw (← is, not-true t n)
+
+  pub record-whole : not t ≡ false → leb recordBytes count ≡ hasRecord r count
+  unfolding hasRecord
+  record-whole n = rw (← is, not-false t n)
+
 -- The first i bytes have been fed.
 pub record Feeding (m : Machine) (input board₀ work₀ board work : List ℕ) (r : Run) (i : ℕ) : Type 0 where
   pub within : i ≤ length input
@@ -134,21 +171,38 @@ module _ (m : Machine) (input board₀ work₀ board work : List ℕ) (r : Run) 
         reader = f .runs .run j .reader;
       }
 
-  fed-next : i < length input → stepped (machineOf r board work) (getD input i 0) ≡ fed m (take (i + 1) input)
-  unfolding fed
-  fed-next l =
-      ap (λ (x : Machine). stepped x (getD input i 0)) machine-is
-      ∙ sym (rw (add-one, take-suc input i 0 l) (foldl-append stepped m (take i input) (getD input i 0 ∷ [])))
+  -- the part that is lent is the rest of the input
+  abbrev rest : List ℕ
+  rest = take (length input - i) (drop i input)
 
-  pub feeding-next : (board′ work′ : List ℕ) (r′ : Run) → i < length input → Runs (stepped (machineOf r board work) (getD input i 0)) board′ work′ r′
-      → length board′ ≡ length board → length work′ ≡ length work → Feeding m input board₀ work₀ board′ work′ r′ (i + 1)
-  feeding-next board′ work′ r′ l p b w =
+  pub rest-some : i < length input → 0 < length rest
+  rest-some l = rw (rest-lent i input, length-drop) (omega arith)
+
+  fed-next : (n : ℕ) → fed (machineOf r board work) (take n rest) ≡ fed m (take (i + n) input)
+  unfolding fed
+  fed-next n =
+      ap (λ (x : Machine). foldl stepped x (take n rest)) machine-is
+      ∙ ap (λ (x : List ℕ). foldl stepped (foldl stepped m (take i input)) (take n x)) (rest-lent i input)
+      ∙ sym (foldl-append stepped m (take i input) (take n (drop i input)))
+      ∙ ap (foldl stepped m) (take-twice i n input)
+
+  pub feeding-within : (board′ work′ : List ℕ) (x : Fed) → Feeds (machineOf r board work) rest board′ work′ x → i + x .taken ≤ length input
+  feeding-within board′ work′ x p =
+      let most : x .taken ≤ length input - i = rw (rest-lent i input, length-drop) at (p .most) in
+      omega (arith, f .within, most)
+
+  pub feeding-next : (board′ work′ : List ℕ) (x : Fed) → Feeds (machineOf r board work) rest board′ work′ x
+      → length board′ ≡ length board → length work′ ≡ length work → Feeding m input board₀ work₀ board′ work′ (x .run) (i + x .taken)
+  feeding-next board′ work′ x p b w =
       record {
-        within = omega arith;
+        within = feeding-within board′ work′ x p;
         same-board = b ∙ f .same-board;
         same-work = w ∙ f .same-work;
-        runs = rw (fed-next l) at p;
+        runs = rw (fed-next (x .taken)) at (p .runs);
       }
+
+  pub feeding-less : (board′ work′ : List ℕ) (x : Fed) → i < length input → Feeds (machineOf r board work) rest board′ work′ x → length input - (i + x .taken) < length input - i
+  feeding-less board′ work′ x l p = omega (arith, p .some)
 
   pub feeding-end : length input ≤ i → Runs (fed m input) board work r
   feeding-end h = rw (take-all i input h) at (f .runs)

@@ -8,7 +8,7 @@ use native.Mathlib.Numerals.{add-one}
 use borrow.Author.Tests.{le-leb, lt-leb}
 use lib.Dec.{leb}
 use lib.ListN.{length, take, drop, length-append, length-drop, drop-of-length-le}
-use lib.Seq.{take-all, take-append-le, take-append-seam, drop-append-le}
+use lib.Seq.{take-all, take-append-le, take-append-seam, drop-append-le, length-take-le}
 use Rattle.base.specs.Cases.{below-or-not}
 use Rattle.layout.specs.Bytes.{AreBytes, bytes-drop, bytes-take}
 use Rattle.status.specs.declared.Status.the-variants.{Trace}
@@ -17,7 +17,7 @@ use Rattle.records.specs.declared.Reading.{Reading}
 use Rattle.records.specs.declared.Reading.the-variants.{Refused}
 use Rattle.records.specs.Records.{recordBytes, reading}
 use Rattle.records.specs.Steps.{newReader, stepOf, isFull, readingBy}
-use Rattle.records.specs.Laws.{readerOf, reader-new, reader-steps, reader-reads}
+use Rattle.records.specs.Laws.{readerOf, reader-new, reader-steps, reader-reads, reading-first}
 use Rattle.trace.specs.Run.{State, turn, recordAt, after, ran, failed}
 use Rattle.trace.specs.Steps.{Machine, resting, turned, waiting, stepped, fed, finished, broken}
 
@@ -129,6 +129,22 @@ fed-so-far s xs (b ∷ ys) h =
 pub starts-so-far : (s : State) → resting s ≡ soFar s []
 unfolding after
 starts-so-far s = ap (λ (r : Reader). record { state = s; reader = r }) reader-new
+
+-- the bytes of a whole record are that record
+pub record-fed : (s : State) (bytes : List ℕ) → AreBytes bytes → recordBytes ≤ length bytes → fed (resting s) (take recordBytes bytes) ≡ resting (turn s (reading bytes))
+unfolding after
+record-fed s bytes h long =
+    let whole : length (take recordBytes bytes) ≡ recordBytes = length-take-le recordBytes bytes long in
+    let one : wholeIn (take recordBytes bytes) ≡ 1 = omega (arith, whole) in
+    ap (λ (m : Machine). fed m (take recordBytes bytes)) (starts-so-far s)
+    ∙ fed-so-far s [] (take recordBytes bytes) (bytes-take recordBytes bytes h)
+    ∙ λ i. record {
+      state = (ap (after s (take recordBytes bytes)) one ∙ ap (turn s) (reading-first (take recordBytes bytes) ∙ reading-first bytes)) i;
+      reader = (ap readerOf (none-behind whole one) ∙ sym reader-new) i;
+    }
+  where
+    none-behind : length (take recordBytes bytes) ≡ recordBytes → wholeIn (take recordBytes bytes) ≡ 1 → restOf (take recordBytes bytes) ≡ []
+    none-behind whole one = drop-of-length-le (take recordBytes bytes) {i = recordBytes * wholeIn (take recordBytes bytes)} (omega (arith, whole, one))
 
 -- whatever parts the bytes come in, the state after them is that of the bytes so far
 parts-from : (s : State) (xs : List ℕ) (parts : List (List ℕ)) → AreBytes (xs ++ flatten parts) → foldl fed (soFar s xs) parts ≡ soFar s (xs ++ flatten parts)

@@ -1,14 +1,16 @@
 -- What the functions on a run answer, byte by byte. That bytes in any parts leave what `Run` says of them is `parts-so-far`, in `Laws`.
 use Prim.Native.Nat.{ℕ}
-use mathlib.Core.Bool.{cond}
+use mathlib.Core.Bool.{Bool, cond, _&&_}
 use mathlib.Core.List.{List, foldl}
+use lib.Dec.{leb}
 use Rattle.status.specs.declared.Status.{Status}
 use Rattle.status.specs.declared.Status.the-variants.{Trace}
 use Rattle.checks.specs.declared.Registers.{Registers}
 use Rattle.records.specs.declared.Reader.{Reader}
 use Rattle.records.specs.declared.Reading.{Reading}
 use Rattle.records.specs.declared.Reading.the-variants.{Refused}
-use Rattle.records.specs.Steps.{newReader, stepOf, isFull, readingBy}
+use Rattle.records.specs.Records.{recordBytes}
+use Rattle.records.specs.Steps.{newReader, isNew, isFull, stepOf, readingBy}
 use Rattle.trace.specs.declared.Run.{Run}
 use Rattle.trace.specs.Run.{State, noTotals, turn}
 
@@ -52,6 +54,10 @@ unfoldable pub stepped : Machine → (byte : ℕ) → Machine
 stepped m byte =
     let r = stepOf (m .reader) byte in
     cond (isFull r) (turned m (readingBy r)) (waiting m r)
+
+-- whether the next bytes, so many of them, begin with a whole record
+unfoldable pub hasRecord : Reader → (count : ℕ) → Bool
+hasRecord r count = isNew r && leb recordBytes count
 
 -- after more bytes
 unfoldable pub fed : Machine → (bytes : List ℕ) → Machine

@@ -1,17 +1,18 @@
 // Runs a trace: recorded calls, one after the other, on a fresh woken board, and the totals of the board stores that they make.
 // The bytes of the trace come in parts of any length.
-ghost use Prim.Native.Nat.{_≤_};
+ghost use Prim.Native.Nat.{_<_, _≤_};
 ghost use mathlib.Core.Path.{_≡_};
 ghost use lib.ListN.{length};
 ghost use Rattle.benchboard.specs.Calls.{woken};
 ghost use Rattle.text.specs.Printing.{Prints};
 ghost use Rattle.trace.specs.Run.{noTotals, plus, counted, wokenState, called, lineText};
-ghost use Rattle.trace.specs.Steps.{machineOf, newRun, readingRun, endedRun, resting, turned, stepped, fed, finished, broken};
-ghost use Rattle.trace.specs.Contracts.{Runs};
+ghost use Rattle.trace.specs.Steps.{machineOf, newRun, readingRun, endedRun, resting, turned, stepped, hasRecord, fed, finished, broken};
+ghost use Rattle.trace.specs.Contracts.{Runs, Feeds};
 ghost use Rattle.trace.specs.Line.{longest};
 use benchboard::FULL_ALLOWANCE;
 use benchcalls::Call;
 use checks::Registers;
+use records::RECORD_BYTES;
 use records::Reader;
 use records::Reading;
 use status::Status;
@@ -181,6 +182,41 @@ fn feed(run: Run, byte: u8, board: &mut [u64], work: &mut [u64]) -> Run
     take(run, next.reading(), board, work)
 }
 
+// The run once the first bytes have been taken, as many as taken says.
+struct Fed {
+    run: Run,
+    taken: usize,
+}
+
+// Whether the next bytes, so many of them, begin with a whole record.
+fn has_record(reader: Reader, count: usize) -> bool
+    ensures { λ r. ⌜ r ≡ hasRecord reader count ⌝ }
+{
+    if !reader.is_new() {
+        return false;
+    }
+    count >= RECORD_BYTES
+}
+
+// Some bytes of the trace: a whole record, or else one byte.
+fn feed_some(run: Run, input: &[u8], board: &mut [u64], work: &mut [u64]) -> Fed
+    requires { ⌜ 0 < length (now input) ⌝ }
+    ensures { λ r. ⌜ Feeds (machineOf run (now (board .entry)) (now (work .entry))) (now (input .entry)) (now (board .exit)) (now (work .exit)) r ⌝ }
+{
+    let byte = input[0];
+    let reader = run.reader;
+    if !has_record(reader, input.len()) {
+        return Fed {
+            run: feed(run, byte, board, work),
+            taken: 1,
+        };
+    }
+    Fed {
+        run: take(run, records::read(input), board, work),
+        taken: RECORD_BYTES,
+    }
+}
+
 // Bytes of the trace.
 pub fn feed_bytes(run: Run, input: &[u8], board: &mut [u64], work: &mut [u64]) -> Run
     ensures { λ r. ⌜ Runs (fed (machineOf run (now (board .entry)) (now (work .entry))) (now (input .entry))) (now (board .exit)) (now (work .exit)) r ⌝ }
@@ -188,8 +224,9 @@ pub fn feed_bytes(run: Run, input: &[u8], board: &mut [u64], work: &mut [u64]) -
     let mut now = run;
     let mut i = 0;
     while i < input.len() {
-        now = feed(now, input[i], board, work);
-        i += 1;
+        let some = feed_some(now, &input[i..], board, work);
+        now = some.run;
+        i += some.taken;
     }
     now
 }

@@ -1,8 +1,9 @@
+use native.Mathlib.Omega.{arith}
 use borrow.Author.Needs.{needs}
 use Rattle.trace.specs.Steps.{machineOf}
 use Prim.Native.Nat.{_-_}
 use lib.ListN.{length}
-use Rattle.trace.proofs.Running.{Feeding, feeding-start, feeding-next, feeding-end}
+use Rattle.trace.proofs.Running.{Feeding, feeding-start, feeding-within, feeding-next, feeding-less, feeding-end, rest-some}
 use Rattle.trace.proofs.feed_bytes.Statement.{statement}
 use Rattle.trace.proofs.feed_bytes.Tie as tie
 
@@ -15,17 +16,23 @@ abbrev μ-loop : tie.MeasureT-loop
 loop-holds : tie.Need-loop-holds Inv-loop μ-loop
 loop-holds c = search (feeding-start)
 
-shared-slice-read-feed : tie.Need-shared-slice-read-feed Inv-loop μ-loop
-shared-slice-read-feed c = search needs
+sub-feed-some : tie.Need-sub-feed-some Inv-loop μ-loop
+sub-feed-some c = search needs
 
-feed-requires : tie.Need-feed-requires Inv-loop μ-loop
-feed-requires c κs = search needs
+part-feed-some-start : tie.Need-part-feed-some-start Inv-loop μ-loop
+part-feed-some-start c = search needs
+
+part-feed-some-end : tie.Need-part-feed-some-end Inv-loop μ-loop
+part-feed-some-end c = search needs
+
+feed-some-requires : tie.Need-feed-some-requires Inv-loop μ-loop
+feed-some-requires c κs = search (rest-some)
 
 add-i : tie.Need-add-i Inv-loop μ-loop
-add-i c = search needs
+add-i c = omega (arith, feeding-within _ _ _ _ _ _ _ _ (c .before .before .before .before .before .before .before .before .before .before .before .loop .inv) _ _ _ (c .before .before .before .before .before .before .feed-some .ensures), c .before .before .before .before .before .before .before .before .before .before .before .before .before .before .before .good)
 
 loop-less : tie.Need-loop-less Inv-loop μ-loop
-loop-less c = search needs
+loop-less c = search (feeding-less)
 
 loop-again : tie.Need-loop-again Inv-loop μ-loop
 loop-again c = search (feeding-next)
@@ -46,8 +53,10 @@ feed-bytes-spec =
     Inv-loop
     μ-loop
     loop-holds
-    shared-slice-read-feed
-    feed-requires
+    sub-feed-some
+    part-feed-some-start
+    part-feed-some-end
+    feed-some-requires
     add-i
     loop-less
     loop-again
