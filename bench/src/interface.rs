@@ -48,6 +48,10 @@ pub const NO_REGISTERS: RegisterWords = [0; REGISTER_WORDS];
 pub type AnswerWords = [u64; ANSWER_WORDS];
 pub const ANSWER_WORDS: usize = 2;
 
+/// The bytes of a record: two words, most significant byte first.
+pub type RecordBytes = [u8; RECORD_BYTES];
+pub const RECORD_BYTES: usize = size_of::<u128>();
+
 /// One implementation of the eight calls.
 ///
 /// The registers have a type for each side, so that each is called as it wants to be: the library with an array of

@@ -10,6 +10,7 @@ mod loom;
 mod memories;
 mod order;
 mod random;
+mod record;
 mod replay;
 mod repository;
 mod sizes;

@@ -2,16 +2,8 @@
 
 use super::layout::{RecordHead, LAST_ADDRESS};
 use crate::call::Call;
-use crate::interface::TRACE;
-
-pub const LOAD: u64 = 0;
-pub const STORE: u64 = 1;
-pub const COMMIT: u64 = 2;
-pub const SCAN: u64 = 3;
-pub const EVICT: u64 = 4;
-
-pub type RecordBytes = [u8; RECORD_BYTES];
-pub const RECORD_BYTES: usize = size_of::<u128>();
+use crate::interface::{RecordBytes, TRACE};
+use crate::record::{COMMIT, EVICT, LOAD, SCAN, STORE};
 
 /// The record of a kind, an address and a value, or 13 where one of them has no place in it.
 #[inline]

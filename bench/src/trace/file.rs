@@ -1,19 +1,14 @@
 //! A trace: the records of calls, one behind the other.
 
 use crate::call::Call;
-use crate::handwritten::record::{self, RecordBytes, COMMIT, EVICT, LOAD, RECORD_BYTES, SCAN, STORE};
-use crate::interface::TRACE;
+use crate::handwritten::record::{read, write};
+use crate::interface::{RecordBytes, RECORD_BYTES, TRACE};
+use crate::record::Record;
 
 /// The record of a call, or 13 where there is none for it.
 pub fn record_of(call: Call) -> Result<RecordBytes, u64> {
-    match call {
-        Call::Load { address, .. } => record::write(LOAD, address, 0),
-        Call::Store { address, data, .. } => record::write(STORE, address, data),
-        Call::Commit { .. } => record::write(COMMIT, 0, 0),
-        Call::Scan { .. } => record::write(SCAN, 0, 0),
-        Call::Evict { address, .. } => record::write(EVICT, address, 0),
-        Call::Format { .. } | Call::PowerUp { .. } | Call::Tally => Err(TRACE),
-    }
+    let Record { kind, address, value } = Record::of(call).ok_or(TRACE)?;
+    write(kind, address, value)
 }
 
 /// The trace of calls that all have a record.
@@ -30,6 +25,6 @@ pub fn trace_of(calls: &[Call]) -> Result<Vec<u8>, String> {
 pub fn calls_of(trace: &[u8]) -> impl Iterator<Item = Result<Call, u64>> + '_ {
     trace.chunks(RECORD_BYTES).map(|bytes| {
         let whole = RecordBytes::try_from(bytes).map_err(|_| TRACE)?;
-        record::read(whole)
+        read(whole)
     })
 }

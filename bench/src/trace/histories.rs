@@ -3,7 +3,7 @@
 use super::file::trace_of;
 use crate::call::Call;
 use crate::handwritten::layout::MOST_AHEAD;
-use crate::handwritten::record::RECORD_BYTES;
+use crate::interface::RECORD_BYTES;
 use crate::random::Random;
 use crate::sizes::{Sizes, MOST_OF_THE_REPLAY};
 
