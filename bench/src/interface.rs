@@ -1,4 +1,4 @@
-//! What both sides have in common: the eight calls, as one loop can make them on either side.
+//! What both sides have in common: the eight calls and the writer of records, as one loop can have them on either side.
 
 /// What a call answers: the paper's number, the value and the board stores made.
 #[derive(Clone, Copy, Debug, PartialEq, Eq)]
@@ -52,7 +52,7 @@ pub const ANSWER_WORDS: usize = 2;
 pub type RecordBytes = [u8; RECORD_BYTES];
 pub const RECORD_BYTES: usize = size_of::<u128>();
 
-/// One implementation of the eight calls.
+/// One implementation of the eight calls and of the writer of records.
 ///
 /// The registers have a type for each side, so that each is called as it wants to be: the library with an array of
 /// words, the hand-written Rust with a struct.
@@ -93,4 +93,6 @@ pub trait CacheLog {
     fn scan(board: &mut [u64], work: &mut [u64], registers: &mut Self::Registers, allowance: u32) -> Answer;
 
     fn tally(work: &[u64]) -> Answer;
+
+    fn trace_write(bytes: &mut RecordBytes, kind: u64, address: u64, value: u64) -> Answer;
 }

@@ -1,6 +1,8 @@
-//! A record as its writer is given it.
+//! A record as its writer is given it, on either side.
 
 use crate::call::Call;
+use crate::interface::{Answer, CacheLog, RecordBytes};
+use std::fmt;
 
 /// The kinds of calls that have a record.
 pub const LOAD: u64 = 0;
@@ -29,5 +31,17 @@ impl Record {
             Call::Format { .. } | Call::PowerUp { .. } | Call::Tally => return None,
         };
         Some(Record { kind, address, value })
+    }
+
+    #[inline(always)]
+    pub fn write<C: CacheLog>(self, bytes: &mut RecordBytes) -> Answer {
+        C::trace_write(bytes, self.kind, self.address, self.value)
+    }
+}
+
+impl fmt::Display for Record {
+    fn fmt(&self, out: &mut fmt::Formatter) -> fmt::Result {
+        let Record { kind, address, value } = self;
+        write!(out, "kind {kind}, address {address}, value {value:#018x}")
     }
 }

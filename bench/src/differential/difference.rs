@@ -1,8 +1,8 @@
 //! A call on which the two sides differ, told in full.
 
+use super::asked::Asked;
 use super::occurrences::number_name;
-use super::sides::Lent;
-use crate::call::Call;
+use super::sides::{is_read_back, Lent};
 use crate::handwritten::layout::slot_count;
 use crate::interface::{ANSWER_WORDS, REGISTER_NAMES};
 use std::fmt;
@@ -11,7 +11,7 @@ use std::fmt;
 const LISTED_WORDS: usize = 8;
 
 pub struct Difference {
-    pub call: Call,
+    pub asked: Asked,
     /// The call's place in its history, the first counted 0.
     pub place: u64,
     pub before: Lent,
@@ -23,23 +23,28 @@ pub struct Difference {
 
 impl fmt::Display for Difference {
     fn fmt(&self, out: &mut fmt::Formatter) -> fmt::Result {
-        writeln!(out, "  call         {}", self.call)?;
-        self.write_sizes(out)?;
-        writeln!(out, "  registers    before {}", register_text(&self.before.registers))?;
+        writeln!(out, "  call         {}", self.asked)?;
+        match self.asked {
+            Asked::Call(_) => self.write_state(out)?,
+            Asked::TraceWrite(_) => self.write_lengths(out)?,
+        }
         self.write_number(out)?;
         self.write_answer(out, "value", 0)?;
         self.write_answer(out, "stores", 1)?;
         self.write_words(out, "registers", |lent| &lent.registers)?;
         self.write_words(out, "board", |lent| &lent.board)?;
         self.write_words(out, "work", |lent| &lent.work)?;
+        self.write_words(out, "bytes", |lent| &lent.bytes)?;
         self.write_words(out, "answer behind", |lent| {
             lent.answer.get(ANSWER_WORDS..).unwrap_or(&[])
-        })
+        })?;
+        self.write_read_back(out)
     }
 }
 
 impl Difference {
-    fn write_sizes(&self, out: &mut fmt::Formatter) -> fmt::Result {
+    /// What a call was lent.
+    fn write_state(&self, out: &mut fmt::Formatter) -> fmt::Result {
         let before = &self.before;
         write!(out, "  sizes        board {} words", before.board.len())?;
         if before.has_head() {
@@ -54,6 +59,19 @@ impl Difference {
             out,
             ", registers {} words, answer {} words",
             before.registers.len(),
+            before.answer.len()
+        )?;
+        writeln!(out, "  registers    before {}", register_text(&before.registers))
+    }
+
+    /// What a record was lent.
+    fn write_lengths(&self, out: &mut fmt::Formatter) -> fmt::Result {
+        let before = &self.before;
+        writeln!(
+            out,
+            "  sizes        {} bytes, those at {:?}, answer {} words",
+            before.record_place.len(),
+            before.record_place,
             before.answer.len()
         )
     }
@@ -79,7 +97,11 @@ impl Difference {
         Ok(())
     }
 
-    fn write_words(&self, out: &mut fmt::Formatter, name: &str, part: fn(&Lent) -> &[u64]) -> fmt::Result {
+    fn write_words<W>(&self, out: &mut fmt::Formatter, name: &str, part: fn(&Lent) -> &[W]) -> fmt::Result
+    where
+        W: Eq + fmt::LowerHex,
+    {
+        let width = 2 + 2 * size_of::<W>();
         let (before, library, handwritten) = (part(&self.before), part(&self.library), part(&self.handwritten));
         let differing: Vec<usize> = (0..before.len())
             .filter(|&place| library[place] != handwritten[place])
@@ -87,7 +109,7 @@ impl Difference {
         for &place in differing.iter().take(LISTED_WORDS) {
             writeln!(
                 out,
-                "* {:<12} before {:#018x}, library {:#018x}, hand-written {:#018x}",
+                "* {:<12} before {:#0width$x}, library {:#0width$x}, hand-written {:#0width$x}",
                 format!("{name}[{place}]"),
                 before[place],
                 library[place],
@@ -96,9 +118,19 @@ impl Difference {
         }
         if differing.len() > LISTED_WORDS {
             let more = differing.len() - LISTED_WORDS;
-            writeln!(out, "* {name:<12} and {more} more words differ")?;
+            writeln!(out, "* {name:<12} and {more} more differ")?;
         }
         Ok(())
+    }
+
+    fn write_read_back(&self, out: &mut fmt::Formatter) -> fmt::Result {
+        if is_read_back(self.asked, self.library_number, &self.library) {
+            return Ok(());
+        }
+        match self.library.read_record() {
+            Ok(call) => writeln!(out, "* read back    {call}"),
+            Err(number) => writeln!(out, "* read back    {number} {}", number_name(number)),
+        }
     }
 }
 

@@ -1,12 +1,14 @@
 //! The differential test: each call on two copies of the same state, one by the library and one by the hand-written
 //! Rust, and all that they answer and leave compared word for word.
 
+mod asked;
 mod damage;
 mod difference;
 mod groups;
 mod habit;
 mod occurrences;
 mod player;
+mod record_turns;
 mod sides;
 mod words;
 
@@ -50,7 +52,7 @@ fn run_all(options: &Options) -> Result<(), String> {
         total.add(&player.occurrences);
     }
     println!("\n{}", Occurrences::header());
-    print_lines(&total.lines_by_call());
+    print_lines(&total.lines_by_function());
     println!("\nRare turns, and how often they were taken:");
     print_lines(&total.lines_of_turns());
     let missing = total.missing();

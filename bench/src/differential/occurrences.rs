@@ -1,10 +1,13 @@
-//! What occurred: which call answered which number how often, and which rare turns were taken.
+//! What occurred: which function answered which number how often, and which rare turns were taken.
 
+use super::asked::{Asked, Function};
+use super::record_turns;
 use super::sides::Lent;
-use crate::call::{Call, Kind};
+use crate::call::Kind;
 use crate::handwritten::layout::Control;
-use crate::interface::{name_of, NAMES};
+use crate::interface::{name_of, NAMES, OK};
 use crate::library::TOO_SHORT;
+use crate::record::Record;
 
 /// The column behind those of the paper's numbers.
 const SHORT: (u64, &str) = (TOO_SHORT, "short");
@@ -22,16 +25,17 @@ pub fn number_name(number: u64) -> &'static str {
     }
 }
 
-/// The numbers that the paper lets a call answer. A commit makes no store, so it is never cut.
-fn possible(kind: Kind) -> &'static [u64] {
-    match kind {
-        Kind::Format => &[0, 1, TOO_SHORT],
-        Kind::PowerUp => &[0, 1, 2, 3, 12, TOO_SHORT],
-        Kind::Load | Kind::Evict => &[0, 1, 2, 4, 5, 6, 7, 12, TOO_SHORT],
-        Kind::Store => &[0, 1, 2, 4, 5, 6, 7, 8, 12, TOO_SHORT],
-        Kind::Commit => &[0, 1, 2, 4, 7, 9, 10, TOO_SHORT],
-        Kind::Scan => &[0, 1, 2, 4, 6, 7, 11, 12, TOO_SHORT],
-        Kind::Tally => &[0, 2, TOO_SHORT],
+/// The numbers that the paper lets a function answer. A commit makes no store, so it is never cut.
+fn possible(function: Function) -> &'static [u64] {
+    match function {
+        Function::Call(Kind::Format) => &[0, 1, TOO_SHORT],
+        Function::Call(Kind::PowerUp) => &[0, 1, 2, 3, 12, TOO_SHORT],
+        Function::Call(Kind::Load | Kind::Evict) => &[0, 1, 2, 4, 5, 6, 7, 12, TOO_SHORT],
+        Function::Call(Kind::Store) => &[0, 1, 2, 4, 5, 6, 7, 8, 12, TOO_SHORT],
+        Function::Call(Kind::Commit) => &[0, 1, 2, 4, 7, 9, 10, TOO_SHORT],
+        Function::Call(Kind::Scan) => &[0, 1, 2, 4, 6, 7, 11, 12, TOO_SHORT],
+        Function::Call(Kind::Tally) => &[0, 2, TOO_SHORT],
+        Function::TraceWrite => &[0, 13, TOO_SHORT],
     }
 }
 
@@ -83,18 +87,21 @@ struct Seen {
 
 #[derive(Clone, Default)]
 pub struct Occurrences {
-    numbers: [[u64; COLUMNS]; Kind::ALL.len()],
+    numbers: [[u64; COLUMNS]; Function::COUNT],
     turns: [u64; TURNS.len()],
+    record_turns: [u64; record_turns::TURNS.len()],
 }
 
 impl Occurrences {
-    pub fn count(&mut self, call: Call, number: u64, before: &Lent, after: &Lent) {
+    pub fn count(&mut self, asked: Asked, number: u64, before: &Lent, after: &Lent) {
         let column = columns()
             .position(|(known, _)| known == number)
             .expect("the hand-written side answers no other number");
-        self.numbers[call.kind() as usize][column] += 1;
-        if number == 0 {
-            self.count_turns(call.kind(), before, after);
+        self.numbers[asked.function().place()][column] += 1;
+        match asked {
+            Asked::Call(call) if number == OK => self.count_turns(call.kind(), before, after),
+            Asked::Call(_) => {}
+            Asked::TraceWrite(record) => self.count_record_turns(record, number, before),
         }
     }
 
@@ -115,12 +122,33 @@ impl Occurrences {
         }
     }
 
+    fn count_record_turns(&mut self, record: Record, number: u64, before: &Lent) {
+        let seen = record_turns::Seen {
+            record,
+            bytes: before.record_place.len(),
+            answer_words: before.answer.len(),
+            number,
+        };
+        for (count, (_, turn)) in self.record_turns.iter_mut().zip(record_turns::TURNS) {
+            *count += u64::from(turn(&seen));
+        }
+    }
+
     pub fn add(&mut self, other: &Occurrences) {
-        let more = other.numbers.iter().flatten().chain(&other.turns);
-        let counts = self.numbers.iter_mut().flatten().chain(&mut self.turns);
+        let more = other.numbers.iter().flatten();
+        let more = more.chain(&other.turns).chain(&other.record_turns);
+        let counts = self.numbers.iter_mut().flatten();
+        let counts = counts.chain(&mut self.turns).chain(&mut self.record_turns);
         for (count, more) in counts.zip(more) {
             *count += more;
         }
+    }
+
+    /// Each rare turn, and how often it was taken.
+    fn turns(&self) -> impl Iterator<Item = (&'static str, u64)> {
+        let of_calls = TURNS.map(|(name, _)| name).into_iter().zip(self.turns);
+        let of_records = record_turns::TURNS.map(|(name, _)| name).into_iter();
+        of_calls.chain(of_records.zip(self.record_turns))
     }
 
     pub fn calls(&self) -> u64 {
@@ -132,37 +160,35 @@ impl Occurrences {
         format!("{:<16}{:>10}{}", "", "calls", columns.collect::<String>())
     }
 
-    /// One line for all calls together.
+    /// One line for all functions together.
     pub fn line(&self, name: &str) -> String {
         let columns: [u64; COLUMNS] = std::array::from_fn(|column| self.numbers.iter().map(|row| row[column]).sum());
         count_line(name, &columns)
     }
 
-    pub fn lines_by_call(&self) -> Vec<String> {
-        let line = |kind: Kind| count_line(kind.name(), &self.numbers[kind as usize]);
-        Kind::ALL.map(line).to_vec()
+    pub fn lines_by_function(&self) -> Vec<String> {
+        let line = |function: Function| count_line(function.name(), &self.numbers[function.place()]);
+        Function::all().map(line).collect()
     }
 
     pub fn lines_of_turns(&self) -> Vec<String> {
-        let line = |(count, (name, _)): (&u64, (&str, Turn))| format!("{count:>10}  {name}");
-        self.turns.iter().zip(TURNS).map(line).collect()
+        self.turns()
+            .map(|(name, count)| format!("{count:>10}  {name}"))
+            .collect()
     }
 
     /// What should have occurred and has not.
     pub fn missing(&self) -> Vec<String> {
         let mut missing = Vec::new();
-        for kind in Kind::ALL {
+        for function in Function::all() {
             for (column, (number, name)) in columns().enumerate() {
-                if possible(kind).contains(&number) && self.numbers[kind as usize][column] == 0 {
-                    missing.push(format!("{} answered {number} {name}", kind.name()));
+                if possible(function).contains(&number) && self.numbers[function.place()][column] == 0 {
+                    missing.push(format!("{} answered {number} {name}", function.name()));
                 }
             }
         }
-        for (&count, (name, _)) in self.turns.iter().zip(TURNS) {
-            if count == 0 {
-                missing.push(name.to_string());
-            }
-        }
+        let untaken = self.turns().filter(|&(_, count)| count == 0);
+        missing.extend(untaken.map(|(name, _)| name.to_string()));
         missing
     }
 }

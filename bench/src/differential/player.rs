@@ -1,9 +1,9 @@
 //! Makes each call of a history on both sides and compares what they leave.
 
+use super::asked::Asked;
 use super::difference::Difference;
 use super::occurrences::Occurrences;
-use super::sides::{on_handwritten, on_library, Lent};
-use crate::call::Call;
+use super::sides::{is_read_back, on_handwritten, on_library, Lent};
 use crate::interface::{ANSWER_WORDS, NO_REGISTERS};
 use crate::random::Random;
 
@@ -47,17 +47,19 @@ impl Player {
     }
 
     /// Makes the call on two copies of the state, compares all of them, and goes on from there.
-    pub fn make(&mut self, call: Call) -> Outcome {
+    pub fn make(&mut self, asked: impl Into<Asked>) -> Outcome {
+        let asked = asked.into();
         for word in &mut self.state.answer {
             *word = self.random.word();
         }
         self.library.copy_from(&self.state);
         self.handwritten.copy_from(&self.state);
-        let library_number = on_library(call, &mut self.library);
-        let handwritten_number = on_handwritten(call, &mut self.handwritten);
-        if library_number != handwritten_number || self.library != self.handwritten {
+        let library_number = on_library(asked, &mut self.library);
+        let handwritten_number = on_handwritten(asked, &mut self.handwritten);
+        let is_same = library_number == handwritten_number && self.library == self.handwritten;
+        if !is_same || !is_read_back(asked, library_number, &self.library) {
             return Err(Box::new(Difference {
-                call,
+                asked,
                 place: self.calls_in_history,
                 before: self.state.clone(),
                 library_number,
@@ -67,7 +69,8 @@ impl Player {
             }));
         }
         self.calls_in_history += 1;
-        self.occurrences.count(call, library_number, &self.state, &self.library);
+        self.occurrences
+            .count(asked, library_number, &self.state, &self.library);
         std::mem::swap(&mut self.state, &mut self.library);
         self.last_number = library_number;
         Ok(())

@@ -1,9 +1,12 @@
 //! One call on each side, over arrays of any length.
 
+use super::asked::Asked;
 use crate::call::Call;
 use crate::handwritten::{HandWritten, Registers};
-use crate::interface::{AnswerWords, ANSWER_WORDS};
+use crate::interface::{Answer, AnswerWords, ANSWER_WORDS, OK};
 use crate::library;
+use crate::record::Record;
+use std::ops::Range;
 
 /// All that a call is lent.
 #[derive(Clone, Debug, Default, PartialEq, Eq)]
@@ -11,6 +14,9 @@ pub struct Lent {
     pub board: Vec<u64>,
     pub work: Vec<u64>,
     pub registers: Vec<u64>,
+    /// The bytes for a record, and others around them that are not lent.
+    pub bytes: Vec<u8>,
+    pub record_place: Range<usize>,
     pub answer: Vec<u64>,
 }
 
@@ -20,17 +26,27 @@ impl Lent {
         self.board.clone_from(&other.board);
         self.work.clone_from(&other.work);
         self.registers.clone_from(&other.registers);
+        self.bytes.clone_from(&other.bytes);
+        self.record_place.clone_from(&other.record_place);
         self.answer.clone_from(&other.answer);
     }
 }
 
-/// Makes the call on the library and gives the number.
-pub fn on_library(call: Call, lent: &mut Lent) -> u64 {
+/// Asks the library and gives the number.
+pub fn on_library(asked: Asked, lent: &mut Lent) -> u64 {
+    match asked {
+        Asked::Call(call) => make_on_library(call, lent),
+        Asked::TraceWrite(record) => write_on_library(record, lent),
+    }
+}
+
+fn make_on_library(call: Call, lent: &mut Lent) -> u64 {
     let Lent {
         board,
         work,
         registers,
         answer,
+        ..
     } = lent;
     match call {
         Call::Format { lines, entries } => library::format(board, lines, entries, answer),
@@ -48,23 +64,54 @@ pub fn on_library(call: Call, lent: &mut Lent) -> u64 {
     }
 }
 
-/// Makes the call on the hand-written Rust and gives the number. It knows nothing of arrays: what the library has to do
-/// with them is said here.
-pub fn on_handwritten(call: Call, lent: &mut Lent) -> u64 {
-    let takes_registers = !matches!(call, Call::Format { .. } | Call::Tally);
-    if lent.answer.len() < ANSWER_WORDS || (takes_registers && !lent.has_registers()) {
+fn write_on_library(record: Record, lent: &mut Lent) -> u64 {
+    let Record { kind, address, value } = record;
+    let bytes = &mut lent.bytes[lent.record_place.clone()];
+    library::trace_write(bytes, kind, address, value, &mut lent.answer)
+}
+
+/// Asks the hand-written Rust and gives the number. It knows nothing of arrays: what the library has to do with them is
+/// said here.
+pub fn on_handwritten(asked: Asked, lent: &mut Lent) -> u64 {
+    if lent.answer.len() < ANSWER_WORDS {
         return library::TOO_SHORT;
     }
-    let mut registers = if takes_registers {
-        lent.registers()
-    } else {
-        Registers::default()
+    let answer = match asked {
+        Asked::Call(call) => make_on_handwritten(call, lent),
+        Asked::TraceWrite(record) => write_on_handwritten(record, lent),
     };
-    let answer = call.make::<HandWritten>(&mut lent.board, &mut lent.work, &mut registers);
-    if takes_registers {
-        lent.set_registers(registers);
-    }
+    let Some(answer) = answer else {
+        return library::TOO_SHORT;
+    };
     let words: AnswerWords = [answer.value, answer.stores];
     lent.answer[..ANSWER_WORDS].copy_from_slice(&words);
     answer.number
+}
+
+/// None where the call takes registers and there are too few words.
+fn make_on_handwritten(call: Call, lent: &mut Lent) -> Option<Answer> {
+    if matches!(call, Call::Format { .. } | Call::Tally) {
+        return Some(call.make::<HandWritten>(&mut lent.board, &mut lent.work, &mut Registers::default()));
+    }
+    if !lent.has_registers() {
+        return None;
+    }
+    let mut registers = lent.registers();
+    let answer = call.make::<HandWritten>(&mut lent.board, &mut lent.work, &mut registers);
+    lent.set_registers(registers);
+    Some(answer)
+}
+
+/// None where there are too few bytes.
+fn write_on_handwritten(record: Record, lent: &mut Lent) -> Option<Answer> {
+    let bytes = lent.bytes[lent.record_place.clone()].first_chunk_mut()?;
+    Some(record.write::<HandWritten>(bytes))
+}
+
+/// Whether the hand-written reader takes a record that was written for the call that it was written of.
+pub fn is_read_back(asked: Asked, number: u64, after: &Lent) -> bool {
+    match asked {
+        Asked::TraceWrite(record) if number == OK => after.read_record().ok().and_then(Record::of) == Some(record),
+        _ => true,
+    }
 }

@@ -2,12 +2,13 @@
 //! through here.
 
 use super::sides::Lent;
+use crate::call::Call;
 use crate::handwritten::layout::{
     buffer_place, entry_place, slot_place, slots_in, work_words, Control, Range, Shape, SlotWord, CONTROL_PLACE,
     SHAPE_PLACE,
 };
-use crate::handwritten::Registers;
-use crate::interface::{RegisterWords, REGISTER_WORDS};
+use crate::handwritten::{record, Registers};
+use crate::interface::{RegisterWords, REGISTER_WORDS, TRACE};
 
 impl Lent {
     /// The board's first two words are there.
@@ -99,5 +100,11 @@ impl Lent {
     /// Sets the first words of the array: what stands behind them stays.
     pub fn set_registers(&mut self, registers: Registers) {
         self.registers[..REGISTER_WORDS].copy_from_slice(&RegisterWords::from(registers));
+    }
+
+    /// The call whose record the bytes for one begin with.
+    pub fn read_record(&self) -> Result<Call, u64> {
+        let bytes = self.bytes[self.record_place.clone()].first_chunk().ok_or(TRACE)?;
+        record::read(*bytes)
     }
 }

@@ -2,8 +2,25 @@
 
 use super::layout::{RecordHead, LAST_ADDRESS};
 use crate::call::Call;
-use crate::interface::{RecordBytes, TRACE};
+use crate::interface::{Answer, RecordBytes, OK, TRACE};
 use crate::record::{COMMIT, EVICT, LOAD, SCAN, STORE};
+
+/// The record of a kind, an address and a value in the place of these bytes, or 13 and no byte touched.
+#[inline(never)]
+pub fn trace_write(bytes: &mut RecordBytes, kind: u64, address: u64, value: u64) -> Answer {
+    let number = match write(kind, address, value) {
+        Ok(record) => {
+            *bytes = record;
+            OK
+        }
+        Err(number) => number,
+    };
+    Answer {
+        number,
+        value: 0,
+        stores: 0,
+    }
+}
 
 /// The record of a kind, an address and a value, or 13 where one of them has no place in it.
 #[inline]
@@ -50,6 +67,7 @@ fn words_of(bytes: RecordBytes) -> (u64, u64) {
 #[cfg(test)]
 mod tests {
     use super::*;
+    use crate::interface::RECORD_BYTES;
     use crate::random::Random;
 
     /// Worked by hand from the paper's layout: the first word, in hexadecimal, and the value.
@@ -92,6 +110,20 @@ mod tests {
         let bytes = [0x22, 0x46, 0x80, 0, 0, 0, 0, 0, 1, 2, 3, 4, 5, 6, 7, 8];
         assert_eq!(write(STORE, 0x1234, 0x0102_0304_0506_0708), Ok(bytes));
         assert_eq!(read(bytes), Ok(Call::store(0x1234, 0x0102_0304_0506_0708)));
+    }
+
+    #[test]
+    fn a_refused_record_touches_no_byte() {
+        let mut bytes = [0xA5; RECORD_BYTES];
+        let answer = |number| Answer {
+            number,
+            value: 0,
+            stores: 0,
+        };
+        assert_eq!(trace_write(&mut bytes, SCAN, 0, 1), answer(13));
+        assert_eq!(bytes, [0xA5; RECORD_BYTES]);
+        assert_eq!(trace_write(&mut bytes, STORE, 0x1234, 1), answer(0));
+        assert_eq!(bytes, [0x22, 0x46, 0x80, 0, 0, 0, 0, 0, 0, 0, 0, 0, 0, 0, 0, 1]);
     }
 
     #[test]

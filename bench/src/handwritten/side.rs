@@ -1,7 +1,7 @@
 //! The hand-written calls as one of the two sides.
 
-use super::Registers;
-use crate::interface::{Answer, CacheLog};
+use super::{record, Registers};
+use crate::interface::{Answer, CacheLog, RecordBytes};
 
 pub struct HandWritten;
 
@@ -53,5 +53,10 @@ impl CacheLog for HandWritten {
     #[inline]
     fn tally(work: &[u64]) -> Answer {
         super::tally(work)
+    }
+
+    #[inline]
+    fn trace_write(bytes: &mut RecordBytes, kind: u64, address: u64, value: u64) -> Answer {
+        record::trace_write(bytes, kind, address, value)
     }
 }

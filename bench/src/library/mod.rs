@@ -88,10 +88,19 @@ mod c {
             answer_words: usize,
         ) -> u64;
         pub fn picl_tally(work: *const u64, work_words: usize, answer: *mut u64, answer_words: usize) -> u64;
+        pub fn picl_trace_write(
+            bytes: *mut u8,
+            byte_count: usize,
+            kind: u64,
+            address: u64,
+            value: u64,
+            answer: *mut u64,
+            answer_words: usize,
+        ) -> u64;
     }
 }
 
-/// What the library answers when the registers or the answer have too few words.
+/// What the library answers when the registers or the answer have too few words, or a record too few bytes.
 pub const TOO_SHORT: u64 = 255;
 
 #[inline]
@@ -239,4 +248,19 @@ pub fn scan(board: &mut [u64], work: &mut [u64], registers: &mut [u64], allowanc
 #[inline]
 pub fn tally(work: &[u64], answer: &mut [u64]) -> u64 {
     unsafe { c::picl_tally(work.as_ptr(), work.len(), answer.as_mut_ptr(), answer.len()) }
+}
+
+#[inline]
+pub fn trace_write(bytes: &mut [u8], kind: u64, address: u64, value: u64, answer: &mut [u64]) -> u64 {
+    unsafe {
+        c::picl_trace_write(
+            bytes.as_mut_ptr(),
+            bytes.len(),
+            kind,
+            address,
+            value,
+            answer.as_mut_ptr(),
+            answer.len(),
+        )
+    }
 }

@@ -1,6 +1,6 @@
 //! The library as one of the two sides.
 
-use crate::interface::{Answer, AnswerWords, CacheLog, RegisterWords, ANSWER_WORDS};
+use crate::interface::{Answer, AnswerWords, CacheLog, RecordBytes, RegisterWords, ANSWER_WORDS};
 
 pub struct Library;
 
@@ -73,5 +73,10 @@ impl CacheLog for Library {
     #[inline]
     fn tally(work: &[u64]) -> Answer {
         answered(|answer| super::tally(work, answer))
+    }
+
+    #[inline]
+    fn trace_write(bytes: &mut RecordBytes, kind: u64, address: u64, value: u64) -> Answer {
+        answered(|answer| super::trace_write(bytes, kind, address, value, answer))
     }
 }

@@ -7,6 +7,7 @@ mod large;
 mod last_epochs;
 mod log_edges;
 mod random_words;
+mod records;
 
 use super::player::{Outcome, Player};
 
@@ -17,10 +18,10 @@ pub struct Group {
     pub history: fn(&mut Player) -> Outcome,
 }
 
-pub const GROUPS: [Group; 7] = [
+pub const GROUPS: [Group; 8] = [
     Group {
         name: "histories",
-        share: 450,
+        share: 430,
         history: histories::history,
     },
     Group {
@@ -47,6 +48,11 @@ pub const GROUPS: [Group; 7] = [
         name: "arrays",
         share: 60,
         history: arrays::history,
+    },
+    Group {
+        name: "records",
+        share: 20,
+        history: records::history,
     },
     Group {
         name: "large",
