@@ -1,7 +1,8 @@
 -- "Checked by proof, W1 to W12": the paper's worked examples, as rows of one table, and behind them a row for each of its traps.
+use Prim.Native.Nat.{_-_, _^_}
 use mathlib.Core.Path.{_≡_, refl}
 use mathlib.Core.Bool.{true, false}
-use mathlib.Core.List.{[]}
+use mathlib.Core.List.{[], _∷_, _++_}
 use Rattle.base.specs.Walk.{firstFrom}
 use Rattle.board.specs.Stores.{applied, each, shifted}
 use Rattle.layout.specs.Fields.{width, pack, unpack, encode, decode}
@@ -9,19 +10,32 @@ use Rattle.layout.specs.Words.{encodeControl, encodeShape, encodeEntry, encodeS
 use Rattle.status.specs.Numbers.{numberOf}
 use Rattle.undo.specs.Entries.{covers, properEntry, properBuffered}
 use Rattle.undo.specs.Log.{placeOf, entryIn, oldIn, olderTill, properAt, firstImproper, bufferedIn, bufferedProper, bufferProper}
+use Rattle.undo.specs.Log.{expired, dropped, advanceStores}
 use Rattle.undo.specs.Log.{elsewhere, buffers, pushed, entryStores, flushed, flushStores, flushedBuffer, restoreStores, restoreTurn, recoverStores}
 use Rattle.slots.specs.Slots as slots
-use Rattle.layout.specs.Memory.{withBuffer, shapeFor}
+use Rattle.layout.specs.Memory.{withBuffer, shapeFor, formatted}
 use Rattle.steps.specs.Effects.{flushingIf, writingOut, writingBack, emptying, entryFor, logged, storingHeld}
 use Rattle.slots.specs.Slots.{entryDue, undoDue}
-use Rattle.steps.specs.Effects.{loading, storing, evicting, cleaning, visiting}
+use Rattle.steps.specs.Effects.{bringing, loading, storing, evicting, cleaning, visiting, persisting}
 use Rattle.checks.specs.Registers.{zero, given}
 use Rattle.checks.specs.View.{viewOf, goodSizes, goodControl, goodShape, goodWork, properEpoch, properCounts, properRegisters, goodBuffer}
 use Rattle.checks.specs.Refusals.{boardChecked, memoriesChecked, runningChecked, lineChecked, storeChecked, commitChecked, scanChecked}
 use Rattle.picl.specs.Answers.{cutOff, answerOf}
-use Rattle.board.specs.Verdict.{boardAfter}
+use Rattle.board.specs.Verdict.{boardAfter, workAfter}
+use Rattle.picl.specs.Calls.{formatReport, formatAfter, loadAt, loadOutcome, loadVerdict}
 use Rattle.picl.specs.Calls.{storeAt, storeOutcome, storeVerdict, evictAt, evictOutcome, evictVerdict, commitOutcome, commitVerdict}
 use Rattle.picl.specs.Calls.{scanOutcome, scanVerdict, wakeAt, wakeVerdict, powerUpVerdict}
+use Rattle.layout.specs.Bytes.{bytesOf, wordOf}
+use Rattle.status.specs.declared.Status.the-variants as status
+use Rattle.status.specs.Names.{bytes}
+use Rattle.benchcalls.specs.declared.Call.the-variants.{Store}
+use Rattle.benchboard.specs.Sizes.{benchSized}
+use Rattle.benchboard.specs.Calls.{woken}
+use Rattle.records.specs.declared.Reading.the-variants.{End, Recorded}
+use Rattle.records.specs.Records.{loadKind, storeKind, commitKind, scanKind, evictKind, hasPlace, callOf, firstWord, written, wordsReading, reading}
+use Rattle.text.specs.Text.{placesOf, decimalOf, numbersText, nameText}
+use Rattle.trace.specs.Run.{plus, begun, called, taken, turn, after, ran, lineText, printed}
+use Rattle.worked.specs.Recorded.{zeros, wrote, bad, listing, broken}
 use Rattle.worked.specs.Bench.{control, entry, slot, clean, dirty, undo, twice, board, work, quiet}
 use Rattle.worked.specs.Bench.{wake, store, evict, commit, scan, still, ok}
 
@@ -70,6 +84,29 @@ pub record Worked : Type 0 where
   pub other-tag : scan 2 ≡ still (given 2 1 2) (work (dirty 2) 9 (undo 3 0 2 7))
   -- "if any buffered entry has its address, flush first": where none has, one store
   pub no-flush : answerOf 1 (given 2 1 0) (evict (undo 1 0 2 7)) ≡ ok 1 1 (given 2 1 0)
+  -- Recorded traces: "two words, most significant byte first: kind 3 bits .., address 16, zero 45; then the value"
+  pub record-store : written storeKind 5 9 ≡ wrote (0x20 ∷ 0x00 ∷ 0xA0 ∷ zeros 12 ++ (9 ∷ []))
+  pub record-evict : written evictKind 65535 0 ≡ wrote (0x9F ∷ 0xFF ∷ 0xE0 ∷ zeros 13)
+  pub record-scan : written scanKind 0 0 ≡ wrote (0x60 ∷ zeros 15)
+  pub record-back : reading (0x20 ∷ 0x00 ∷ 0xA0 ∷ zeros 12 ++ (9 ∷ [])) ≡ Recorded (Store 5 9)
+  -- "from the writer, a kind, address or value with no place in it"
+  pub no-kind : written 5 0 0 .status ≡ status.Trace
+  pub no-address : (written loadKind 65536 0 .status ≡ status.Trace) × (written commitKind 1 0 .status ≡ status.Trace)
+  pub no-value : written loadKind 5 9 .status ≡ status.Trace
+  -- "a record that breaks this layout": kind 5, the last and the first of the 45 bits, an address with commit, a value with load
+  pub bad-kind : reading (0xA0 ∷ zeros 15) ≡ bad
+  pub bad-bits : (reading (zeros 7 ++ (1 ∷ zeros 8)) ≡ bad) × (reading (0x00 ∷ 0x00 ∷ 0x10 ∷ zeros 13) ≡ bad)
+  pub bad-address : reading (0x40 ∷ 0x00 ∷ 0x20 ∷ zeros 13) ≡ bad
+  pub bad-value : reading (zeros 15 ++ (9 ∷ [])) ≡ bad
+  -- "or ends early"; no bytes are the end
+  pub early : reading (zeros 15) ≡ bad
+  pub at-end : reading [] ≡ End
+  -- "each total is the sum modulo 2^64"
+  pub wraps : plus (2 ^ 64 - 1) 3 ≡ 2
+  -- the paper's replay as a trace, with no `n` and no `p`: its last scan makes the listing's 6 stores
+  pub listing-line : printed 4 8 2 listing ≡ bytes "ok 0 0 0 6\n"
+  -- "tested before its call and ending the run": the calls before it are counted, the one behind it is not made
+  pub trace-line : printed 4 8 2 (broken listing) ≡ bytes "trace 0 0 0 0\n"
 
 pub worked : Worked
 unfolding width pack unpack encode decode
@@ -81,6 +118,9 @@ unfolding width pack unpack encode decode
     properRegisters goodBuffer boardChecked memoriesChecked runningChecked lineChecked storeChecked commitChecked scanChecked answerOf boardAfter
     storeAt storeOutcome storeVerdict evictAt evictOutcome evictVerdict commitOutcome commitVerdict scanOutcome scanVerdict
     wakeAt wakeVerdict powerUpVerdict
+    bytesOf wordOf hasPlace callOf firstWord written wordsReading reading
+    formatReport formatAfter loadAt loadOutcome loadVerdict workAfter bringing slots.filled persisting expired dropped advanceStores
+    benchSized formatted woken begun called taken turn after ran lineText nameText numbersText decimalOf placesOf
 worked =
     record {
       w1 = refl;
@@ -108,4 +148,20 @@ worked =
       always-stored = refl;
       other-tag = refl;
       no-flush = refl;
+      record-store = refl;
+      record-evict = refl;
+      record-scan = refl;
+      record-back = refl;
+      no-kind = refl;
+      no-address = (refl, refl);
+      no-value = refl;
+      bad-kind = refl;
+      bad-bits = (refl, refl);
+      bad-address = refl;
+      bad-value = refl;
+      early = refl;
+      at-end = refl;
+      wraps = refl;
+      listing-line = refl;
+      trace-line = refl;
     }
