@@ -1,16 +1,15 @@
 -- One law for each way out of the writer of records.
 use Prim.Native.Nat.{ℕ, _≤_}
-use mathlib.Core.Path.{_≡_, refl, sym, ap, ap₂, _∙_}
+use mathlib.Core.Path.{_≡_, sym, ap, ap₂, _∙_}
 use mathlib.Core.Bool.{Bool, true, false, not}
 use mathlib.Core.List.{List, _++_}
 use native.Mathlib.Omega.{arith}
-use borrow.Author.Tests.{le-leb, leb-true, not-true, not-false}
+use borrow.Author.Tests.{leb-true, not-true, not-false}
 use lib.Dec.{leb}
 use lib.ListN.{length, take, drop}
 use lib.Seq.{take-all}
 use Rattle.base.specs.Tests.{and-left, and-right}
 use Rattle.status.specs.Numbers.{isOk}
-use Rattle.picl.specs.declared.Report.{Report}
 use Rattle.records.specs.declared.Written.{Written}
 use Rattle.records.specs.Records.{recordBytes, written}
 use Rattle.records.specs.Laws.{written-length}

@@ -1,16 +1,16 @@
 -- One law for each way out of a function.
 use Prim.Native.Nat.{ℕ, _+_, _^_, _<_, _≤_, min}
-use mathlib.Core.Path.{_≡_, refl, sym, ap, _∙_}
-use mathlib.Core.Bool.{Bool, true, false, not, cond, _&&_, and-false}
+use mathlib.Core.Path.{_≡_, sym, ap, _∙_}
+use mathlib.Core.Bool.{Bool, true, false, not}
 use mathlib.Core.List.{List, [], _∷_, _++_}
 use native.Mathlib.Omega.{arith}
 use native.Mathlib.Numerals.{add-one}
 use borrow.Author.Tests.{eq-eqb, ne-eqb, not-true, not-false, le-ltb, lt-ltb, le-leb, lt-leb}
-use lib.Dec.{eqb}
 use lib.ListN.{length, getD, take, replicate}
 use lib.Seq.{take-all, take-suc, length-take-le}
 use Rattle.base.specs.Cases.{below-or-not}
 use Rattle.layout.specs.declared.Record.{Record}
+use Rattle.layout.specs.Limits.{addressBits}
 use Rattle.layout.specs.Words.{Decoded, RecordFits, decodeRecord}
 use Rattle.layout.specs.Bytes.{bytesOf, withByte, AreBytes, bytes-take}
 use Rattle.status.specs.declared.Status.the-variants.{Ok, Trace}
@@ -18,10 +18,34 @@ use Rattle.benchcalls.specs.declared.Call.{Call}
 use Rattle.records.specs.declared.Reader.{Reader}
 use Rattle.records.specs.declared.Reading.{Reading}
 use Rattle.records.specs.declared.Reading.the-variants.{Recorded, Refused}
-use Rattle.records.specs.declared.Written.{Written}
+use Rattle.records.specs.Records.{evictKind, takesAddress, takesValue, zeroUnless}
 use Rattle.records.specs.Records.{recordBytes, hasPlace, callOf, firstWord, written, wordsReading, reading}
 use Rattle.records.specs.Steps.{newReader, isFull, stepOf, readingBy}
-use Rattle.records.specs.Laws.{readerOf, reader-new, reader-steps, reader-reads, reading-first, place-fits}
+use Rattle.records.specs.Laws.{readerOf, reader-new, reader-steps, reader-reads, reading-first}
+
+-- ── what has a place ──
+
+module _ (kind address value : ℕ) where
+  pub place-no-kind : evictKind < kind → false ≡ hasPlace kind address value
+  unfolding hasPlace
+  place-no-kind h = rw (lt-leb kind evictKind h)
+
+  module _ (known : kind ≤ evictKind) where
+    pub place-far : 2 ^ addressBits ≤ address → false ≡ hasPlace kind address value
+    unfolding hasPlace
+    place-far h = rw (le-leb kind evictKind known, le-ltb address (2 ^ addressBits) h)
+
+    module _ (near : address < 2 ^ addressBits) (takes t : Bool) (is : takes ≡ takesAddress kind) (zero : t ≡ zeroUnless takes address) where
+      first-fits : zeroUnless (takesAddress kind) address ≡ t
+      first-fits = sym (zero ∙ ap (λ (b : Bool). zeroUnless b address) is)
+
+      pub place-not-zero : not t ≡ true → false ≡ hasPlace kind address value
+      unfolding hasPlace
+      place-not-zero n = rw (le-leb kind evictKind known, lt-ltb address (2 ^ addressBits) near, first-fits, not-true t n)
+
+      pub place-so : (u : Bool) → not t ≡ false → u ≡ zeroUnless (takesValue kind) value → u ≡ hasPlace kind address value
+      unfolding hasPlace
+      place-so u n e = rw (le-leb kind evictKind known, lt-ltb address (2 ^ addressBits) near, first-fits, not-false t n) e
 
 -- ── the writer ──
 

@@ -1,16 +1,16 @@
 -- The reader, fed byte by byte, reads what `Records` says (`reader-reads`); and the laws between writer and reader: what the writer writes the
 -- reader reads back (`read-back`), what the reader accepts the writer writes again (`written-again`), and what the reader refuses no writer
 -- writes (`never-written`).
-use Prim.Native.Nat.{ℕ, zero, suc, _+_, _*_, _^_, _<_, _≤_, min}
+use Prim.Native.Nat.{ℕ, zero, suc, _+_, _^_, _<_, _≤_}
 use mathlib.Core.Path.{_≡_, refl, sym, ap, ap₂, _∙_}
-use mathlib.Core.Bool.{Bool, true, false, cond, _&&_, _||_, false≢true}
+use mathlib.Core.Bool.{Bool, true, false, cond, _&&_}
 use mathlib.Core.List.{List, [], _∷_, _++_}
 use native.Mathlib.Omega.{arith}
 use native.Mathlib.Nat.{zero-add, suc-add}
-use borrow.Author.Tests.{ltb-true, ltb-false, eqb-true, le-ltb, lt-ltb, le-leb, lt-leb, eq-eqb, ne-eqb}
+use borrow.Author.Tests.{leb-true, ltb-true, ltb-false, eqb-true, le-ltb, lt-ltb, lt-leb, ne-eqb}
 use lib.Dec.{ltb, leb, eqb}
-use lib.ListN.{length, getD, take, drop, length-append, length-take, length-drop, drop-of-length-le}
-use lib.Seq.{take-all, take-append-le, drop-append-le, take-append-seam, drop-append-seam, take-take, length-take-le}
+use lib.ListN.{length, take, drop, length-append, length-take, length-drop, drop-of-length-le}
+use lib.Seq.{take-all, take-append-le, drop-append-le, take-take, length-take-le}
 use Rattle.base.specs.Cases.{below-or-not, either}
 use Rattle.base.specs.Tests.{and-left, and-right}
 use Rattle.layout.specs.declared.Record.{Record}
@@ -24,11 +24,10 @@ use Rattle.status.specs.declared.Status.the-variants.{Ok, Trace}
 use Rattle.benchcalls.specs.declared.Call.{Call}
 use Rattle.benchcalls.specs.declared.Call.the-variants.{Load, Store, Evict, Commit, Scan}
 use Rattle.records.specs.declared.Reader.{Reader}
-use Rattle.records.specs.declared.Reading.{Reading}
 use Rattle.records.specs.declared.Reading.the-variants.{End, Recorded, Refused}
 use Rattle.records.specs.declared.Written.{Written}
-use Rattle.records.specs.Records.{loadKind, storeKind, commitKind, scanKind, evictKind, recordBytes, isZero}
-use Rattle.records.specs.Records.{takesAddress, takesNothing, hasPlaceAlone, hasPlaceInIt, hasPlace, callOf, firstWord}
+use Rattle.records.specs.Records.{loadKind, storeKind, commitKind, scanKind, evictKind, recordBytes}
+use Rattle.records.specs.Records.{takesAddress, takesValue, zeroUnless, hasPlace, callOf, firstWord}
 use Rattle.records.specs.Records.{written, wordsReading, firstIn, valueIn, reading}
 use Rattle.records.specs.Steps.{newReader, isNew, isFull, stepOf, readingBy}
 
@@ -41,10 +40,10 @@ readerOf bytes = record { count = length bytes; first = wordOf (take bytesOfWord
 pub new-reader : (r : Reader) → isNew r ≡ true → r ≡ newReader
 unfolding isNew
 new-reader r h =
-    let rest = and-right (isZero (r .count)) (isZero (r .first) && isZero (r .value)) h in
-    let count = eqb-true (r .count) 0 (and-left (isZero (r .count)) (isZero (r .first) && isZero (r .value)) h) in
-    let first = eqb-true (r .first) 0 (and-left (isZero (r .first)) (isZero (r .value)) rest) in
-    let value = eqb-true (r .value) 0 (and-right (isZero (r .first)) (isZero (r .value)) rest) in
+    let rest = and-right (eqb (r .count) 0) (eqb (r .first) 0 && eqb (r .value) 0) h in
+    let count = eqb-true (r .count) 0 (and-left (eqb (r .count) 0) (eqb (r .first) 0 && eqb (r .value) 0) h) in
+    let first = eqb-true (r .first) 0 (and-left (eqb (r .first) 0) (eqb (r .value) 0) rest) in
+    let value = eqb-true (r .value) 0 (and-right (eqb (r .first) 0) (eqb (r .value) 0) rest) in
     λ i. record { count = count i; first = first i; value = value i }
 
 pub reader-new : newReader ≡ readerOf []
@@ -101,38 +100,32 @@ reading-first bytes = below-or-not (length bytes) recordBytes (λ l. rw (take-al
 
 -- ── what has a place ──
 
-or-cases : {C : Type 0} (a b : Bool) → a || b ≡ true → (a ≡ true → C) → (b ≡ true → C) → C
-or-cases true b h f g = f refl
-or-cases false b h f g = g h
-
 module _ (kind address value : ℕ) (placed : hasPlace kind address value ≡ true) where
-  pub place-address : address < 2 ^ addressBits
-  unfolding hasPlace
-  place-address = ltb-true address (2 ^ addressBits) (and-left (ltb address (2 ^ addressBits)) (hasPlaceInIt kind address value) placed)
-
-  abbrev rest : Bool
-  rest = isZero value && hasPlaceAlone kind address
-
-  place-cases : {C : Type 0} → (kind ≡ storeKind → C) → (value ≡ 0 → kind ≡ loadKind → C) → (value ≡ 0 → kind ≡ evictKind → C)
-      → (value ≡ 0 → address ≡ 0 → kind ≡ commitKind → C) → (value ≡ 0 → address ≡ 0 → kind ≡ scanKind → C) → C
-  unfolding hasPlace
-  place-cases store load evict commit scan =
-      or-cases (eqb kind storeKind) rest (and-right (ltb address (2 ^ addressBits)) (hasPlaceInIt kind address value) placed)
-      (λ e. store (eqb-true kind storeKind e))
-      (λ r.
-      let v : value ≡ 0 = eqb-true value 0 (and-left (isZero value) (hasPlaceAlone kind address) r) in
-      or-cases (takesAddress kind) (isZero address && takesNothing kind) (and-right (isZero value) (hasPlaceAlone kind address) r)
-      (λ e. or-cases (eqb kind loadKind) (eqb kind evictKind) e (λ f. load v (eqb-true kind loadKind f)) (λ f. evict v (eqb-true kind evictKind f)))
-      (λ e.
-      let a : address ≡ 0 = eqb-true address 0 (and-left (isZero address) (takesNothing kind) e) in
-      or-cases (eqb kind commitKind) (eqb kind scanKind) (and-right (isZero address) (takesNothing kind) e)
-      (λ f. commit v a (eqb-true kind commitKind f)) (λ f. scan v a (eqb-true kind scanKind f))))
+  abbrev fits : Bool
+  fits = zeroUnless (takesAddress kind) address && zeroUnless (takesValue kind) value
 
   pub place-kind : kind ≤ evictKind
-  place-kind = place-cases (λ e. omega arith) (λ v e. omega arith) (λ v e. omega arith) (λ v a e. omega arith) (λ v a e. omega arith)
+  unfolding hasPlace
+  place-kind = leb-true kind evictKind (and-left (leb kind evictKind) (ltb address (2 ^ addressBits) && fits) placed)
+
+  rest : ltb address (2 ^ addressBits) && fits ≡ true
+  unfolding hasPlace
+  rest = and-right (leb kind evictKind) (ltb address (2 ^ addressBits) && fits) placed
+
+  pub place-address : address < 2 ^ addressBits
+  place-address = ltb-true address (2 ^ addressBits) (and-left (ltb address (2 ^ addressBits)) fits rest)
+
+  both-fit : fits ≡ true
+  both-fit = and-right (ltb address (2 ^ addressBits)) fits rest
 
   pub place-fits : RecordFits (record { kind = kind; address = address; spare = 0 })
   place-fits = omega (arith, place-kind, place-address)
+
+  address-fits : zeroUnless (takesAddress kind) address ≡ true
+  address-fits = and-left (zeroUnless (takesAddress kind) address) (zeroUnless (takesValue kind) value) both-fit
+
+  value-fits : zeroUnless (takesValue kind) value ≡ true
+  value-fits = and-right (zeroUnless (takesAddress kind) address) (zeroUnless (takesValue kind) value) both-fit
 
 -- ── writer and reader ──
 
@@ -166,12 +159,16 @@ record Holds (c : Call) (kind address value : ℕ) : Type 0 where
 call-holds : (kind address value : ℕ) → hasPlace kind address value ≡ true → Holds (callOf kind address value) kind address value
 unfolding callOf
 call-holds kind address value placed =
-    place-cases kind address value placed
-    (λ e. rw e (record { is-kind = refl; is-address = refl; is-value = refl }))
-    (λ v e. rw e (record { is-kind = refl; is-address = refl; is-value = sym v }))
-    (λ v e. rw e (record { is-kind = refl; is-address = refl; is-value = sym v }))
-    (λ v a e. rw e (record { is-kind = refl; is-address = sym a; is-value = sym v }))
-    (λ v a e. rw e (record { is-kind = refl; is-address = sym a; is-value = sym v }))
+    go kind (place-kind kind address value placed) (address-fits kind address value placed) (value-fits kind address value placed)
+  where
+    go : (k : ℕ) → k ≤ evictKind → zeroUnless (takesAddress k) address ≡ true → zeroUnless (takesValue k) value ≡ true
+        → Holds (callOf k address value) k address value
+    go zero h a v = record { is-kind = refl; is-address = refl; is-value = sym (eqb-true value 0 v) }
+    go (suc zero) h a v = record { is-kind = refl; is-address = refl; is-value = refl }
+    go (suc (suc zero)) h a v = record { is-kind = refl; is-address = sym (eqb-true address 0 a); is-value = sym (eqb-true value 0 v) }
+    go (suc (suc (suc zero))) h a v = record { is-kind = refl; is-address = sym (eqb-true address 0 a); is-value = sym (eqb-true value 0 v) }
+    go (suc (suc (suc (suc zero)))) h a v = record { is-kind = refl; is-address = refl; is-value = sym (eqb-true value 0 v) }
+    go (suc (suc (suc (suc (suc k))))) h a v = absurd (omega arith)
 
 -- two words as bytes read as the two words
 words-read : (first value : ℕ) → first < 2 ^ wordBits → value < 2 ^ wordBits → reading (bytesOf first ++ bytesOf value) ≡ wordsReading first value
@@ -226,10 +223,10 @@ module _ (bytes : List ℕ) (c : Call) where
   accepted : reading bytes ≡ Recorded c → Accepted
   unfolding reading wordsReading
   accepted e =
-      go (isZero (length bytes)) (ltb (length bytes) recordBytes) (isZero (word .spare)) (hasPlace (word .kind) (word .address) (valueIn bytes)) refl refl
+      go (eqb (length bytes) 0) (ltb (length bytes) recordBytes) (eqb (word .spare) 0) (hasPlace (word .kind) (word .address) (valueIn bytes)) refl refl
       refl refl e
     where
-      go : (none short plain placed : Bool) → isZero (length bytes) ≡ none → ltb (length bytes) recordBytes ≡ short → isZero (word .spare) ≡ plain
+      go : (none short plain placed : Bool) → eqb (length bytes) 0 ≡ none → ltb (length bytes) recordBytes ≡ short → eqb (word .spare) 0 ≡ plain
           → hasPlace (word .kind) (word .address) (valueIn bytes) ≡ placed
           → cond none End (cond short (Refused Trace)
           (cond (plain && placed) (Recorded (callOf (word .kind) (word .address) (valueIn bytes))) (Refused Trace))) ≡ Recorded c → Accepted

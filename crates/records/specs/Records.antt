@@ -3,9 +3,8 @@
 use Prim.Native.Nat.{ℕ, _^_, _*_}
 use mathlib.Core.Bool.{Bool, cond, _&&_, _||_}
 use mathlib.Core.List.{List, _++_}
-use lib.Dec.{ltb, eqb}
+use lib.Dec.{ltb, leb, eqb}
 use lib.ListN.{length, take, drop, replicate}
-use Rattle.layout.specs.declared.Record.{Record}
 use Rattle.layout.specs.Limits.{addressBits}
 use Rattle.layout.specs.Words.{encodeRecord, decodeRecord}
 use Rattle.layout.specs.Bytes.{bytesOfWord, bytesOf, wordOf}
@@ -34,24 +33,20 @@ evictKind = 4
 abbrev pub recordBytes : ℕ
 recordBytes = 2 * bytesOfWord
 
-abbrev pub isZero : ℕ → Bool
-isZero n = eqb n 0
-
--- "Address and value are zero for kinds that take none": load and evict take an address, commit and scan nothing, store both
+-- "Address and value are zero for kinds that take none"
 abbrev pub takesAddress : (kind : ℕ) → Bool
-takesAddress kind = eqb kind loadKind || eqb kind evictKind
+takesAddress kind = eqb kind loadKind || (eqb kind storeKind || eqb kind evictKind)
 
-abbrev pub takesNothing : (kind : ℕ) → Bool
-takesNothing kind = eqb kind commitKind || eqb kind scanKind
+abbrev pub takesValue : (kind : ℕ) → Bool
+takesValue kind = eqb kind storeKind
 
-abbrev pub hasPlaceAlone : (kind address : ℕ) → Bool
-hasPlaceAlone kind address = takesAddress kind || (isZero address && takesNothing kind)
+abbrev pub zeroUnless : (taken : Bool) → ℕ → Bool
+zeroUnless taken n = taken || eqb n 0
 
-abbrev pub hasPlaceInIt : (kind address value : ℕ) → Bool
-hasPlaceInIt kind address value = eqb kind storeKind || (isZero value && hasPlaceAlone kind address)
-
+-- whether none of the three is "a kind, address or value with no place in it"
 unfoldable pub hasPlace : (kind address value : ℕ) → Bool
-hasPlace kind address value = ltb address (2 ^ addressBits) && hasPlaceInIt kind address value
+hasPlace kind address value =
+    leb kind evictKind && (ltb address (2 ^ addressBits) && (zeroUnless (takesAddress kind) address && zeroUnless (takesValue kind) value))
 
 unfoldable pub callOf : (kind address value : ℕ) → Call
 callOf kind address value =
@@ -75,7 +70,7 @@ written kind address value =
 unfoldable pub wordsReading : (first value : ℕ) → Reading
 wordsReading first value =
     let r = decodeRecord first in
-    cond (isZero (r .spare) && hasPlace (r .kind) (r .address) value) (Recorded (callOf (r .kind) (r .address) value)) (Refused Trace)
+    cond (eqb (r .spare) 0 && hasPlace (r .kind) (r .address) value) (Recorded (callOf (r .kind) (r .address) value)) (Refused Trace)
 
 -- a record's two words
 abbrev pub firstIn : (bytes : List ℕ) → ℕ
@@ -86,6 +81,6 @@ valueIn bytes = wordOf (take bytesOfWord (drop bytesOfWord bytes))
 
 unfoldable pub reading : (bytes : List ℕ) → Reading
 reading bytes =
-    cond (isZero (length bytes)) End
+    cond (eqb (length bytes) 0) End
     (cond (ltb (length bytes) recordBytes) (Refused Trace)
     (wordsReading (firstIn bytes) (valueIn bytes)))

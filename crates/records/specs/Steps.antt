@@ -7,14 +7,14 @@ use Rattle.status.specs.declared.Status.the-variants.{Trace}
 use Rattle.records.specs.declared.Reader.{Reader}
 use Rattle.records.specs.declared.Reading.{Reading}
 use Rattle.records.specs.declared.Reading.the-variants.{End, Refused}
-use Rattle.records.specs.Records.{recordBytes, isZero, wordsReading}
+use Rattle.records.specs.Records.{recordBytes, wordsReading}
 
 -- before the first byte
 abbrev pub newReader : Reader
 newReader = record { count = 0; first = 0; value = 0 }
 
 unfoldable pub isNew : Reader → Bool
-isNew r = isZero (r .count) && (isZero (r .first) && isZero (r .value))
+isNew r = eqb (r .count) 0 && (eqb (r .first) 0 && eqb (r .value) 0)
 
 unfoldable pub isFull : Reader → Bool
 isFull r = leb recordBytes (r .count)
@@ -29,4 +29,4 @@ stepOf r byte =
 
 -- what the bytes are where none follow
 unfoldable pub readingBy : Reader → Reading
-readingBy r = cond (isZero (r .count)) End (cond (ltb (r .count) recordBytes) (Refused Trace) (wordsReading (r .first) (r .value)))
+readingBy r = cond (eqb (r .count) 0) End (cond (ltb (r .count) recordBytes) (Refused Trace) (wordsReading (r .first) (r .value)))

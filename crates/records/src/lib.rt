@@ -5,7 +5,7 @@ ghost use mathlib.Core.List.{_++_};
 ghost use Prim.Native.Nat.{min};
 ghost use mathlib.Core.Bool.{true};
 ghost use Rattle.layout.specs.Bytes.{bytesOf};
-ghost use Rattle.records.specs.Records.{recordBytes, hasPlace, callOf, firstWord, written, wordsReading, reading as bytesReading};
+ghost use Rattle.records.specs.Records.{recordBytes, takesAddress, zeroUnless, hasPlace, callOf, firstWord, written, wordsReading, reading as bytesReading};
 ghost use Rattle.records.specs.Steps.{newReader, isNew, isFull, stepOf, readingBy};
 use benchcalls::Call;
 use layout::ADDRESSES;
@@ -47,32 +47,41 @@ pub struct Reader {
     value: u64,
 }
 
-// Whether a record has a place for the three.
-fn has_place(kind: u64, address: u64, value: u64) -> bool
-    ensures { λ r. ⌜ r ≡ hasPlace kind address value ⌝ }
+fn takes_address(kind: u64) -> bool
+    ensures { λ r. ⌜ r ≡ takesAddress kind ⌝ }
 {
-    if address >= ADDRESSES {
-        return false;
+    if kind == LOAD {
+        return true;
     }
     if kind == STORE {
         return true;
     }
-    if value != 0 {
+    kind == EVICT
+}
+
+fn is_zero_unless(taken: bool, number: u64) -> bool
+    ensures { λ r. ⌜ r ≡ zeroUnless taken number ⌝ }
+{
+    if taken {
+        return true;
+    }
+    number == 0
+}
+
+// Whether a record has a place for the three.
+fn has_place(kind: u64, address: u64, value: u64) -> bool
+    ensures { λ r. ⌜ r ≡ hasPlace kind address value ⌝ }
+{
+    if kind > EVICT {
         return false;
     }
-    if kind == LOAD {
-        return true;
-    }
-    if kind == EVICT {
-        return true;
-    }
-    if address != 0 {
+    if address >= ADDRESSES {
         return false;
     }
-    if kind == COMMIT {
-        return true;
+    if !is_zero_unless(takes_address(kind), address) {
+        return false;
     }
-    kind == SCAN
+    is_zero_unless(kind == STORE, value)
 }
 
 fn call_of(kind: u64, address: u64, value: u64) -> Call

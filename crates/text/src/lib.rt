@@ -1,7 +1,6 @@
 // Text that is put into a buffer that the caller lends: bytes, names and decimal numbers. Each function answers the place behind
 // what it has put.
 ghost use Prim.Native.Nat.{_+_, _*_, _≤_, _<_};
-ghost use mathlib.Core.Path.{_≡_};
 ghost use mathlib.Core.List.{[], _∷_};
 ghost use lib.ListN.{length};
 ghost use Rattle.status.specs.Names.{rowBytes};

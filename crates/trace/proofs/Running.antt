@@ -2,7 +2,7 @@
 use Prim.Native.Nat.{ℕ, _+_, _-_, _<_, _≤_}
 use mathlib.Core.Path.{_≡_, refl, sym, ap, _∙_}
 use mathlib.Core.Bool.{Bool, true, false, not}
-use mathlib.Core.List.{List, [], _∷_, _++_, foldl, foldl-append}
+use mathlib.Core.List.{List, [], _∷_, foldl, foldl-append}
 use native.Mathlib.Omega.{arith}
 use borrow.Author.Tests.{leb-true, not-true, not-false}
 use lib.Dec.{leb}
@@ -28,7 +28,7 @@ use Rattle.records.specs.Laws.{new-reader, take-twice}
 use Rattle.trace.specs.declared.Run.{Run}
 use Rattle.trace.specs.declared.Totals.{Totals}
 use Rattle.trace.specs.Run.{noTotals, plus, counted, wokenState, called, taken, turn}
-use Rattle.trace.specs.Steps.{Machine, machineOf, runOf, newRun, readingRun, endedRun, resting, turned, waiting, stepped, hasRecord, fed, finished}
+use Rattle.trace.specs.Steps.{Machine, machineOf, newRun, readingRun, endedRun, resting, turned, waiting, stepped, hasRecord, fed, finished}
 use Rattle.trace.specs.declared.Fed.{Fed}
 use Rattle.trace.specs.Contracts.{Runs, Feeds}
 use Rattle.trace.specs.Laws.{record-fed}

@@ -1,22 +1,17 @@
 -- Bytes in any parts leave what `Run` says of them.
 use Prim.Native.Nat.{ℕ, zero, suc, _+_, _-_, _*_, _/_, _<_, _≤_}
 use mathlib.Core.Path.{_≡_, refl, sym, ap, ap₂, _∙_}
-use mathlib.Core.Bool.{Bool, true, false, cond}
 use mathlib.Core.List.{List, [], _∷_, _++_, foldl, flatten, append-assoc, append-nil}
 use native.Mathlib.Omega.{arith}
 use native.Mathlib.Numerals.{add-one}
 use borrow.Author.Tests.{le-leb, lt-leb}
-use lib.Dec.{leb}
 use lib.ListN.{length, take, drop, length-append, length-drop, drop-of-length-le}
 use lib.Seq.{take-all, take-append-le, take-append-seam, drop-append-le, length-take-le}
 use Rattle.base.specs.Cases.{below-or-not}
 use Rattle.layout.specs.Bytes.{AreBytes, bytes-drop, bytes-take}
-use Rattle.status.specs.declared.Status.the-variants.{Trace}
 use Rattle.records.specs.declared.Reader.{Reader}
-use Rattle.records.specs.declared.Reading.{Reading}
-use Rattle.records.specs.declared.Reading.the-variants.{Refused}
 use Rattle.records.specs.Records.{recordBytes, reading}
-use Rattle.records.specs.Steps.{newReader, stepOf, isFull, readingBy}
+use Rattle.records.specs.Steps.{stepOf, isFull, readingBy}
 use Rattle.records.specs.Laws.{readerOf, reader-new, reader-steps, reader-reads, reading-first}
 use Rattle.trace.specs.Run.{State, turn, recordAt, after, ran, failed}
 use Rattle.trace.specs.Steps.{Machine, resting, turned, waiting, stepped, fed, finished, broken}

@@ -1,8 +1,6 @@
 -- The line that is printed, put into a buffer.
 use Prim.Native.Nat.{ℕ, _+_, _*_}
-use mathlib.Core.Path.{_≡_, refl}
 use mathlib.Core.List.{List, [], _∷_}
-use native.Mathlib.Omega.{arith}
 use lib.ListN.{length}
 use Rattle.status.specs.declared.Status.{Status}
 use Rattle.status.specs.Names.{rowBytes}

@@ -7,7 +7,7 @@ use mathlib.Core.List.{List, [], _∷_, _++_}
 use lib.ListN.{length, take, drop, replicate}
 use Rattle.layout.specs.Memory.{boardWords, workWords}
 use Rattle.status.specs.declared.Status.{Status}
-use Rattle.status.specs.declared.Status.the-variants.{Ok, Shape, Trace}
+use Rattle.status.specs.declared.Status.the-variants.{Shape, Trace}
 use Rattle.status.specs.Numbers.{isOk}
 use Rattle.checks.specs.declared.Registers.{Registers}
 use Rattle.checks.specs.Registers as registers

@@ -1,8 +1,7 @@
 // A replay's text: a script goes in byte by byte, and the lines that it prints are put into a buffer that the caller lends and
 // empties.
-ghost use Prim.Native.Nat.{_+_, _*_, _≤_, _<_};
+ghost use Prim.Native.Nat.{_+_, _≤_};
 ghost use mathlib.Core.Path.{_≡_};
-ghost use mathlib.Core.List.{[], _∷_};
 ghost use lib.ListN.{length};
 ghost use Rattle.text.specs.Printing.{Prints};
 ghost use Rattle.transcript.specs.Text.{headText, lineText, badText, replyText};
