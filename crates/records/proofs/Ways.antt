@@ -1,10 +1,11 @@
 -- One law for each way out of a function.
 use Prim.Native.Nat.{ℕ, _+_, _^_, _<_, _≤_, min}
 use mathlib.Core.Path.{_≡_, sym, ap, _∙_}
-use mathlib.Core.Bool.{Bool, true, false, not}
+use mathlib.Core.Bool.{Bool, true, false, not, and-false}
 use mathlib.Core.List.{List, [], _∷_, _++_}
 use native.Mathlib.Omega.{arith}
 use native.Mathlib.Numerals.{add-one}
+use lib.Dec.{ltb}
 use borrow.Author.Tests.{eq-eqb, ne-eqb, not-true, not-false, le-ltb, lt-ltb, le-leb, lt-leb}
 use lib.ListN.{length, getD, take, replicate}
 use lib.Seq.{take-all, take-suc, length-take-le}
@@ -18,7 +19,7 @@ use Rattle.benchcalls.specs.declared.Call.{Call}
 use Rattle.records.specs.declared.Reader.{Reader}
 use Rattle.records.specs.declared.Reading.{Reading}
 use Rattle.records.specs.declared.Reading.the-variants.{Recorded, Refused}
-use Rattle.records.specs.Records.{evictKind, takesAddress, takesValue, zeroUnless}
+use Rattle.records.specs.Records.{loadKind, storeKind, evictKind}
 use Rattle.records.specs.Records.{recordBytes, hasPlace, callOf, firstWord, written, wordsReading, reading}
 use Rattle.records.specs.Steps.{newReader, isFull, stepOf, readingBy}
 use Rattle.records.specs.Laws.{readerOf, reader-new, reader-steps, reader-reads, reading-first}
@@ -26,26 +27,39 @@ use Rattle.records.specs.Laws.{readerOf, reader-new, reader-steps, reade
 -- ── what has a place ──
 
 module _ (kind address value : ℕ) where
-  pub place-no-kind : evictKind < kind → false ≡ hasPlace kind address value
+  pub place-far : 2 ^ addressBits ≤ address → false ≡ hasPlace kind address value
   unfolding hasPlace
-  place-no-kind h = rw (lt-leb kind evictKind h)
+  place-far h = rw (le-ltb address (2 ^ addressBits) h, and-false)
 
-  module _ (known : kind ≤ evictKind) where
-    pub place-far : 2 ^ addressBits ≤ address → false ≡ hasPlace kind address value
+  module _ (near : address < 2 ^ addressBits) where
+    pub place-store : kind ≡ storeKind → true ≡ hasPlace kind address value
     unfolding hasPlace
-    place-far h = rw (le-leb kind evictKind known, le-ltb address (2 ^ addressBits) h)
+    place-store e = rw (e, lt-ltb address (2 ^ addressBits) near)
 
-    module _ (near : address < 2 ^ addressBits) (takes t : Bool) (is : takes ≡ takesAddress kind) (zero : t ≡ zeroUnless takes address) where
-      first-fits : zeroUnless (takesAddress kind) address ≡ t
-      first-fits = sym (zero ∙ ap (λ (b : Bool). zeroUnless b address) is)
+    pub place-value : (kind ≡ storeKind → ⊥) → (value ≡ 0 → ⊥) → false ≡ hasPlace kind address value
+    unfolding hasPlace
+    place-value n v = rw (ne-eqb kind storeKind n, ne-eqb value 0 v, and-false, and-false, and-false)
 
-      pub place-not-zero : not t ≡ true → false ≡ hasPlace kind address value
+    module _ (none : value ≡ 0) where
+      pub place-load : kind ≡ loadKind → true ≡ hasPlace kind address value
       unfolding hasPlace
-      place-not-zero n = rw (le-leb kind evictKind known, lt-ltb address (2 ^ addressBits) near, first-fits, not-true t n)
+      place-load e = rw (e, none, lt-ltb address (2 ^ addressBits) near)
 
-      pub place-so : (u : Bool) → not t ≡ false → u ≡ zeroUnless (takesValue kind) value → u ≡ hasPlace kind address value
+      pub place-evict : kind ≡ evictKind → true ≡ hasPlace kind address value
       unfolding hasPlace
-      place-so u n e = rw (le-leb kind evictKind known, lt-ltb address (2 ^ addressBits) near, first-fits, not-false t n) e
+      place-evict e = rw (e, none, lt-ltb address (2 ^ addressBits) near)
+
+      module _ (s : kind ≡ storeKind → ⊥) (l : kind ≡ loadKind → ⊥) (e : kind ≡ evictKind → ⊥) where
+        pub place-address : (address ≡ 0 → ⊥) → false ≡ hasPlace kind address value
+        unfolding hasPlace
+        place-address a = rw (ne-eqb kind storeKind s, ne-eqb kind loadKind l, ne-eqb kind evictKind e, ne-eqb address 0 a, and-false, and-false)
+
+        pub place-bare : address ≡ 0 → ltb kind evictKind ≡ hasPlace kind address value
+        unfolding hasPlace
+        place-bare a =
+            rw (none, a, ne-eqb kind storeKind s, ne-eqb kind loadKind l, ne-eqb kind evictKind e) (below-or-not kind evictKind
+            (λ h. rw (lt-ltb kind evictKind h, le-leb kind evictKind (omega arith)))
+            (λ h. rw (le-ltb kind evictKind h, lt-leb kind evictKind (omega arith))))
 
 -- ── the writer ──
 

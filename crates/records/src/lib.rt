@@ -5,7 +5,7 @@ ghost use mathlib.Core.List.{_++_};
 ghost use Prim.Native.Nat.{min};
 ghost use mathlib.Core.Bool.{true};
 ghost use Rattle.layout.specs.Bytes.{bytesOf};
-ghost use Rattle.records.specs.Records.{recordBytes, takesAddress, zeroUnless, hasPlace, callOf, firstWord, written, wordsReading, reading as bytesReading};
+ghost use Rattle.records.specs.Records.{recordBytes, hasPlace, callOf, firstWord, written, wordsReading, reading as bytesReading};
 ghost use Rattle.records.specs.Steps.{newReader, isNew, isFull, stepOf, readingBy};
 use benchcalls::Call;
 use layout::ADDRESSES;
@@ -47,41 +47,30 @@ pub struct Reader {
     value: u64,
 }
 
-fn takes_address(kind: u64) -> bool
-    ensures { λ r. ⌜ r ≡ takesAddress kind ⌝ }
+// Whether a record has a place for the three. A store takes all that fits; of the others none takes a value, and commit and scan
+// no address.
+fn has_place(kind: u64, address: u64, value: u64) -> bool
+    ensures { λ r. ⌜ r ≡ hasPlace kind address value ⌝ }
 {
-    if kind == LOAD {
-        return true;
+    if address >= ADDRESSES {
+        return false;
     }
     if kind == STORE {
         return true;
     }
-    kind == EVICT
-}
-
-fn is_zero_unless(taken: bool, number: u64) -> bool
-    ensures { λ r. ⌜ r ≡ zeroUnless taken number ⌝ }
-{
-    if taken {
+    if value != 0 {
+        return false;
+    }
+    if kind == LOAD {
         return true;
     }
-    number == 0
-}
-
-// Whether a record has a place for the three.
-fn has_place(kind: u64, address: u64, value: u64) -> bool
-    ensures { λ r. ⌜ r ≡ hasPlace kind address value ⌝ }
-{
-    if kind > EVICT {
+    if kind == EVICT {
+        return true;
+    }
+    if address != 0 {
         return false;
     }
-    if address >= ADDRESSES {
-        return false;
-    }
-    if !is_zero_unless(takes_address(kind), address) {
-        return false;
-    }
-    is_zero_unless(kind == STORE, value)
+    kind < EVICT
 }
 
 fn call_of(kind: u64, address: u64, value: u64) -> Call
