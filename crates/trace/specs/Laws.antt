@@ -1,19 +1,22 @@
 -- Bytes in any parts leave what `Run` says of them.
 use Prim.Native.Nat.{ℕ, zero, suc, _+_, _-_, _*_, _/_, _<_, _≤_}
 use mathlib.Core.Path.{_≡_, refl, sym, ap, ap₂, _∙_}
+use mathlib.Core.Bool.{false}
 use mathlib.Core.List.{List, [], _∷_, _++_, foldl, flatten, append-assoc, append-nil}
 use native.Mathlib.Omega.{arith}
+use native.Mathlib.Nat.{add-zero, add-suc}
 use native.Mathlib.Numerals.{add-one}
 use borrow.Author.Tests.{le-leb, lt-leb}
 use lib.ListN.{length, take, drop, length-append, length-drop, drop-of-length-le}
 use lib.Seq.{take-all, take-append-le, take-append-seam, drop-append-le, length-take-le}
 use Rattle.base.specs.Cases.{below-or-not}
 use Rattle.layout.specs.Bytes.{AreBytes, bytes-drop, bytes-take}
+use Rattle.status.specs.Numbers.{isOk}
 use Rattle.records.specs.declared.Reader.{Reader}
 use Rattle.records.specs.Records.{recordBytes, reading}
 use Rattle.records.specs.Steps.{stepOf, isFull, readingBy}
 use Rattle.records.specs.Laws.{readerOf, reader-new, reader-steps, reader-reads, reading-first}
-use Rattle.trace.specs.Run.{State, turn, recordAt, after, ran, failed}
+use Rattle.trace.specs.Run.{State, begun, turn, recordAt, after, ran, failed, lineOf, printed}
 use Rattle.trace.specs.Steps.{Machine, resting, turned, waiting, stepped, fed, finished, broken}
 
 -- the whole records of some bytes, and what is behind them
@@ -165,3 +168,26 @@ finished-ran s file =
 pub broken-failed : (s : State) (bytes : List ℕ) → broken (soFar s bytes) ≡ resting (failed s bytes)
 unfolding failed
 broken-failed s bytes = refl
+
+-- so the line of a run whose file has come in parts is the definition's
+pub parts-printed : (lines entries slots : ℕ) (parts : List (List ℕ)) → AreBytes (flatten parts)
+    → lineOf (finished (foldl fed (resting (begun lines entries slots)) parts) .state) ≡ printed lines entries slots (flatten parts)
+parts-printed lines entries slots parts h =
+    let s = begun lines entries slots in
+    ap (λ (m : Machine). lineOf (finished m .state)) (parts-so-far s parts h) ∙ ap (λ (m : Machine). lineOf (m .state)) (finished-ran s (flatten parts))
+
+-- ── what has ended stays so, whatever follows ──
+
+over-stays : (s : State) (file : List ℕ) (k n : ℕ) → isOk (after s file k .status) ≡ false → after s file (k + n) ≡ after s file k
+unfolding after turn
+over-stays s file k zero h = ap (after s file) (add-zero k)
+over-stays s file k (suc n) h = rw (add-suc k n, over-stays s file k n h, h)
+
+-- so a caller may stop there
+pub ended-early : (s : State) (xs ys : List ℕ) → isOk (soFar s xs .state .status) ≡ false → ran s (xs ++ ys) ≡ soFar s xs .state
+unfolding ran
+ended-early s xs ys h =
+    let kept = after-kept s xs ys (wholeIn xs) (omega arith) in
+    let all = length-append xs ys in
+    let more : wholeIn (xs ++ ys) + 1 ≡ wholeIn xs + (wholeIn (xs ++ ys) + 1 - wholeIn xs) = omega (arith, all) in
+    ap (after s (xs ++ ys)) more ∙ over-stays s (xs ++ ys) (wholeIn xs) (wholeIn (xs ++ ys) + 1 - wholeIn xs) (ap (λ (t : State). isOk (t .status)) kept ∙ h) ∙ kept
