@@ -2,6 +2,7 @@
 use crate::calls::*;
 use crate::packing::*;
 use crate::print;
+use crate::turns::TURNS;
 
 // Of how many differences of a group each is printed; all are counted.
 const SHOWN: u64 = 3;
@@ -20,6 +21,10 @@ pub enum Part {
     Work,
     Persisted,
     Line,
+    Record,
+    Total,
+    Planned,
+    Turn,
 }
 
 // The first word that differs: what the library has, and what the model or the reference machine
@@ -44,6 +49,8 @@ pub struct Score {
     pub persisted: u64,
     // How many accepted calls left a log that goes on past the ring's end.
     pub wrapped: u64,
+    // How often each turn of the groups of recorded traces was taken.
+    pub turns: [u64; TURNS],
 }
 
 pub struct Step {
@@ -61,6 +68,7 @@ pub fn new_score(group: u64) -> Score {
         most_stores: 0,
         persisted: 0,
         wrapped: 0,
+        turns: [0; TURNS],
     }
 }
 
@@ -142,7 +150,7 @@ fn between_works(x: Reply, y: Reply) -> Difference {
     between_words(Part::Work, &a, &b)
 }
 
-fn between_replies(x: Reply, y: Reply) -> Difference {
+pub fn between_replies(x: Reply, y: Reply) -> Difference {
     let found = x.outcome;
     let wanted = y.outcome;
     let first = between_outcomes(found, wanted);
@@ -156,17 +164,26 @@ fn between_replies(x: Reply, y: Reply) -> Difference {
     between_works(x, y)
 }
 
+// Whether the next difference of a group is printed.
+pub fn is_shown(score: Score) -> bool {
+    score.differences < SHOWN
+}
+
+pub fn with_difference(score: Score) -> Score {
+    let mut next = score;
+    next.differences = sum(score.differences, 1);
+    next
+}
+
 // The score with a difference more, where there is one.
 pub fn noted(score: Score, s: State, c: Call, d: Difference) -> Score {
     if is_same(d) {
         return score;
     }
-    if score.differences < SHOWN {
+    if is_shown(score) {
         print::difference_line(score.group, score.calls, s, c, d);
     }
-    let mut next = score;
-    next.differences = sum(score.differences, 1);
-    next
+    with_difference(score)
 }
 
 // Whether a board's log goes on past the ring's end: start + length > L.
@@ -227,7 +244,8 @@ fn with_persisted(score: Score, c: Call, value: u64) -> Score {
     next
 }
 
-fn counted(score: Score, number: u64) -> Score {
+// One answer more.
+pub fn counted(score: Score, number: u64) -> Score {
     let mut next = score;
     next.calls = sum(score.calls, 1);
     if number >= NUMBERS as u64 {

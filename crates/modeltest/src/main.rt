@@ -12,13 +12,19 @@ mod packing;
 mod plans;
 mod print;
 mod random;
+mod record_words;
 mod register_words;
 mod short;
+mod trace_jobs;
+mod traces;
+mod turns;
 
 use compare::Score;
 use compare::new_score;
 use packing::LAST_EPOCH;
 use print::group_line;
+use print::turns_line;
+use turns::*;
 
 fn histories(score: Score) -> Score {
     let mut next = score;
@@ -76,9 +82,19 @@ fn damaged() {
     group_line(noise::fields(20000, 9001, new_score(14)));
 }
 
+fn recorded() {
+    let written = record_words::writer(10001, new_score(15));
+    let read = record_words::reader(11001, new_score(16));
+    let traced = traces::runs(12001, new_score(17));
+    turns_line(written, WRITER, WRITER_END);
+    turns_line(read, READER, READER_END);
+    turns_line(traced, RUN, RUN_END);
+}
+
 fn main() {
     group_line(damage::formats(new_score(0)));
     group_line(damage::lengths(new_score(1)));
     lists();
     damaged();
+    recorded();
 }

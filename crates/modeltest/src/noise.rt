@@ -34,7 +34,7 @@ fn random_board(seed: u64) -> [u64; BOARD_ROOM] {
     board
 }
 
-fn random_words(seed: u64) -> State {
+pub fn random_words(seed: u64) -> State {
     let none = [0; WORK_ROOM];
     State {
         board: random_board(seed),

@@ -29,7 +29,7 @@ pub const MOST_COUNT: u64 = 0xFFFFF;
 
 pub const LAST_EPOCH: u64 = 0xFFFFFF;
 
-const LAST_ADDRESS: u64 = 0xFFFF;
+pub const LAST_ADDRESS: u64 = 0xFFFF;
 
 pub fn board_words(lines: u64, entries: u64) -> usize {
     at_most(sum(entry_place(entries), lines) as usize, BOARD_ROOM)
@@ -168,4 +168,62 @@ pub fn replaced(word: u64, f: Field, value: u64) -> u64 {
     let shift = f.shift % 64;
     let old = word & (f.most << shift);
     (word ^ old) | (value << shift)
+}
+
+// A record of a trace: two words, most significant byte first. The first has a kind of 3 bits, an
+// address of 16 and 45 bits that are zero; the second is the value.
+const WORD_BYTES: usize = 8;
+
+pub const RECORD_BYTES: usize = 2 * WORD_BYTES;
+
+pub const WORD_BITS: u64 = 64;
+
+pub const ADDRESS_BITS: u64 = 16;
+
+pub const ZERO_BITS: u64 = 45;
+
+pub const LOAD: u64 = 0;
+
+pub const STORE: u64 = 1;
+
+pub const COMMIT: u64 = 2;
+
+pub const SCAN: u64 = 3;
+
+pub const EVICT: u64 = 4;
+
+pub const KINDS: u64 = 5;
+
+// The fields of a record, in range or not.
+pub struct RecordFields {
+    pub kind: u64,
+    pub address: u64,
+    pub zero: u64,
+    pub value: u64,
+}
+
+pub fn record(kind: u64, address: u64, value: u64) -> RecordFields {
+    RecordFields {
+        kind,
+        address,
+        zero: 0,
+        value,
+    }
+}
+
+// The first word of a record whose fields are in range.
+pub fn record_word(r: RecordFields) -> u64 {
+    (r.kind << (ADDRESS_BITS + ZERO_BITS)) | (r.address << ZERO_BITS) | r.zero
+}
+
+fn record_byte(first: u64, value: u64, i: usize) -> u8 {
+    let word = if i < WORD_BYTES { first } else { value };
+    ((word >> (56 - 8 * (i % WORD_BYTES))) % 256) as u8
+}
+
+// Sets the first bytes to those of a record, as many as there are.
+pub fn put_record(bytes: &mut [u8], first: u64, value: u64) {
+    for i in 0..at_most(RECORD_BYTES, bytes.len()) {
+        bytes[i] = record_byte(first, value, i);
+    }
 }

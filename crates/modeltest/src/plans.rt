@@ -1,7 +1,10 @@
 // The boards of the lists: N, L, S, another S; the kinds of calls; their number and seed.
+use crate::calls::sum;
 use crate::history::Plan;
 use crate::packing::LAST_EPOCH;
 use crate::random::Mix;
+use crate::random::below;
+use crate::random::scrambled;
 
 // Every kind of call.
 fn even() -> Mix {
@@ -139,6 +142,43 @@ pub fn cut(n: u64, seed: u64) -> Plan {
         2 => seeded(plan(8, 40, 8, 3, even(), 1500), seed),
         _ => seeded(plan(8, 70, 8, 5, busy(), 1000), seed),
     }
+}
+
+// The largest boards of the traces, and the fewest and the most records.
+const TRACE_LINES: u64 = 12;
+
+const TRACE_ENTRIES: u64 = 40;
+
+const TRACE_SLOTS: u64 = 8;
+
+const FEWEST_RECORDS: u64 = 12;
+
+pub const MOST_RECORDS: u64 = 160;
+
+fn trace_mix(n: u64) -> Mix {
+    let kinds = n % 4;
+    match kinds {
+        0 => even(),
+        1 => busy(),
+        2 => committing(),
+        _ => scanning(),
+    }
+}
+
+// A trace: a board and a number of records by the seed, the kinds of calls by the number.
+pub fn trace(n: u64, seed: u64) -> Plan {
+    let second = scrambled(seed);
+    let third = scrambled(second);
+    let fourth = scrambled(third);
+    let lines = sum(1, below(second, TRACE_LINES));
+    let entries = sum(1, below(third, TRACE_ENTRIES));
+    let slots = sum(1, below(fourth, TRACE_SLOTS));
+    let more = below(seed, MOST_RECORDS - FEWEST_RECORDS);
+    let records = sum(FEWEST_RECORDS, more);
+    seeded(
+        plan(lines, entries, slots, slots, trace_mix(n), records),
+        seed,
+    )
 }
 
 // The board whose words, fields and registers are damaged.

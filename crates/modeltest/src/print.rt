@@ -5,7 +5,11 @@ use crate::compare::NUMBERS;
 use crate::compare::Part;
 use crate::compare::Score;
 use crate::register_words::REGISTERS;
+use crate::turns::*;
 use libc::STDOUT_FILENO;
+
+// The first of the groups whose names stand in the second list.
+const LAST_GROUPS: u64 = 8;
 
 fn text(words: &[u8]) {
     io::write_all(STDOUT_FILENO, words);
@@ -15,23 +19,29 @@ fn number(n: u64) {
     io::print_decimal(STDOUT_FILENO, n);
 }
 
+// The name at a place of a list of names, each of which ends in a semicolon.
+fn name_at(names: &[u8], place: u64) {
+    let mut passed = 0;
+    for i in 0..names.len() {
+        if names[i] == b';' {
+            passed = sum(passed, 1);
+        } else if passed == place {
+            text(&names[i..i + 1]);
+        }
+    }
+}
+
 fn group_name(group: u64) {
-    match group {
-        0 => text(b"format"),
-        1 => text(b"lengths"),
-        2 => text(b"short lists"),
-        3 => text(b"histories"),
-        4 => text(b"waiting epochs"),
-        5 => text(b"last epoch"),
-        6 => text(b"full ring"),
-        7 => text(b"many slots"),
-        8 => text(b"cuts"),
-        9 => text(b"cuts at a full buffer"),
-        10 => text(b"one bit"),
-        11 => text(b"one field"),
-        12 => text(b"registers"),
-        13 => text(b"random words"),
-        _ => text(b"random fields"),
+    if group < LAST_GROUPS {
+        name_at(
+            b"format;lengths;short lists;histories;waiting epochs;last epoch;full ring;many slots;",
+            group,
+        );
+    } else {
+        name_at(
+            b"cuts;cuts at a full buffer;one bit;one field;registers;random words;random fields;records written;records read;traces;",
+            group - LAST_GROUPS,
+        );
     }
 }
 
@@ -60,6 +70,10 @@ fn part_name(part: Part) {
         Part::Work => text(b"work word"),
         Part::Persisted => text(b"P against the reference machine"),
         Part::Line => text(b"line against the reference machine"),
+        Part::Record => text(b"record word"),
+        Part::Total => text(b"total"),
+        Part::Planned => text(b"number against the plan"),
+        Part::Turn => text(b"count of the turn"),
     }
 }
 
@@ -88,12 +102,16 @@ fn arguments(s: State, c: Call) {
 // The group and the number of calls before this one; the call and its arguments; what differs.
 pub fn difference_line(group: u64, calls: u64, s: State, c: Call, d: Difference) {
     let kind = c.kind;
-    let part = d.part;
     group_name(group);
     named(b" ", calls);
     text(b": ");
     call_name(kind);
     arguments(s, c);
+    what_differs(d);
+}
+
+fn what_differs(d: Difference) {
+    let part = d.part;
     text(b": ");
     part_name(part);
     named(b" ", d.place);
@@ -119,17 +137,81 @@ fn answers(numbers: [u64; NUMBERS]) {
     }
 }
 
-// A group's line: its calls, how many answered each number, what shows that the rarer states were
-// reached, and its differences.
-pub fn group_line(score: Score) {
+// How a group's line begins: its calls, how many answered each number.
+fn answers_of(score: Score) {
     let numbers = score.numbers;
     group_name(score.group);
     named(b": ", score.calls);
     text(b" calls, numbers");
     answers(numbers);
+}
+
+fn differences_of(score: Score) {
+    named(b", ", score.differences);
+    text(b" differences\n");
+}
+
+// A group's line: its calls, how many answered each number, what shows that the rarer states were
+// reached, and its differences.
+pub fn group_line(score: Score) {
+    answers_of(score);
     named(b", most stores ", score.most_stores);
     named(b", persisted ", score.persisted);
     named(b", wrapped ", score.wrapped);
-    named(b", ", score.differences);
-    text(b" differences\n");
+    differences_of(score);
+}
+
+fn turn_name(turn: u64) {
+    if turn < READER {
+        name_at(b"kind above 4;address above 65535;", turn);
+    } else if turn < WRITER_END {
+        name_at(
+            b"address with commit;address with scan;value with load;value with commit;value with scan;value with evict;proper;any;",
+            turn - READER,
+        );
+    } else if turn < RUN {
+        name_at(
+            b"kind 5;kind 6;kind 7;one of the 45 bits;one bit the other way round;too few bytes;no bytes;bytes behind;",
+            turn - WRITER_END,
+        );
+    } else if turn < LOADS {
+        name_at(
+            b"ended ok;by a bad record;early;broken off;no format;no power-up;fed a byte;less than a record;a record and more;all;any parts;",
+            turn - RUN,
+        );
+    } else {
+        name_at(
+            b"total of loads;of stores;of evictions;of scans;went on after 5;after 8;after 9;after 11;stores before a bad record;sum past 2^64;",
+            turn - LOADS,
+        );
+    }
+}
+
+// A difference in a group of recorded traces: the turn, and its round or its run.
+pub fn turn_difference(score: Score, turn: u64, round: u64, d: Difference) {
+    group_name(score.group);
+    text(b" ");
+    turn_name(turn);
+    named(b" ", round);
+    what_differs(d);
+}
+
+fn turn_count(turn: u64, count: u64) {
+    text(b", ");
+    turn_name(turn);
+    named(b" ", count);
+}
+
+fn turn_counts(score: Score, first: u64, end: u64) {
+    for turn in first..end {
+        turn_count(turn, score.turns[index(turn, TURNS)]);
+    }
+}
+
+// The line of a group of recorded traces: its calls, how many answered each number, how often each
+// turn was taken, and its differences.
+pub fn turns_line(score: Score, first: u64, end: u64) {
+    answers_of(score);
+    turn_counts(score, first, end);
+    differences_of(score);
 }

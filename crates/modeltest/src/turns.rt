@@ -1,0 +1,203 @@
+// The turns that the groups of recorded traces take. Each is counted where it answers the number
+// that its plan says, is printed with its count, and is a difference where it never occurs.
+use crate::calls::index;
+use crate::calls::sum;
+use crate::compare::*;
+use crate::print;
+
+pub const TURNS: usize = 39;
+
+// The writer's: a kind and an address with no place in a record.
+pub const WRITER: u64 = 0;
+
+pub const LARGE_KIND: u64 = 0;
+
+pub const LARGE_ADDRESS: u64 = 1;
+
+// The writer's and the reader's: an address and a value that the kind does not take; what has a
+// place; whatever comes.
+pub const READER: u64 = 2;
+
+pub const ADDRESS_WITH_COMMIT: u64 = 2;
+
+pub const ADDRESS_WITH_SCAN: u64 = 3;
+
+pub const VALUE_WITH_LOAD: u64 = 4;
+
+pub const VALUE_WITH_COMMIT: u64 = 5;
+
+pub const VALUE_WITH_SCAN: u64 = 6;
+
+pub const VALUE_WITH_EVICT: u64 = 7;
+
+pub const PROPER: u64 = 8;
+
+pub const ANY: u64 = 9;
+
+pub const WRITER_END: u64 = 10;
+
+// The reader's: kinds that no record has, one of the 45 bits, any one bit the other way round, too
+// few bytes, none, and bytes behind the record.
+pub const KIND_5: u64 = 10;
+
+pub const KIND_6: u64 = 11;
+
+pub const KIND_7: u64 = 12;
+
+pub const ZERO_BIT: u64 = 13;
+
+pub const FLIPPED: u64 = 14;
+
+pub const SHORT: u64 = 15;
+
+pub const NO_BYTES: u64 = 16;
+
+pub const BYTES_BEHIND: u64 = 17;
+
+pub const READER_END: u64 = 18;
+
+// The runs': what ends them.
+pub const RUN: u64 = 18;
+
+pub const ENDED_OK: u64 = 18;
+
+pub const BAD_RECORD: u64 = 19;
+
+pub const SHORT_END: u64 = 20;
+
+pub const BROKEN_OFF: u64 = 21;
+
+pub const NO_FORMAT: u64 = 22;
+
+pub const NO_POWER_UP: u64 = 23;
+
+// The parts that their bytes come in.
+pub const ONE_BYTE: u64 = 24;
+
+pub const SOME_BYTES: u64 = 25;
+
+pub const RECORD_AND_MORE: u64 = 26;
+
+pub const ALL_BYTES: u64 = 27;
+
+pub const ANY_PARTS: u64 = 28;
+
+// A total that is not 0; calls that are refused and do not end the run; calls counted before a bad
+// record; a total that passes 2^64 - 1.
+pub const LOADS: u64 = 29;
+
+pub const STORES: u64 = 30;
+
+pub const EVICTIONS: u64 = 31;
+
+pub const SCANS: u64 = 32;
+
+pub const REFUSED_ADDRESS: u64 = 33;
+
+pub const REFUSED_ROOM: u64 = 34;
+
+pub const REFUSED_WAITING: u64 = 35;
+
+pub const REFUSED_NONE: u64 = 36;
+
+pub const COUNTED_BEFORE: u64 = 37;
+
+pub const SUM_PAST: u64 = 38;
+
+pub const RUN_END: u64 = 39;
+
+// The paper's numbers.
+pub const OK: u64 = 0;
+
+const SHAPE: u64 = 1;
+
+const WORK: u64 = 2;
+
+const ADDRESS: u64 = 5;
+
+const ROOM: u64 = 8;
+
+const WAITING: u64 = 9;
+
+const NONE: u64 = 11;
+
+pub const TRACE: u64 = 13;
+
+// The number that a turn is planned to answer; of a turn with no such plan the number answered.
+fn planned_number(turn: u64, number: u64) -> u64 {
+    match turn {
+        ANY | FLIPPED => number,
+        PROPER | NO_BYTES | BYTES_BEHIND | ENDED_OK => OK,
+        NO_FORMAT => SHAPE,
+        NO_POWER_UP => WORK,
+        _ => TRACE,
+    }
+}
+
+pub fn with_turn(score: Score, turn: u64) -> Score {
+    let at = index(turn, TURNS);
+    let seen = score.turns[at];
+    let mut next = score;
+    next.turns[at] = sum(seen, 1);
+    next
+}
+
+// The score with a difference more, where there is one: of a turn, and the round in which it is
+// taken.
+pub fn noted_turn(score: Score, turn: u64, round: u64, d: Difference) -> Score {
+    if is_same(d) {
+        return score;
+    }
+    if is_shown(score) {
+        print::turn_difference(score, turn, round, d);
+    }
+    with_difference(score)
+}
+
+// A turn that is taken: counted, or a difference where it does not answer what its plan says.
+pub fn taken(score: Score, turn: u64, round: u64, number: u64) -> Score {
+    let wanted = planned_number(turn, number);
+    if number == wanted {
+        return with_turn(score, turn);
+    }
+    noted_turn(
+        score,
+        turn,
+        round,
+        differing(Part::Planned, 0, number, wanted),
+    )
+}
+
+// A call of a run, by its number and that of the call before it. The run has gone on after a refused
+// call where the next one is accepted.
+pub fn with_call(score: Score, last: u64, number: u64) -> Score {
+    let next = counted(score, number);
+    if number != OK {
+        return next;
+    }
+    match last {
+        ADDRESS => with_turn(next, REFUSED_ADDRESS),
+        ROOM => with_turn(next, REFUSED_ROOM),
+        WAITING => with_turn(next, REFUSED_WAITING),
+        NONE => with_turn(next, REFUSED_NONE),
+        _ => next,
+    }
+}
+
+fn occurred(score: Score, turn: u64) -> Score {
+    let at = index(turn, TURNS);
+    let seen = score.turns[at];
+    if seen != 0 {
+        return score;
+    }
+    noted_turn(score, turn, 0, differing(Part::Turn, 0, seen, 1))
+}
+
+// Every turn from `first` to the one before `end` has to have occurred.
+pub fn all_occurred(score: Score, first: u64, end: u64) -> Score {
+    let mut next = score;
+    for turn in first..end {
+        next = occurred(next, turn);
+    }
+    next
+}
