@@ -58,10 +58,6 @@ unfolding width
 width-bytes zero = refl
 width-bytes (suc n) = rw (width-bytes n) (omega arith)
 
-pub bytes-length : (word : ℕ) → length (bytesOf word) ≡ bytesOfWord
-unfolding bytesOf unpack
-bytes-length word = refl
-
 pub word-below : (bytes : List ℕ) → AreBytes bytes → wordOf bytes < 2 ^ (byteBits * length bytes)
 unfolding wordOf
 word-below bytes h = rw (width-bytes (length bytes)) at (pack-below (byteWidths (length bytes)) bytes (bytes-fit bytes h))

@@ -13,7 +13,7 @@ use Rattle.base.specs.Cases.{below-or-not}
 use Rattle.layout.specs.declared.Record.{Record}
 use Rattle.layout.specs.Limits.{addressBits}
 use Rattle.layout.specs.Words.{Decoded, RecordFits, decodeRecord}
-use Rattle.layout.specs.Bytes.{bytesOf, withByte, AreBytes, bytes-take}
+use Rattle.layout.specs.Bytes.{bytesOfWord, bytesOf, withByte, AreBytes, bytes-take}
 use Rattle.status.specs.declared.Status.the-variants.{Ok, Trace}
 use Rattle.benchcalls.specs.declared.Call.{Call}
 use Rattle.records.specs.declared.Reader.{Reader}
@@ -98,13 +98,13 @@ module _ (r : Reader) (byte : ℕ) where
   step-full h = rw (le-leb recordBytes (r .count) h)
 
   module _ (word : ℕ) (few : r .count < recordBytes) where
-    pub step-first : r .count < 8 → word ≡ withByte (r .first) byte → record { count = r .count + 1; first = word; value = r .value } ≡ stepOf r byte
+    pub step-first : r .count < bytesOfWord → word ≡ withByte (r .first) byte → record { count = r .count + 1; first = word; value = r .value } ≡ stepOf r byte
     unfolding stepOf isFull
-    step-first l e = rw (lt-leb recordBytes (r .count) few, lt-ltb (r .count) 8 l, e)
+    step-first l e = rw (lt-leb recordBytes (r .count) few, lt-ltb (r .count) bytesOfWord l, e)
 
-    pub step-value : 8 ≤ r .count → word ≡ withByte (r .value) byte → record { count = r .count + 1; first = r .first; value = word } ≡ stepOf r byte
+    pub step-value : bytesOfWord ≤ r .count → word ≡ withByte (r .value) byte → record { count = r .count + 1; first = r .first; value = word } ≡ stepOf r byte
     unfolding stepOf isFull
-    step-value l e = rw (lt-leb recordBytes (r .count) few, le-ltb (r .count) 8 l, e)
+    step-value l e = rw (lt-leb recordBytes (r .count) few, le-ltb (r .count) bytesOfWord l, e)
 
 pub reading-whole : (r : Reader) (x : Reading) → (r .count ≡ 0 → ⊥) → recordBytes ≤ r .count → x ≡ wordsReading (r .first) (r .value) → x ≡ readingBy r
 unfolding readingBy

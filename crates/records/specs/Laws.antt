@@ -10,7 +10,7 @@ use native.Mathlib.Nat.{zero-add, suc-add}
 use borrow.Author.Tests.{leb-true, ltb-true, ltb-false, eqb-true, le-ltb, lt-ltb, lt-leb, ne-eqb}
 use lib.Dec.{ltb, leb, eqb}
 use lib.ListN.{length, take, drop, length-append, length-take, length-drop, drop-of-length-le}
-use lib.Seq.{take-all, take-append-le, drop-append-le, take-take, length-take-le}
+use lib.Seq.{take-add, take-all, take-append-le, drop-append-le, take-take, length-take-le}
 use Rattle.base.specs.Cases.{below-or-not, either}
 use Rattle.base.specs.Tests.{and-left, and-right}
 use Rattle.layout.specs.declared.Record.{Record}
@@ -237,12 +237,6 @@ module _ (bytes : List ℕ) (c : Call) where
       go false false true true n s p q x =
           record { long = ltb-false (length bytes) recordBytes s; spare = eqb-true (word .spare) 0 p; placed = q; call = cc }
 
-pub take-twice : (m n : ℕ) (bytes : List ℕ) → take m bytes ++ take n (drop m bytes) ≡ take (m + n) bytes
-take-twice zero n bytes = rw zero-add
-take-twice (suc m) zero [] = rw suc-add
-take-twice (suc m) (suc n) [] = rw suc-add
-take-twice (suc m) n (b ∷ bs) = rw suc-add (ap (λ (rest : List ℕ). b ∷ rest) (take-twice m n bs))
-
 module _ (bytes : List ℕ) (h : AreBytes bytes) where
   first-below : recordBytes ≤ length bytes → firstIn bytes < 2 ^ wordBits
   first-below long =
@@ -262,7 +256,7 @@ module _ (bytes : List ℕ) (h : AreBytes bytes) where
       (bytes-of-word (take bytesOfWord bytes) (bytes-take bytesOfWord bytes h) (length-take-le bytesOfWord bytes (omega arith)))
       (bytes-of-word (take bytesOfWord (drop bytesOfWord bytes)) (bytes-take bytesOfWord (drop bytesOfWord bytes) (bytes-drop bytesOfWord bytes h))
       (length-take-le bytesOfWord (drop bytesOfWord bytes) (rw (length-drop bytesOfWord bytes) (omega arith))))
-      ∙ take-twice bytesOfWord bytesOfWord bytes
+      ∙ sym (take-add bytesOfWord bytesOfWord bytes)
 
   -- what the reader accepts the writer writes again, byte for byte
   pub written-again : (c : Call) → reading bytes ≡ Recorded c

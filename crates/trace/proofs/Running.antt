@@ -7,7 +7,7 @@ use native.Mathlib.Omega.{arith}
 use borrow.Author.Tests.{leb-true, not-true, not-false}
 use lib.Dec.{leb}
 use lib.ListN.{length, getD, take, drop, length-drop}
-use lib.Seq.{take-all}
+use lib.Seq.{take-add, take-all}
 use Rattle.base.specs.Parts.{rest-lent}
 use Rattle.base.specs.Tests.{and-left, and-right}
 use Rattle.layout.specs.Bytes.{AreBytes}
@@ -24,7 +24,7 @@ use Rattle.records.specs.declared.Reading.{Reading}
 use Rattle.records.specs.declared.Reading.the-variants.{End, Recorded, Refused}
 use Rattle.records.specs.Records.{recordBytes, reading}
 use Rattle.records.specs.Steps.{newReader, isNew, isFull, stepOf, readingBy}
-use Rattle.records.specs.Laws.{new-reader, take-twice}
+use Rattle.records.specs.Laws.{new-reader}
 use Rattle.trace.specs.declared.Run.{Run}
 use Rattle.trace.specs.declared.Totals.{Totals}
 use Rattle.trace.specs.Run.{noTotals, plus, counted, wokenState, called, taken, turn}
@@ -184,7 +184,7 @@ module _ (m : Machine) (input board₀ work₀ board work : List ℕ) (r : Run) 
       ap (λ (x : Machine). foldl stepped x (take n rest)) machine-is
       ∙ ap (λ (x : List ℕ). foldl stepped (foldl stepped m (take i input)) (take n x)) (rest-lent i input)
       ∙ sym (foldl-append stepped m (take i input) (take n (drop i input)))
-      ∙ ap (foldl stepped m) (take-twice i n input)
+      ∙ ap (foldl stepped m) (sym (take-add i n input))
 
   pub feeding-within : (board′ work′ : List ℕ) (x : Fed) → Feeds (machineOf r board work) rest board′ work′ x → i + x .taken ≤ length input
   feeding-within board′ work′ x p =
