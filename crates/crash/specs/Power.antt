@@ -1,4 +1,4 @@
--- A power-up keeps the invariant of a run from any state, and never answers 1 or 3.
+-- A power-up keeps the invariant of a run from any state, and never answers 1 or 3: each entry of the log that it finds is proper.
 use Prim.Native.Nat.{ℕ, _+_, _≤_, _<_}
 use mathlib.Core.Path.{_≡_, refl, sym, ap, _∙_}
 use mathlib.Core.Bool.{Bool, true, false, not, cond}
@@ -16,7 +16,7 @@ use Rattle.layout.specs.Memory.{logAt, linesAt, boardWords, controlIn}
 use Rattle.board.specs.Stores.{Store, applied}
 use Rattle.status.specs.declared.Status.{Status}
 use Rattle.status.specs.declared.Status.the-variants as status
-use Rattle.undo.specs.Log.{firstImproper, recoverStores}
+use Rattle.undo.specs.Log.{properAt, firstImproper, recoverStores}
 use Rattle.checks.specs.declared.Checked.{Checked}
 use Rattle.checks.specs.declared.Checked.the-variants.{Refused, Passed}
 use Rattle.checks.specs.Contracts.{Shaped}
@@ -31,11 +31,11 @@ use Rattle.history.specs.Machine.{Durable}
 use Rattle.reference.specs.Machine.{Reference, wakes, does}
 use Rattle.history.specs.Restore.{power-up-lines}
 use Rattle.bounds.specs.Costs.{recover-most}
-use Rattle.durable.specs.Proper.{reads-passes}
+use Rattle.durable.specs.Proper.{reads-passes, reads-proper}
 use Rattle.durable.specs.View.{Sized, undoWith}
 use Rattle.refine.specs.State.{Off, Ok}
 use Rattle.refine.specs.Wake.{waking-along, waking-reads, waking-ok}
-use Rattle.crash.specs.Statement.{powerUp, Machine, Result, answered, made, fed}
+use Rattle.crash.specs.Statement.{powerUp, Machine, Result, answered, made, fed, logOn}
 use Rattle.crash.specs.State.{Up, Holds, is-up, is-down, up-of, holds-off, holds-ended}
 
 -- ---- the tests
@@ -71,6 +71,13 @@ memories-work {board = board} sized work s e = go (goodWork (length work)) (rw (
     go true e = let z : _≡_ {A = ℕ} 0 1 = cc in absurd (omega arith)
     go false e = cc
 
+-- each entry of the log is proper
+pub log-proper-of : {N L : ℕ} {board : List ℕ} {g : Reference} → Off N L board g → (i : ℕ) → i < controlIn board .length
+    → properAt board (logOn L board) N i ≡ true
+log-proper-of {L = L} {board = board} off i h =
+    let numbers : logOn L board ≡ undoWith (off .control) L = ap (λ (c : Control). undoWith c L) (off .reads .control) in
+    rw numbers (reads-proper (undoWith (off .control) L) (off .reads) refl mostAhead (off .safe .proper) i (rw (off .reads .control) at h))
+
 module _ {N L : ℕ} {board : List ℕ} {g : Reference} (off : Off N L board g) (lent : List ℕ) where
   -- the log's numbers that power-up reads
   numbers : undoOf (viewOf board lent) registers.zero ≡ undoWith (off .control) L
@@ -91,7 +98,7 @@ module _ {N L : ℕ} {board : List ℕ} {g : Reference} (off : Off N L board g) 
   all-proper : firstImproper board (undoOf (viewOf board lent) registers.zero) (viewOf board lent .shape .lines) ≡ viewOf board lent .control .length
   all-proper =
       rw (numbers, lines, length-same)
-      (reads-passes (undoWith (off .control) L) (off .reads) refl mostAhead (off .durable .persisted + mostAhead) (off .safe .proper))
+      (reads-passes (undoWith (off .control) L) (off .reads) refl mostAhead (off .safe .proper))
 
   pub wake-due : wakeVerdict board lent (viewOf board lent) ≡ due (wakeAt board lent (undoWith (off .control) L))
   unfolding wakeVerdict

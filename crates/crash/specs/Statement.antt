@@ -12,6 +12,8 @@ use Rattle.layout.specs.Memory.{linesAt, boardWords, shapeFor, slotsOf, control
 use Rattle.status.specs.declared.Status.{Status}
 use Rattle.status.specs.declared.Status.the-variants as status
 use Rattle.status.specs.Numbers.{numberOf}
+use Rattle.undo.specs.declared.LogState.{LogState}
+use Rattle.undo.specs.Log.{properAt}
 use Rattle.checks.specs.declared.Registers.{Registers}
 use Rattle.checks.specs.Registers.{zero}
 use Rattle.checks.specs.View.{goodWork}
@@ -96,6 +98,10 @@ persistedOn board = controlIn board .persisted
 
 abbrev pub lineOn : (L : ℕ) → List ℕ → ℕ → ℕ
 lineOn L board a = getD board (linesAt L + a) 0
+
+-- the log that a board has, with nothing buffered for it
+abbrev pub logOn : (L : ℕ) → List ℕ → LogState
+logOn L board = record { control = controlIn board; entries = L; buffered = 0 }
 
 -- A board of N lines and L log entries that rests: proper, with an empty log, at any epoch and with any lines. "A board just formatted" is
 -- one (`format-rests`).
@@ -182,6 +188,8 @@ pub record Consistent (N L : ℕ) (s : Both) : Type 0 where
   -- "after each accepted power-up the board's lines are the loom's"
   pub wakes-to-lines : (lent : List ℕ) (k : ℕ) → made (s .machine) (powerUp lent k) .status ≡ status.Ok → (a : ℕ) → a < N
       → lineOn L (after s (powerUp lent k) .machine .board) a ≡ after s (powerUp lent k) .reference .lines a
+  -- request 2/13: "every log left by a cut in demand 3's lists passes the new test", entry by entry
+  pub log-proper : (i : ℕ) → i < controlIn (s .machine .board) .length → properAt (s .machine .board) (logOn L (s .machine .board)) N i ≡ true
   -- "On a board that demand 3 reaches, power-up never answers 1 or 3."
   pub wakes : (lent : List ℕ) (k : ℕ)
       → (made (s .machine) (powerUp lent k) .status ≡ status.Shape → ⊥) × (made (s .machine) (powerUp lent k) .status ≡ status.Entry → ⊥)

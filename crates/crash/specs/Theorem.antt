@@ -9,7 +9,7 @@ use Rattle.durable.specs.Reads.{reads-persisted}
 use Rattle.crash.specs.Statement.{Step, Both, run, start, persistedOn, Consistent, Demand3}
 use Rattle.crash.specs.State.{Holds, holds-off, holds-ended}
 use Rattle.crash.specs.Steps.{load-value}
-use Rattle.crash.specs.Power.{power-up-lines-of, power-up-shape, power-up-entry, power-up-ok}
+use Rattle.crash.specs.Power.{log-proper-of, power-up-lines-of, power-up-shape, power-up-entry, power-up-ok}
 use Rattle.crash.specs.Format.{formatted-rests}
 use Rattle.crash.specs.Runs.{run-holds, start-holds}
 use Rattle.crash.specs.Progress.{persisted-risen}
@@ -29,6 +29,7 @@ consistent {N} {L} s h =
       same-running = λ awake. awake-up s h awake .ok .live .history .clock;
       wakes-to-copy = λ lent k ok a inside. power-up-lines-of h lent k ok a ∙ ap (λ (p : ℕ). s .reference .copies p a) (sym (same-epoch s h));
       wakes-to-lines = λ lent k ok a inside. rw ok (power-up-lines-of h lent k ok a);
+      log-proper = log-proper-of (holds-off h);
       wakes = λ lent k. (power-up-shape h lent k, power-up-entry h lent k);
       wakes-up = λ lent k work enough. power-up-ok h lent k work enough;
       loads = λ a k ok. load-value h a k ok;

@@ -1,8 +1,9 @@
--- The premises of demand 3 can be met: one list of calls, computed. Document 01's listing (line 0 is stored 7 in epoch 1 and 9 in epoch 2,
--- and S + 1 scan calls persist epoch 1); then 9 is written in place, the current goes in mid-flush, and power-up restores 7.
+-- The premises of demand 3 can be met: two lists of calls, computed. Document 01's listing (line 0 is stored 7 in epoch 1 and 9 in epoch 2,
+-- and S + 1 scan calls persist epoch 1); then 9 is written in place, the current goes in mid-flush, and power-up restores 7. The other
+-- leaves a log entry that ends as late as one may.
 use Prim.Native.Nat.{ℕ, _+_, _*_}
 use mathlib.Core.Path.{_≡_, refl}
-use mathlib.Core.List.{List, [], _∷_}
+use mathlib.Core.List.{List, [], _∷_, _++_}
 use native.Mathlib.Omega.{arith}
 use lib.ListN.{length, getD, replicate}
 use Rattle.base.specs.Cases.{update}
@@ -10,6 +11,7 @@ use Rattle.base.specs.Walk.{firstFrom}
 use Rattle.board.specs.Stores.{applied, each, shifted}
 use Rattle.board.specs.Verdict.{boardAfter, workAfter}
 use Rattle.layout.specs.Fields.{width, pack, unpack, encode, decode}
+use Rattle.layout.specs.Limits.{mostAhead}
 use Rattle.layout.specs.Memory.{logAt, entryWords, workWords, slotsOf, formatted, withBuffer, controlIn}
 use Rattle.layout.specs.Words.{encodeEntry}
 use Rattle.status.specs.declared.Status.the-variants as status
@@ -24,7 +26,7 @@ use Rattle.checks.specs.Refusals.{boardChecked, memoriesChecked, runningChecked
 use Rattle.picl.specs.Answers.{answerOf}
 use Rattle.picl.specs.Calls as calls
 use Rattle.reference.specs.Machine.{upTo}
-use Rattle.crash.specs.Statement.{Step, call, powerUp, made, Both, run, lineOn, start, Stretch, scans}
+use Rattle.crash.specs.Statement.{Step, call, powerUp, made, Both, run, persistedOn, lineOn, logOn, start, Stretch, scans}
 
 -- "n 4 8 2", with allowances as large as a call can need
 abbrev entries : ℕ
@@ -61,6 +63,13 @@ scanned = run begun pass
 abbrev pub cut : Both
 cut = run scanned cutOff
 
+-- 15 epochs wait, line 0 is stored to in the 16th, and its eviction is cut before the last of four stores
+abbrev pub fifteen : List Step
+fifteen = powerUp blank many ∷ replicate 15 (call calls.commit many) ++ call (calls.store 0 7) many ∷ call (calls.evict 0) 3 ∷ []
+
+abbrev pub far : Both
+far = run (start entries (formatted 4 entries)) fifteen
+
 pub record Met : Type 0 where
   -- the premises of `Persists`
   pub stretch : Stretch begun pass
@@ -75,6 +84,9 @@ pub record Met : Type 0 where
   pub accepted : made (cut .machine) (powerUp blank many) .status ≡ status.Ok
   pub restored : lineOn entries (made (cut .machine) (powerUp blank many) .left .board) 0 ≡ 7
   pub copy : cut .reference .copies 1 0 ≡ 7
+  -- the premise of `log-proper`, with an entry that ends as late as any may: 16 epochs after P
+  pub far-counted : controlIn (far .machine .board) .length ≡ 1
+  pub far-till : entryIn (far .machine .board) (logOn entries (far .machine .board)) 0 .till ≡ persistedOn (far .machine .board) + mostAhead
 
 differ : _≡_ {A = ℕ} 0 1 → ⊥
 differ e = omega arith
@@ -105,4 +117,6 @@ met =
       accepted = refl;
       restored = refl;
       copy = refl;
+      far-counted = refl;
+      far-till = refl;
     }

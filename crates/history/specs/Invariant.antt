@@ -9,15 +9,15 @@ use Rattle.reference.specs.Machine.{Reference}
 -- ---- proper logs
 
 -- "A proper log entry has address < N, ValidFrom < ValidTill, P < ValidTill, and a ValidTill not below that of the next older
--- entry." `low` is that older ValidTill, or P + 1 for the oldest entry. Recovery needs `before` alone; the others are what power-up
--- tests, `narrow` and `before` by later requests.
+-- entry." `low` is that older ValidTill, or P + 1 for the oldest entry. Recovery needs `before` alone; power-up tests all but `narrow`, which a
+-- later request brings.
 pub record ProperEntry (N W low high : ℕ) (x : Entry) : Type 0 where
   pub inside : x .address < N
   pub nonempty : x .from < x .till
   -- with `nonempty`, request 9/13: the span is 1 to W
   pub narrow : x .till ≤ x .from + W
   pub after : low ≤ x .till
-  -- request 2/13, where `high` is P + W
+  -- request 2/13: "only if ValidTill ≤ P + 16 as well", where `high` is P + W
   pub before : x .till ≤ high
 
 -- oldest entry first

@@ -1,21 +1,23 @@
 -- Reading the log: an entry at its place, the run that an advance drops, and the search for the first improper entry.
 use Prim.Native.Nat.{ℕ, _+_, _-_, _*_, _<_, _≤_}
 use mathlib.Core.Path.{_≡_, refl, sym, ap, _∙_}
-use mathlib.Core.Bool.{Bool, true, false, not, _&&_, and-true, and-false}
+use mathlib.Core.Bool.{Bool, true, false, not, _&&_, and-true, and-false, and-assoc}
 use mathlib.Core.List.{List}
 use native.Mathlib.Numerals.{add-one}
 use native.Mathlib.Omega.{arith}
-use borrow.Author.Tests.{lt-ltb, le-leb, lt-leb, ltb-true, ltb-false, leb-true, not-true, not-false}
+use borrow.Author.Tests.{lt-ltb, le-ltb, le-leb, lt-leb, ltb-true, ltb-false, leb-true, not-true, not-false}
 use lib.Dec.{ltb, leb, eqb}
 use lib.ListN.{getD}
 use Rattle.base.specs.Walk.{Walked, walk-start, walk-end, walk-stop, walk-pass, walk-found, walk-next}
 use Rattle.layout.specs.declared.Entry.{Entry}
+use Rattle.layout.specs.Limits.{mostAhead}
 use Rattle.layout.specs.Memory.{logAt}
 use Rattle.layout.specs.Words.{Decoded, EntryFits, decodeEntry}
 use Rattle.undo.specs.declared.LogState.{LogState}
-use Rattle.undo.specs.Entries.{properEntry, properAbove, properBuffered}
+use Rattle.undo.specs.Entries.{properEntry, properBuffered}
 use Rattle.undo.specs.Log.{Sound, Placed, entryIn, olderTill, properAt, firstImproper}
 use Rattle.undo.specs.Log.{bufferedIn, bufferedProper, elsewhere, expired, dropped, KeptBy}
+use Rattle.undo.specs.Contracts.{properBetween}
 use Rattle.undo.specs.Laws.{proper-till}
 use Rattle.undo.specs.Ring.{nextPlace}
 use Rattle.undo.proofs.Ring.{placed-next}
@@ -25,22 +27,31 @@ pub entry-read : (board : List ℕ) (u : LogState) (i at : ℕ) (e : Entry) → 
 unfolding entryIn
 entry-read board u i at e p d = rw (← p .is) d
 
+-- the test of an epoch, one law for each way out
+module _ (epoch least most : ℕ) where
+  pub between-above : least ≤ epoch → leb epoch most ≡ leb least epoch && leb epoch most
+  between-above h = rw (le-leb least epoch h)
+
+  pub between-below : epoch < least → false ≡ leb least epoch && leb epoch most
+  between-below h = rw (lt-leb least epoch h)
+
 -- the test of an entry's word, one law for each way out
-module _ (word lines least : ℕ) (t : Bool) (address : t ≡ ltb (decodeEntry word .address) lines) where
-  pub word-address : not t ≡ true → false ≡ properAbove lines least (decodeEntry word)
-  unfolding properAbove
+module _ (word lines least most : ℕ) (t : Bool) (address : t ≡ ltb (decodeEntry word .address) lines) where
+  pub word-address : not t ≡ true → false ≡ properBetween lines least most (decodeEntry word)
+  unfolding properBetween
   word-address x = rw (← address, not-true t x)
 
   module _ (named : not t ≡ false) (e : Entry) (d : Decoded EntryFits (decodeEntry word) e) where
-    pub word-till : e .till < least → false ≡ properAbove lines least (decodeEntry word)
-    unfolding properAbove
-    word-till h = rw (← address, not-false t named, ← d .is, lt-leb least (e .till) h)
+    pub word-empty : e .till ≤ e .from → false ≡ properBetween lines least most (decodeEntry word)
+    unfolding properBetween
+    word-empty h = rw (← address, not-false t named, ← d .is, le-ltb (e .from) (e .till) h)
 
-    pub word-from : least ≤ e .till → ltb (e .from) (e .till) ≡ properAbove lines least (decodeEntry word)
-    unfolding properAbove
-    word-from h = rw (← address, not-false t named, ← d .is, le-leb least (e .till) h)
+    pub word-till : (r : Bool) → e .from < e .till → r ≡ leb least (e .till) && leb (e .till) most
+        → r ≡ properBetween lines least most (decodeEntry word)
+    unfolding properBetween
+    word-till r h x = x ∙ rw (← address, not-false t named, ← d .is, lt-ltb (e .from) (e .till) h)
 
--- one bound stands for both: what is at or above least is above P, and not below the older entry's ValidTill
+-- one lower bound stands for both: what is at or above least is above P, and not below the older entry's ValidTill
 abbrev pub Bounds : (persisted older least : ℕ) → Type 0
 Bounds persisted older least = (till : ℕ) → leb least till ≡ ltb persisted till && leb older till
 
@@ -64,20 +75,13 @@ bounds-next persisted older h till = go (leb older till) refl
         none true = refl
         none false = refl
 
-swapped : (a b c d : Bool) → a && (b && c) && d ≡ a && d && b && c
-swapped true true true true = refl
-swapped true true true false = refl
-swapped true true false true = refl
-swapped true true false false = refl
-swapped true false c true = refl
-swapped true false c false = refl
-swapped false b c d = refl
-
-proper-above : (lines persisted older least : ℕ) → Bounds persisted older least → (e : Entry)
-    → properAbove lines least e ≡ properEntry lines persisted older e
-unfolding properAbove properEntry
-proper-above lines persisted older least h e =
-    rw (h (e .till)) (swapped (ltb (e .address) lines) (ltb persisted (e .till)) (leb older (e .till)) (ltb (e .from) (e .till)))
+proper-between : (lines persisted older least : ℕ) → Bounds persisted older least → (e : Entry)
+    → properBetween lines least (persisted + mostAhead) e ≡ properEntry lines persisted older e
+unfolding properBetween properEntry
+proper-between lines persisted older least h e =
+    rw (h (e .till))
+    (ap (λ (t : Bool). t && leb (e .till) (persisted + mostAhead))
+    (sym (and-assoc (ltb (e .address) lines && ltb (e .from) (e .till)) (ltb persisted (e .till)) (leb older (e .till)))))
 
 -- the search for the first improper entry carries its place and the lower bound of its ValidTill
 pub record Searched (board : List ℕ) (u : LogState) (lines i at least : ℕ) : Type 0 where
@@ -103,10 +107,13 @@ module _ {board : List ℕ} {u : LogState} {lines i at least : ℕ} (s : Searche
   unfolding entryIn
   word-read = rw (← s .placed .is)
 
-  module _ (t : Bool) (a : t ≡ properAbove lines least (decodeEntry (getD board (logAt + at) 0))) (h : i < u .control .length) where
+  module _ (t : Bool) (a : t ≡ properBetween lines least (u .control .persisted + mostAhead) (decodeEntry (getD board (logAt + at) 0)))
+      (h : i < u .control .length) where
     tested : t ≡ properAt board u lines i
     unfolding properAt
-    tested = a ∙ ap (properAbove lines least) word-read ∙ proper-above lines _ _ least (s .carried) (entryIn board u i)
+    tested =
+        a ∙ ap (properBetween lines least (u .control .persisted + mostAhead)) word-read
+        ∙ proper-between lines _ _ least (s .carried) (entryIn board u i)
 
     pub search-found : not t ≡ true → i ≡ firstImproper board u lines
     unfolding firstImproper

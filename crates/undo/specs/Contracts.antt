@@ -1,8 +1,9 @@
--- What the storing functions of this crate do.
+-- What the functions of this crate do, and need, where it takes more than a line.
 use Prim.Native.Nat.{ℕ, _+_, _*_, _^_, _<_, _≤_}
 use mathlib.Core.Path.{_≡_}
-use mathlib.Core.Bool.{true}
+use mathlib.Core.Bool.{Bool, true, _&&_}
 use mathlib.Core.List.{List}
+use lib.Dec.{ltb, leb}
 use lib.ListN.{length}
 use Rattle.board.specs.declared.Meter.{Meter}
 use Rattle.board.specs.Stores.{Ran}
@@ -14,6 +15,11 @@ use Rattle.undo.specs.declared.LogState.{LogState}
 use Rattle.undo.specs.declared.Progress.{Progress}
 use Rattle.undo.specs.Log.{Sound, properAt, flushStores, flushed, flushedBuffer, pushed, counted}
 use Rattle.undo.specs.Ring.{entryAt}
+
+-- a proper entry, with one bound of ValidTill on either side: from below the larger of P + 1 and the next older entry's ValidTill
+unfoldable pub properBetween : (lines least most : ℕ) → Entry → Bool
+properBetween lines least most e =
+    ltb (e .address) lines && ltb (e .from) (e .till) && leb least (e .till) && leb (e .till) most
 
 -- a flush of the buffer to the board's log
 pub record Flushes (board buffer : List ℕ) (u : LogState) (m : Meter) (board′ buffer′ : List ℕ) (r : Progress) : Type 0 where

@@ -1,23 +1,25 @@
 // The undo log on the board, and the undo buffer before it.
 ghost use Prim.Native.Nat.{_*_, _%_, _^_, _<_, _≤_};
+ghost use lib.Dec.{leb};
 ghost use lib.ListN.{length};
+ghost use mathlib.Core.Bool.{_&&_};
 ghost use mathlib.Core.Path.{_≡_};
 ghost use Rattle.board.specs.Stores.{Ran, each};
 ghost use Rattle.layout.specs.Limits.{epochBits, mostLines, mostEntries, bufferPlaces};
 ghost use Rattle.layout.specs.Memory.{linesAt, bufferWords, entryWords};
 ghost use Rattle.layout.specs.Words.{decodeEntry};
-ghost use Rattle.undo.specs.Entries.{properAbove};
 ghost use Rattle.undo.specs.Log.{Sound, Placed, firstImproper, bufferedProper, bufferProper, elsewhere};
 ghost use Rattle.undo.specs.Log.{buffers, DroppedBy, KeptBy, entryStores, counted, flushed, advanceStores};
 ghost use Rattle.undo.specs.Log.{restoreTurn, recoverStores};
 ghost use Rattle.undo.specs.Ring.{nextPlace, previousPlace, restoreAt};
-ghost use Rattle.undo.specs.Contracts.{Flushes, FlushReady, Pushes, PushReady, AdvanceReady, RecoverReady, RestoreReady};
+ghost use Rattle.undo.specs.Contracts.{properBetween, Flushes, FlushReady, Pushes, PushReady, AdvanceReady, RecoverReady, RestoreReady};
 use board::Meter;
 use layout::CONTROL_AT;
 use layout::Control;
 use layout::ENTRY_WORDS;
 use layout::Entry;
 use layout::LOG_AT;
+use layout::MOST_AHEAD;
 
 // The undo log as a call carries it: what the control word says, how many entries the ring has place for (the paper's L)
 // and how many the buffer holds.
@@ -64,21 +66,31 @@ pub struct Progress {
     pub meter: Meter,
 }
 
+// Whether an epoch is neither below the least nor above the most.
+fn is_between(epoch: u64, least: u64, most: u64) -> bool
+    ensures { λ r. ⌜ r ≡ leb least epoch && leb epoch most ⌝ }
+{
+    if epoch < least {
+        return false;
+    }
+    epoch <= most
+}
+
 // Whether the entry with this first word is proper. The persisted epoch and the older entry bound its till from below: least is
-// the larger bound.
-fn is_proper_word(word: u64, lines: u64, least: u64) -> bool
+// the larger bound. The persisted epoch alone bounds it from above.
+fn is_proper_word(word: u64, lines: u64, least: u64, most: u64) -> bool
     requires { ⌜ 1 ≤ lines ⌝ }
     requires { ⌜ lines ≤ mostLines ⌝ }
-    ensures { λ r. ⌜ r ≡ properAbove lines least (decodeEntry word) ⌝ }
+    ensures { λ r. ⌜ r ≡ properBetween lines least most (decodeEntry word) ⌝ }
 {
     if !layout::is_address_below(word, lines) {
         return false;
     }
     let entry = Entry::decode(word);
-    if entry.till < least {
+    if entry.from >= entry.till {
         return false;
     }
-    entry.from < entry.till
+    is_between(entry.till, least, most)
 }
 
 // The first word of entry i, counted from the log's first word.
@@ -130,12 +142,13 @@ pub fn first_improper(board: &[u64], undo: LogState, lines: u64) -> u64
     let mut i: u64 = 0;
     let mut at = place(undo, 0);
     let mut least = undo.control.persisted + 1;
+    let most = undo.control.persisted + MOST_AHEAD;
     let found = loop {
         if i >= undo.control.length {
             break i;
         }
         let word = board[LOG_AT + at];
-        if !is_proper_word(word, lines, least) {
+        if !is_proper_word(word, lines, least, most) {
             break i;
         }
         least = Entry::decode(word).till;

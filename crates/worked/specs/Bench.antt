@@ -7,11 +7,12 @@ use lib.ListN.{length, replicate}
 use Rattle.layout.specs.declared.Control.{Control}
 use Rattle.layout.specs.declared.Entry.{Entry}
 use Rattle.layout.specs.declared.Slot.{Slot}
+use Rattle.layout.specs.Limits.{lastEpoch}
 use Rattle.layout.specs.Memory.{shapeFor, bufferWords}
 use Rattle.layout.specs.Words.{encodeControl, encodeShape, encodeEntry, encodeSlot}
 use Rattle.status.specs.declared.Status.the-variants as status
 use Rattle.checks.specs.declared.Registers.{Registers}
-use Rattle.checks.specs.Registers.{given}
+use Rattle.checks.specs.Registers.{zero, given}
 use Rattle.picl.specs.declared.Answer.{Answer}
 use Rattle.picl.specs.Answers.{Verdict, answer}
 use Rattle.board.specs.Verdict.{due}
@@ -36,6 +37,14 @@ dirty tag = slot true true 3 tag
 -- the two words of an undo entry
 abbrev pub undo : (address from till old : ℕ) → List ℕ
 undo address from till old = encodeEntry (entry address from till) ∷ old ∷ []
+
+-- two entries for line 3 from epoch 0 and from epoch 1 on, with the data 4 and 6
+abbrev pub ending : (till₁ till₂ : ℕ) → List ℕ
+ending till₁ till₂ = undo 3 0 till₁ 4 ++ undo 3 1 till₂ 6
+
+-- one for it that ends in the last epoch
+abbrev pub endingLast : List ℕ
+endingLast = undo 3 0 lastEpoch 4
 
 -- W6's log
 abbrev pub twice : List ℕ
@@ -75,9 +84,13 @@ commit persisted epoch = commitVerdict (quiet persisted) (work clean 7 []) (give
 abbrev pub scan : (tag : ℕ) → Verdict
 scan tag = scanVerdict (quiet 0) (work (dirty tag) 9 (undo 3 0 tag 7)) (given 2 1 1)
 
--- what calls come to: a verdict with no store due, and an answer of number 0
+-- what calls come to: a verdict with no store due, an answer of number 0, and one of number 3
 abbrev pub still : Registers → (work : List ℕ) → Verdict
 still r work = due (record { value = 0; registers = r; work = work; stores = [] })
 
 abbrev pub ok : (value stores : ℕ) → Registers → Answer
 ok value stores r = answer status.Ok value stores r
+
+-- "3 entry: a log entry is not proper; value is i of the first": no store made, and power-up leaves registers zero
+abbrev pub improper : (value : ℕ) → Answer
+improper value = answer status.Entry value 0 zero

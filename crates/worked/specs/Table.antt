@@ -6,6 +6,7 @@ use mathlib.Core.List.{[], _∷_, _++_}
 use Rattle.base.specs.Walk.{firstFrom}
 use Rattle.board.specs.Stores.{applied, each, shifted}
 use Rattle.layout.specs.Fields.{width, pack, unpack, encode, decode}
+use Rattle.layout.specs.Limits.{lastEpoch}
 use Rattle.layout.specs.Words.{encodeControl, encodeShape, encodeEntry, encodeSlot}
 use Rattle.status.specs.Numbers.{numberOf}
 use Rattle.undo.specs.Entries.{covers, properEntry, properBuffered}
@@ -37,7 +38,7 @@ use Rattle.text.specs.Text.{placesOf, decimalOf, numbersText, nameText}
 use Rattle.trace.specs.Run.{plus, begun, called, taken, turn, after, ran, lineText, printed}
 use Rattle.worked.specs.Recorded.{zeros, wrote, bad, listing, broken}
 use Rattle.worked.specs.Bench.{control, entry, slot, clean, dirty, undo, twice, board, work, quiet}
-use Rattle.worked.specs.Bench.{wake, store, evict, commit, scan, still, ok}
+use Rattle.worked.specs.Bench.{ending, endingLast, wake, store, evict, commit, scan, still, ok, improper}
 
 pub record Worked : Type 0 where
   -- "W1 entry 5, 1, 2: hexadecimal 0005000001000002."
@@ -84,6 +85,19 @@ pub record Worked : Type 0 where
   pub other-tag : scan 2 ≡ still (given 2 1 2) (work (dirty 2) 9 (undo 3 0 2 7))
   -- "if any buffered entry has its address, flush first": where none has, one store
   pub no-flush : answerOf 1 (given 2 1 0) (evict (undo 1 0 2 7)) ≡ ok 1 1 (given 2 1 0)
+  -- 2/13: "A log entry is now proper only if ValidTill ≤ P + 16 as well." P is 1: 17 is taken, and the line wakes as the oldest has it ..
+  pub till-16 : answerOf 3 zero (wake (control 1 0 2) (ending 2 17)) ≡ ok 0 3 (given 2 0 0)
+  pub till-16-board : boardAfter 3 (board (control 1 0 2) (ending 2 17) 7) (wake (control 1 0 2) (ending 2 17)) ≡ board (control 1 0 0) (ending 2 17) 4
+  -- .. 18 is refused as 3, with its place as value, and so is "a ValidTill 4,000 above P"
+  pub till-17 : answerOf 3 zero (wake (control 1 0 2) (ending 2 18)) ≡ improper 1
+  pub till-17-board : boardAfter 3 (board (control 1 0 2) (ending 2 18) 7) (wake (control 1 0 2) (ending 2 18)) ≡ board (control 1 0 2) (ending 2 18) 7
+  pub till-4000 : answerOf 3 zero (wake (control 1 0 2) (ending 2 4001)) ≡ improper 1
+  -- the bound is P's, and not the next older entry's: 18 is 1 above that one's 17, and 17 above P
+  pub till-older : answerOf 3 zero (wake (control 1 0 2) (ending 17 18)) ≡ improper 1
+  -- near the last epoch: where P + 16 is no epoch, and where it is the last, nothing that has a place in the field is refused
+  pub till-last : answerOf 2 zero (wake (control (lastEpoch - 1) 0 1) endingLast) ≡ ok 0 2 (given lastEpoch 0 0)
+  pub till-last-16 : answerOf 2 zero (wake (control (lastEpoch - 16) 0 1) endingLast) ≡ ok 0 2 (given (lastEpoch - 15) 0 0)
+  pub till-last-17 : answerOf 2 zero (wake (control (lastEpoch - 17) 0 1) endingLast) ≡ improper 0
   -- Recorded traces: "two words, most significant byte first: kind 3 bits .., address 16, zero 45; then the value"
   pub record-store : written storeKind 5 9 ≡ wrote (0x20 ∷ 0x00 ∷ 0xA0 ∷ zeros 12 ++ (9 ∷ []))
   pub record-evict : written evictKind 65535 0 ≡ wrote (0x9F ∷ 0xFF ∷ 0xE0 ∷ zeros 13)
@@ -148,6 +162,15 @@ worked =
       always-stored = refl;
       other-tag = refl;
       no-flush = refl;
+      till-16 = refl;
+      till-16-board = refl;
+      till-17 = refl;
+      till-17-board = refl;
+      till-4000 = refl;
+      till-older = refl;
+      till-last = refl;
+      till-last-16 = refl;
+      till-last-17 = refl;
       record-store = refl;
       record-evict = refl;
       record-scan = refl;

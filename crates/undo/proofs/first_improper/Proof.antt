@@ -5,10 +5,10 @@ use Rattle.undo.proofs.first_improper.Statement.{statement}
 use Rattle.undo.proofs.first_improper.Tie as tie
 
 abbrev Inv-loop : tie.InvT-loop
-Inv-loop board undo lines end i₀ at₀ least₀ i at least = Searched board undo lines i at least
+Inv-loop board undo lines end i₀ at₀ least₀ most i at least = Searched board undo lines i at least
 
 abbrev μ-loop : tie.MeasureT-loop
-μ-loop board undo lines end i₀ at₀ least₀ i at least = undo .control .length - i
+μ-loop board undo lines end i₀ at₀ least₀ most i at least = undo .control .length - i
 
 mul-end : tie.Need-mul-end Inv-loop μ-loop
 mul-end c = search needs
@@ -18,6 +18,9 @@ place-requires c κs = search needs
 
 add-least : tie.Need-add-least Inv-loop μ-loop
 add-least c = search needs
+
+add-most : tie.Need-add-most Inv-loop μ-loop
+add-most c = search needs
 
 loop-holds : tie.Need-loop-holds Inv-loop μ-loop
 loop-holds c = search (search-start)
@@ -64,6 +67,7 @@ first-improper-spec =
     mul-end
     place-requires
     add-least
+    add-most
     loop-holds
     add-word
     mul-word

@@ -1,4 +1,4 @@
-use Rattle.undo.proofs.Reading.{word-address, word-till, word-from}
+use Rattle.undo.proofs.Reading.{word-address, word-empty, word-till}
 use borrow.Author.Needs.{needs}
 use Rattle.undo.proofs.is_proper_word.Statement.{statement}
 use Rattle.undo.proofs.is_proper_word.Tie as tie
@@ -13,11 +13,14 @@ decode-requires : tie.Need-decode-requires
 decode-requires c κs = search needs
 
 returns-2 : tie.Need-returns-2
-returns-2 c = search (word-till)
+returns-2 c = search (word-empty)
+
+is-between-requires : tie.Need-is-between-requires
+is-between-requires c κs = search needs
 
 returns-3 : tie.Need-returns-3
-returns-3 c = search (word-from)
+returns-3 c = search (word-till)
 
 pub is-proper-word-spec : {M : Type 1} → statement M
 is-proper-word-spec =
-    tie.close (tie.spec is-address-below-requires returns decode-requires returns-2 returns-3)
+    tie.close (tie.spec is-address-below-requires returns decode-requires returns-2 is-between-requires returns-3)
