@@ -23,7 +23,9 @@
  *     word 2 + 2L on        lines     N lines of one word
  *
  * N is the number of lines and L the number of log entries, each from 1 to 65,536. The log is a ring: entry i, 0 the
- * oldest, stands at place (start + i) mod L.
+ * oldest, stands at place (start + i) mod L. An entry of the log is proper if its address is below N, ValidFrom < ValidTill,
+ * P < ValidTill <= P + 16, and ValidTill is not below that of the next older entry. The library writes no other; power-up
+ * refuses a log that has one (PICL_ENTRY), since the board's memory is then damaged.
  *
  * THE WORK MEMORY is lost with the current. PICL_WORK_WORDS(S) words; S, from 1 to 256, is read from its length:
  *
@@ -137,7 +139,7 @@ enum {
     PICL_OK = 0,
     PICL_SHAPE = 1,      /* the board's first two words or its length are not those of a board; format: N, L or the length */
     PICL_WORK = 2,       /* the work memory's length is not PICL_WORK_WORDS(S), S from 1 to 256 */
-    PICL_ENTRY = 3,      /* power-up: a log entry is not proper; value says which, the oldest counted 0 */
+    PICL_ENTRY = 3,      /* power-up: a log entry is not proper (see THE BOARD MEMORY); value says which, the oldest counted 0 */
     PICL_REGS = 4,       /* the registers are not proper for this board and work memory */
     PICL_ADDRESS = 5,    /* there is no such line */
     PICL_SLOT = 6,       /* the slot that the call visits is not proper */
