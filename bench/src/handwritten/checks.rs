@@ -111,9 +111,14 @@ pub fn oldest_to_newest(log: &[Entry], control: Control) -> impl DoubleEndedIter
 pub fn first_improper_entry(log: &[Entry], control: Control, lines: u64) -> Option<usize> {
     // The least ValidTill that the next entry may have: above the persisted epoch, and not below the entry before.
     let mut least_till = control.persisted + 1;
+    // And the most: no controller is further ahead of the persisted epoch. From the last epoch on, it refuses nothing.
+    let most_till = control.persisted + MOST_AHEAD;
     oldest_to_newest(log, control).position(|&[packed, _]| {
         let range = Range::unpack(packed);
-        let proper = range.address < lines && range.valid_from < range.valid_till && range.valid_till >= least_till;
+        let proper = range.address < lines
+            && range.valid_from < range.valid_till
+            && least_till <= range.valid_till
+            && range.valid_till <= most_till;
         least_till = range.valid_till;
         !proper
     })

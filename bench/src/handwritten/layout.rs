@@ -7,10 +7,10 @@ pub const MOST_SLOTS: usize = 256;
 pub const BUFFER_ENTRIES: usize = 32;
 pub const LAST_ADDRESS: u64 = ones(ADDRESS_BITS);
 pub const LAST_EPOCH: u64 = ones(EPOCH_BITS);
-/// The most by which the running epoch is ahead of the persisted one.
+/// The most by which the running epoch, or the ValidTill of a log entry, is ahead of the persisted epoch.
 pub const MOST_AHEAD: u64 = 16;
 
-const EPOCH_BITS: u32 = 24;
+pub const EPOCH_BITS: u32 = 24;
 pub const COUNT_BITS: u32 = 20;
 const ADDRESS_BITS: u32 = 16;
 

@@ -1,6 +1,6 @@
-//! The paper's own examples: W1 to W12, its replay, and its traps.
+//! The paper's own examples: W1 to W12, its replay, its traps, and the latest log entry that is proper.
 
-use super::layout::{buffer_place, entry_place, Control, Range, Shape, SlotWord, CONTROL_PLACE};
+use super::layout::{buffer_place, entry_place, Control, Range, Shape, SlotWord, CONTROL_PLACE, LAST_EPOCH};
 use super::{HandWritten, Registers};
 use crate::call::{Call, NO_CUT};
 use crate::interface::Answer;
@@ -97,17 +97,31 @@ impl Loom {
     }
 
     fn put_log(&mut self, persisted: u64, log: &[(Range, u64)]) {
+        self.put_log_from(0, persisted, log);
+    }
+
+    /// Puts a log whose oldest entry is at place `start` of the ring.
+    fn put_log_from(&mut self, start: usize, persisted: u64, log: &[(Range, u64)]) {
         self.board[CONTROL_PLACE] = Control {
             persisted,
-            start: 0,
+            start,
             length: log.len(),
         }
         .pack();
         for (place, &(range, data)) in log.iter().enumerate() {
-            self.board[entry_place(place)] = range.pack();
-            self.board[entry_place(place) + 1] = data;
+            let ring_place = (start + place) % self.sizes.entries as usize;
+            self.board[entry_place(ring_place)] = range.pack();
+            self.board[entry_place(ring_place) + 1] = data;
         }
     }
+}
+
+/// What a power-up answers to entries with these ValidTills, oldest first, in a ring of 8. Each of them covers P.
+fn power_up_with_tills(start: usize, persisted: u64, tills: &[u64]) -> Answer {
+    let mut loom = Loom::new(4, 8, 2);
+    let log: Vec<(Range, u64)> = tills.iter().map(|&till| (range(3, persisted, till), 4)).collect();
+    loom.put_log_from(start, persisted, &log);
+    loom.power_up()
 }
 
 #[test]
@@ -231,6 +245,56 @@ fn the_lowest_number_wins_and_names_the_entry() {
     assert_eq!(loom.power_up(), answer(2, 0, 0));
     loom.board.push(0);
     assert_eq!(loom.power_up(), answer(1, 0, 0));
+}
+
+#[test]
+fn an_entry_ends_at_most_16_epochs_after_the_persisted_one() {
+    assert_eq!(power_up_with_tills(0, 5, &[6, 21, 21]), answer(0, 0, 4));
+    assert_eq!(power_up_with_tills(0, 5, &[6, 21, 22]), answer(3, 2, 0));
+    assert_eq!(power_up_with_tills(0, 5, &[6, 22, 22]), answer(3, 1, 0));
+    assert_eq!(power_up_with_tills(0, 5, &[22]), answer(3, 0, 0));
+}
+
+#[test]
+fn the_16_epochs_are_not_counted_from_the_next_older_entry() {
+    assert_eq!(power_up_with_tills(0, 5, &[15, 16, 31]), answer(3, 2, 0));
+    assert_eq!(power_up_with_tills(0, 5, &[15, 16, 21]), answer(0, 0, 4));
+}
+
+#[test]
+fn the_16_epochs_are_the_same_over_the_rings_end() {
+    assert_eq!(power_up_with_tills(6, 5, &[6, 7, 21, 21]), answer(0, 0, 5));
+    assert_eq!(power_up_with_tills(6, 5, &[6, 7, 21, 22]), answer(3, 3, 0));
+    assert_eq!(power_up_with_tills(6, 5, &[6, 22, 22, 22]), answer(3, 1, 0));
+}
+
+#[test]
+fn the_log_of_the_failing_chip_is_refused() {
+    assert_eq!(power_up_with_tills(0, 5, &[6, 7, 4_005]), answer(3, 2, 0));
+    assert_eq!(power_up_with_tills(7, 5, &[6, 7, 4_005]), answer(3, 2, 0));
+}
+
+#[test]
+fn the_16_epochs_may_go_past_the_last_one() {
+    let power_up = |persisted, till| power_up_with_tills(0, persisted, &[persisted + 1, till]);
+    assert_eq!(power_up(LAST_EPOCH - 1, LAST_EPOCH), answer(0, 0, 3));
+    assert_eq!(power_up(LAST_EPOCH - 15, LAST_EPOCH), answer(0, 0, 3));
+    assert_eq!(power_up(LAST_EPOCH - 16, LAST_EPOCH), answer(0, 0, 3));
+    assert_eq!(power_up(LAST_EPOCH - 17, LAST_EPOCH - 1), answer(0, 0, 3));
+    assert_eq!(power_up(LAST_EPOCH - 17, LAST_EPOCH), answer(3, 1, 0));
+}
+
+#[test]
+fn the_latest_entry_that_a_controller_writes_is_taken() {
+    let mut loom = Loom::new(4, 8, 2);
+    for _ in 1..16 {
+        loom.commit();
+    }
+    loom.store(1, 7);
+    assert_eq!(loom.buffered(0), range(1, 0, 16));
+    assert_eq!(loom.evict(1, NO_CUT), answer(0, 1, 4));
+    assert_eq!(loom.power_up(), answer(0, 0, 2));
+    assert_eq!(loom.line(1), 0);
 }
 
 #[test]
