@@ -13,7 +13,7 @@ pub const NAMES: [(u64, &str); 14] = [
     (OK, "ok"),
     (SHAPE, "shape"),
     (2, "work"),
-    (3, "entry"),
+    (ENTRY, "entry"),
     (4, "regs"),
     (5, "address"),
     (6, "slot"),
@@ -28,6 +28,8 @@ pub const NAMES: [(u64, &str); 14] = [
 
 pub const OK: u64 = 0;
 pub const SHAPE: u64 = 1;
+/// A log entry is not proper; the value is its place, the oldest counted 0.
+pub const ENTRY: u64 = 3;
 /// A record of a trace that breaks its layout or ends early, or what has no place in one.
 pub const TRACE: u64 = 13;
 

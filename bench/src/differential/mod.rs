@@ -8,6 +8,7 @@ mod groups;
 mod habit;
 mod occurrences;
 mod player;
+mod power_up_turns;
 mod record_turns;
 mod sides;
 mod words;

@@ -1,8 +1,8 @@
 //! What occurred: which function answered which number how often, and which rare turns were taken.
 
 use super::asked::{Asked, Function};
-use super::record_turns;
 use super::sides::Lent;
+use super::{power_up_turns, record_turns};
 use crate::call::Kind;
 use crate::handwritten::layout::Control;
 use crate::interface::{name_of, NAMES, OK};
@@ -89,6 +89,7 @@ struct Seen {
 pub struct Occurrences {
     numbers: [[u64; COLUMNS]; Function::COUNT],
     turns: [u64; TURNS.len()],
+    power_up_turns: [u64; power_up_turns::TURNS.len()],
     record_turns: [u64; record_turns::TURNS.len()],
 }
 
@@ -99,16 +100,23 @@ impl Occurrences {
             .expect("the hand-written side answers no other number");
         self.numbers[asked.function().place()][column] += 1;
         match asked {
-            Asked::Call(call) if number == OK => self.count_turns(call.kind(), before, after),
-            Asked::Call(_) => {}
+            Asked::Call(call) => self.count_call_turns(call.kind(), number, before, after),
             Asked::TraceWrite(record) => self.count_record_turns(record, number, before),
         }
     }
 
-    fn count_turns(&mut self, kind: Kind, before: &Lent, after: &Lent) {
-        if matches!(kind, Kind::Format | Kind::Commit | Kind::Tally) {
-            return;
+    fn count_call_turns(&mut self, kind: Kind, number: u64, before: &Lent, after: &Lent) {
+        if number == OK && !matches!(kind, Kind::Format | Kind::Commit | Kind::Tally) {
+            self.count_accepted_turns(kind, before, after);
         }
+        if kind == Kind::PowerUp {
+            let seen = power_up_turns::Seen { before, after, number };
+            let taken = power_up_turns::TURNS.map(|(_, turn)| turn(&seen));
+            count_taken(&mut self.power_up_turns, taken);
+        }
+    }
+
+    fn count_accepted_turns(&mut self, kind: Kind, before: &Lent, after: &Lent) {
         let seen = Seen {
             kind,
             value: after.answer[0],
@@ -117,9 +125,8 @@ impl Occurrences {
             after: after.control(),
             entries: after.shape().entries as usize,
         };
-        for (count, (_, turn)) in self.turns.iter_mut().zip(TURNS) {
-            *count += u64::from(turn(&seen));
-        }
+        let taken = TURNS.map(|(_, turn)| turn(&seen));
+        count_taken(&mut self.turns, taken);
     }
 
     fn count_record_turns(&mut self, record: Record, number: u64, before: &Lent) {
@@ -129,16 +136,17 @@ impl Occurrences {
             answer_words: before.answer.len(),
             number,
         };
-        for (count, (_, turn)) in self.record_turns.iter_mut().zip(record_turns::TURNS) {
-            *count += u64::from(turn(&seen));
-        }
+        let taken = record_turns::TURNS.map(|(_, turn)| turn(&seen));
+        count_taken(&mut self.record_turns, taken);
     }
 
     pub fn add(&mut self, other: &Occurrences) {
         let more = other.numbers.iter().flatten();
-        let more = more.chain(&other.turns).chain(&other.record_turns);
+        let more = more.chain(&other.turns).chain(&other.power_up_turns);
+        let more = more.chain(&other.record_turns);
         let counts = self.numbers.iter_mut().flatten();
-        let counts = counts.chain(&mut self.turns).chain(&mut self.record_turns);
+        let counts = counts.chain(&mut self.turns).chain(&mut self.power_up_turns);
+        let counts = counts.chain(&mut self.record_turns);
         for (count, more) in counts.zip(more) {
             *count += more;
         }
@@ -146,9 +154,10 @@ impl Occurrences {
 
     /// Each rare turn, and how often it was taken.
     fn turns(&self) -> impl Iterator<Item = (&'static str, u64)> {
-        let of_calls = TURNS.map(|(name, _)| name).into_iter().zip(self.turns);
-        let of_records = record_turns::TURNS.map(|(name, _)| name).into_iter();
-        of_calls.chain(of_records.zip(self.record_turns))
+        let of_calls = named(TURNS, self.turns);
+        let of_power_ups = named(power_up_turns::TURNS, self.power_up_turns);
+        let of_records = named(record_turns::TURNS, self.record_turns);
+        of_calls.chain(of_power_ups).chain(of_records)
     }
 
     pub fn calls(&self) -> u64 {
@@ -191,6 +200,21 @@ impl Occurrences {
         missing.extend(untaken.map(|(name, _)| name.to_string()));
         missing
     }
+}
+
+/// Counts those turns of a list that were taken.
+fn count_taken<const COUNT: usize>(counts: &mut [u64; COUNT], taken: [bool; COUNT]) {
+    for (count, taken) in counts.iter_mut().zip(taken) {
+        *count += u64::from(taken);
+    }
+}
+
+/// The names of the turns of a list, with their counts.
+fn named<T, const COUNT: usize>(
+    turns: [(&'static str, T); COUNT],
+    counts: [u64; COUNT],
+) -> impl Iterator<Item = (&'static str, u64)> {
+    turns.map(|(name, _)| name).into_iter().zip(counts)
 }
 
 fn count_line(name: &str, columns: &[u64]) -> String {

@@ -49,6 +49,11 @@ impl Lent {
         Range::unpack(self.board[entry_place(ring_place)])
     }
 
+    /// The range of entry `place` of the log, 0 the oldest, on a board of a right shape.
+    pub fn log_entry(&self, place: usize) -> Range {
+        self.entry((self.control().start + place) % self.shape().entries as usize)
+    }
+
     pub fn set_entry(&mut self, ring_place: usize, range: Range) {
         self.board[entry_place(ring_place)] = range.pack();
     }

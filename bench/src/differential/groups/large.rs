@@ -3,7 +3,7 @@
 use crate::call::{Call, NO_CUT};
 use crate::differential::habit::{begin, go_on, Habit};
 use crate::differential::player::{Outcome, Player};
-use crate::handwritten::layout::{Control, Range, MOST_ENTRIES, MOST_LINES, MOST_SLOTS};
+use crate::handwritten::layout::{Control, Range, MOST_AHEAD, MOST_ENTRIES, MOST_LINES, MOST_SLOTS};
 use crate::sizes::Sizes;
 
 pub fn history(player: &mut Player) -> Outcome {
@@ -27,7 +27,8 @@ pub fn history(player: &mut Player) -> Outcome {
     go_on(player, &habit, 100)
 }
 
-/// A full log that starts anywhere in the ring; three entries in four cover the persisted epoch.
+/// A full log that starts anywhere in the ring; three entries in four cover the persisted epoch, and the newest ones of
+/// a long log end as late as they may.
 fn fill_log(player: &mut Player, sizes: Sizes) {
     let random = &mut player.random;
     let persisted = random.between(10, 1000);
@@ -40,7 +41,7 @@ fn fill_log(player: &mut Player, sizes: Sizes) {
     player.state.set_control(control);
     for age in 0..sizes.entries {
         let place = ((start + age) % sizes.entries) as usize;
-        let valid_till = persisted + 2 + age * 10 / sizes.entries;
+        let valid_till = persisted + 2 + age * (MOST_AHEAD - 1) / sizes.entries;
         let valid_from = persisted + 1 - random.below(4).min(1 + random.below(2));
         let range = Range {
             address: random.below(sizes.lines),

@@ -3,10 +3,13 @@
 use crate::call::{Call, NO_CUT};
 use crate::differential::habit::{go_on, Habit};
 use crate::differential::player::{Outcome, Player};
-use crate::handwritten::layout::{Control, Range, LAST_EPOCH, MOST_AHEAD};
+use crate::handwritten::layout::{Control, Range, EPOCH_BITS, LAST_EPOCH, MOST_AHEAD};
 use crate::handwritten::Registers;
 use crate::random::Random;
 use crate::sizes::Sizes;
+
+/// How far ahead of the persisted epoch the newest entry ended on the board that came in.
+const FAILING_CHIP_AHEAD: u64 = 4_000;
 
 pub fn history(player: &mut Player) -> Outcome {
     let sizes = Sizes::draw_small(&mut player.random);
@@ -21,18 +24,21 @@ pub fn history(player: &mut Player) -> Outcome {
     go_on(player, &habit, 8)
 }
 
-/// Lends a board with a proper log, but for one entry at most, and any work memory.
+/// Lends a board with a proper log, or with one whose entries were put at an edge, and any work memory.
 fn lend_log(player: &mut Player, sizes: Sizes) -> Control {
     let random = &mut player.random;
-    let most_persisted = random.pick(&[0, 1, 50, LAST_EPOCH - 2]);
+    // Around LAST_EPOCH - MOST_AHEAD, the bound of a ValidTill is just before the last epoch, in it and just after it.
+    let center = random.pick(&[0, 1, 50, LAST_EPOCH - MOST_AHEAD, LAST_EPOCH - 2]);
     let control = Control {
-        persisted: random.near(most_persisted, 1),
+        persisted: random.near(center, 1),
         start: random.below(sizes.entries) as usize,
         length: random.between(0, sizes.entries) as usize,
     };
     let mut log = proper_log(random, sizes, control);
-    if !log.is_empty() && !random.one_in(3) {
-        put_at_an_edge(random, sizes, control, &mut log);
+    if !log.is_empty() {
+        for _ in 0..random.pick(&[0, 0, 1, 1, 1, 2]) {
+            put_at_an_edge(random, sizes, control, &mut log);
+        }
     }
     player.state.board = random.words(sizes.board_words());
     player.state.set_control(control);
@@ -45,12 +51,17 @@ fn lend_log(player: &mut Player, sizes: Sizes) -> Control {
     control
 }
 
+/// In one log of two, the entries from some place on end as late as they may.
 fn proper_log(random: &mut Random, sizes: Sizes, control: Control) -> Vec<Range> {
+    let latest_till = LAST_EPOCH.min(control.persisted + MOST_AHEAD);
+    let first_latest = random.below(2 * control.length as u64 + 1) as usize;
     let mut valid_till = control.persisted + 1;
     (0..control.length)
-        .map(|_| {
-            if random.one_in(4) {
-                valid_till = (valid_till + random.below(3)).min(LAST_EPOCH);
+        .map(|place| {
+            if place >= first_latest {
+                valid_till = latest_till;
+            } else if random.one_in(4) {
+                valid_till = latest_till.min(valid_till + random.below(3));
             }
             let newest_from = valid_till - 1;
             let oldest_from = control.persisted.saturating_sub(2).min(newest_from);
@@ -70,16 +81,37 @@ fn put_at_an_edge(random: &mut Random, sizes: Sizes, control: Control, log: &mut
         _ => log[place - 1].valid_till,
     };
     let range = &mut log[place];
-    match random.below(6) {
+    match random.below(8) {
         0 => range.address = sizes.lines,
         1 => range.valid_from = range.valid_till,
         2 => range.valid_till = control.persisted,
         3 => range.valid_till = older_till.saturating_sub(1),
         4 => range.valid_till = older_till,
-        _ => {
+        5 => {
             range.valid_from = control.persisted;
             range.valid_till = control.persisted + 1;
         }
+        _ => range.valid_till = late_till(random, control, older_till),
+    }
+    if random.one_in(2) {
+        raise_newer(log, place);
+    }
+}
+
+/// A ValidTill just as late as it may be, just later, or later by any bit of the field; also counted from the next
+/// older entry instead of the persisted epoch. Where the field has no place for it, the last epoch.
+fn late_till(random: &mut Random, control: Control, older_till: u64) -> u64 {
+    let from = random.pick(&[control.persisted, older_till]);
+    let any_bit = 1 << random.below(EPOCH_BITS.into());
+    let ahead = random.pick(&[MOST_AHEAD, MOST_AHEAD + 1, FAILING_CHIP_AHEAD, any_bit]);
+    LAST_EPOCH.min(from + ahead)
+}
+
+/// Makes each newer entry end no earlier than the one at a place.
+fn raise_newer(log: &mut [Range], place: usize) {
+    let least_till = log[place].valid_till;
+    for newer in &mut log[place + 1..] {
+        newer.valid_till = newer.valid_till.max(least_till);
     }
 }
 
