@@ -61,7 +61,7 @@ mostSlots = 256
 abbrev pub bufferPlaces : ℕ
 bufferPlaces = 32
 
--- "s − P ≤ 16": how far the running epoch may be ahead of the persisted one
+-- "s − P ≤ 16", and of a log entry "ValidTill ≤ P + 16": how far the running epoch, and so an entry's end, may be ahead of the persisted one
 abbrev pub mostAhead : ℕ
 mostAhead = 16
 
