@@ -35,9 +35,11 @@ pub const TRACE: u64 = 13;
 // Not in the paper: the model does not take a board of more than BOARD_CAPACITY words.
 pub const TOO_LARGE: u64 = 99;
 
-// "s - P <= 16" and "b <= 31" of the proper registers.
-const MOST_WAITING: u64 = 16;
+// How far an epoch is ahead of P at most: "s - P <= 16" of the proper registers, and "ValidTill <=
+// P + 16" of a proper log entry.
+const MOST_AHEAD: u64 = 16;
 
+// "b <= 31" of the proper registers.
 const MOST_BUFFERED: u64 = 31;
 
 // "1 shape: fewer than 2 board words; .. N or L out of range; wrong word count": "Format's shape
@@ -112,7 +114,8 @@ pub fn memory_refusal(board: &[u64], work: &[u64]) -> u64 {
 }
 
 // "A proper log entry has address < N, ValidFrom < ValidTill, P < ValidTill, and a ValidTill not
-// below that of the next older entry." For the oldest, `older_till` is 0.
+// below that of the next older entry." For the oldest, `older_till` is 0. "A log entry is now proper
+// only if ValidTill <= P + 16 as well."
 fn log_entry_proper(entry: Entry, lines: u64, persisted: u64, older_till: u64) -> bool {
     if entry.address >= lines {
         return false;
@@ -123,7 +126,10 @@ fn log_entry_proper(entry: Entry, lines: u64, persisted: u64, older_till: u64) -
     if persisted >= entry.valid_till {
         return false;
     }
-    entry.valid_till >= older_till
+    if entry.valid_till < older_till {
+        return false;
+    }
+    entry.valid_till <= sum(persisted, MOST_AHEAD)
 }
 
 // "3 entry: a log entry is not proper; value is i of the first, oldest counted 0": that i, or the
@@ -152,7 +158,7 @@ fn registers_proper(m: Machine) -> bool {
     if epoch > LAST_EPOCH {
         return false;
     }
-    if epoch - persisted > MOST_WAITING {
+    if epoch - persisted > MOST_AHEAD {
         return false;
     }
     if m.registers.buffered > MOST_BUFFERED {
@@ -279,7 +285,7 @@ pub fn commit_refusal(m: Machine) -> u64 {
     if !buffer_proper(m) {
         return BUFFER;
     }
-    if m.registers.epoch == sum(m.control.persisted, MOST_WAITING) {
+    if m.registers.epoch == sum(m.control.persisted, MOST_AHEAD) {
         return WAITING;
     }
     if m.registers.epoch == LAST_EPOCH {

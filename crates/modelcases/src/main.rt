@@ -1,6 +1,6 @@
 // Runs the paper's replay listing and its examples W5 to W12 on the model, and prints the listing's
-// columns; then records and traces, of document 02's request 1/13. The stored output holds what the
-// papers say.
+// columns; then logs about the limit of document 02's request 2/13, and records and traces, of its
+// request 1/13. The stored output holds what the papers say.
 mod packing;
 mod random;
 mod records;
@@ -135,8 +135,7 @@ fn fresh(title: &[u8], script: &[u8]) {
     dump(&work);
 }
 
-// A board whose log has two entries, across the ring's end, for line 0, with the data 4 and 6; and
-// a power-up.
+// A board whose log has two entries, across the ring's end, with the data 4 and 6; and a power-up.
 fn recovered(title: &[u8], persisted: u64, first: u64, second: u64) {
     let mut board = [0u64; EXAMPLE_BOARD];
     let mut work = [0u64; EXAMPLE_WORK];
@@ -163,6 +162,43 @@ fn recoveries() {
     recovered(b"entry 1 below entry 0\n", 0, range_1_3, range_0_2);
 }
 
+// A log whose entries, the older of line 0 and the newer of line 2, both cover P.
+fn ended(title: &[u8], persisted: u64, older_till: u64, newer_till: u64) {
+    recovered(
+        title,
+        persisted,
+        entry_word(0, persisted, older_till),
+        entry_word(2, persisted, newer_till),
+    );
+}
+
+// Document 02's request 2/13: "A log entry is now proper only if ValidTill <= P + 16 as well."
+fn ends() {
+    ended(b"ends 16 after P\n", 1, 2, 17);
+    ended(b"ends 17 after P\n", 1, 2, 18);
+    ended(b"ends 17 after P, 1 after entry 0\n", 1, 17, 18);
+    ended(b"entry 0 ends 17 after P\n", 1, 18, 18);
+    ended(b"ends 4000 after P\n", 1, 2, 4001);
+    ended(
+        b"last epoch is 1 after P\n",
+        LAST_EPOCH - 1,
+        LAST_EPOCH,
+        LAST_EPOCH,
+    );
+    ended(
+        b"last epoch is 16 after P\n",
+        LAST_EPOCH - 16,
+        LAST_EPOCH - 15,
+        LAST_EPOCH,
+    );
+    ended(
+        b"last epoch is 17 after P\n",
+        LAST_EPOCH - 17,
+        LAST_EPOCH - 16,
+        LAST_EPOCH,
+    );
+}
+
 fn main() {
     fresh(
         b"replay\n",
@@ -177,6 +213,7 @@ fn main() {
         b"n48* p00* c000 c000 c000 c000 c000 c000 c000 c000 c000 c000 c000 c000 c000 c000 c000 c000 ",
     );
     recoveries();
+    ends();
     records::cases();
     traces::cases();
     random::list(1, 3000);

@@ -17,6 +17,9 @@ pub const LAST_ENTRY: usize = LOG + 2 * 7;
 
 pub const FIRST_LINE: usize = LOG + 2 * 8;
 
+// 2^24 - 1.
+pub const LAST_EPOCH: u64 = 16777215;
+
 // A work memory: slots of two words each, then 32 undo entries of two words each.
 const BUFFER_WORDS: usize = 64;
 
