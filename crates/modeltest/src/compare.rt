@@ -49,7 +49,7 @@ pub struct Score {
     pub persisted: u64,
     // How many accepted calls left a log that goes on past the ring's end.
     pub wrapped: u64,
-    // How often each turn of the groups of recorded traces was taken.
+    // How often each turn was taken, in the groups that have turns.
     pub turns: [u64; TURNS],
 }
 

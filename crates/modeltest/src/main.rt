@@ -7,6 +7,7 @@ mod compare;
 mod cuts;
 mod damage;
 mod history;
+mod log_ends;
 mod noise;
 mod packing;
 mod plans;
@@ -80,12 +81,17 @@ fn damaged() {
     group_line(damage::registers(1, new_score(12)));
     group_line(noise::words(10000, 8001, new_score(13)));
     group_line(noise::fields(20000, 9001, new_score(14)));
+    turns_line(
+        log_ends::logs(13001, new_score(15)),
+        ENTRY_ENDS,
+        ENTRY_ENDS_END,
+    );
 }
 
 fn recorded() {
-    let written = record_words::writer(10001, new_score(15));
-    let read = record_words::reader(11001, new_score(16));
-    let traced = traces::runs(12001, new_score(17));
+    let written = record_words::writer(10001, new_score(16));
+    let read = record_words::reader(11001, new_score(17));
+    let traced = traces::runs(12001, new_score(18));
     turns_line(written, WRITER, WRITER_END);
     turns_line(read, READER, READER_END);
     turns_line(traced, RUN, RUN_END);

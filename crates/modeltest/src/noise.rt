@@ -86,18 +86,19 @@ fn earlier(word: u64, epoch: u64) -> u64 {
     if back < epoch { epoch - 1 - back } else { 0 }
 }
 
-fn entry(word: u64, till: u64) -> u64 {
+pub fn entry(word: u64, till: u64) -> u64 {
     let from = earlier(word, till);
     entry_word(below(word >> 8, LINES), from, till)
 }
 
-// ValidTill rises by 0, 1 or 2 from an entry to the next.
+// ValidTill rises by 0 to 3 from an entry to the next: some of the longer logs end later than 16
+// after P, and are refused.
 fn with_log(board: [u64; BOARD_ROOM], f: Frame) -> [u64; BOARD_ROOM] {
     let mut next = board;
     let mut till = sum(f.persisted, 1);
     for i in 0..ENTRIES {
         let at = index(entry_place((f.start % ENTRIES + i) % ENTRIES), BOARD_ROOM);
-        till = sum(till, below(next[at] >> 3, 3));
+        till = sum(till, below(next[at] >> 3, 4));
         next[at] = entry(next[at], till);
     }
     next

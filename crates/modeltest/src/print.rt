@@ -39,7 +39,7 @@ fn group_name(group: u64) {
         );
     } else {
         name_at(
-            b"cuts;cuts at a full buffer;one bit;one field;registers;random words;random fields;records written;records read;traces;",
+            b"cuts;cuts at a full buffer;one bit;one field;registers;random words;random fields;log ends;records written;records read;traces;",
             group - LAST_GROUPS,
         );
     }
@@ -179,15 +179,20 @@ fn turn_name(turn: u64) {
             b"ended ok;by a bad record;early;broken off;no format;no power-up;fed a byte;less than a record;a record and more;all;any parts;",
             turn - RUN,
         );
-    } else {
+    } else if turn < ENTRY_ENDS {
         name_at(
             b"total of loads;of stores;of evictions;of scans;went on after 5;after 8;after 9;after 11;stores before a bad record;sum past 2^64;",
             turn - LOADS,
         );
+    } else {
+        name_at(
+            b"refused at P or before;before the next older;17 after P;later but near the next older;later;late and after the next newer;next newer refused;taken 16 after P;less but in the last epoch;less;past the ring's end;",
+            turn - ENTRY_ENDS,
+        );
     }
 }
 
-// A difference in a group of recorded traces: the turn, and its round or its run.
+// A difference in a group that counts turns: the turn, and its round, its run or its log.
 pub fn turn_difference(score: Score, turn: u64, round: u64, d: Difference) {
     group_name(score.group);
     text(b" ");
@@ -208,7 +213,7 @@ fn turn_counts(score: Score, first: u64, end: u64) {
     }
 }
 
-// The line of a group of recorded traces: its calls, how many answered each number, how often each
+// The line of a group that counts turns: its calls, how many answered each number, how often each
 // turn was taken, and its differences.
 pub fn turns_line(score: Score, first: u64, end: u64) {
     answers_of(score);

@@ -1,11 +1,12 @@
-// The turns that the groups of recorded traces take. Each is counted where it answers the number
-// that its plan says, is printed with its count, and is a difference where it never occurs.
+// The turns that the groups of recorded traces and of log ends take. Each is counted where it answers
+// the number that its plan says, is printed with its count, and is a difference where it never
+// occurs.
 use crate::calls::index;
 use crate::calls::sum;
 use crate::compare::*;
 use crate::print;
 
-pub const TURNS: usize = 39;
+pub const TURNS: usize = 50;
 
 // The writer's: a kind and an address with no place in a record.
 pub const WRITER: u64 = 0;
@@ -106,12 +107,46 @@ pub const SUM_PAST: u64 = 38;
 
 pub const RUN_END: u64 = 39;
 
+// The log ends': an entry is refused. It ends at P or before; before the next older one; 17 after P;
+// later, but at most 16 after the next older one; later than that; later than 16 after P and after
+// the next newer one too.
+pub const ENTRY_ENDS: u64 = 39;
+
+pub const NOT_AFTER_P: u64 = 39;
+
+pub const BEFORE_OLDER: u64 = 40;
+
+pub const LATE_BY_ONE: u64 = 41;
+
+pub const LATE_NEAR_OLDER: u64 = 42;
+
+pub const LATE: u64 = 43;
+
+pub const LATE_AFTER_NEWER: u64 = 44;
+
+// The next newer one is refused, since it ends before.
+pub const AFTER_NEWER: u64 = 45;
+
+// The log is taken. The entry ends 16 after P; in the last epoch, less than 16 after P; else.
+pub const LATEST_TAKEN: u64 = 46;
+
+pub const LAST_EPOCH_TAKEN: u64 = 47;
+
+pub const EARLIER_TAKEN: u64 = 48;
+
+// The log goes on past the ring's end before the entry.
+pub const PAST_RING_END: u64 = 49;
+
+pub const ENTRY_ENDS_END: u64 = 50;
+
 // The paper's numbers.
 pub const OK: u64 = 0;
 
 const SHAPE: u64 = 1;
 
 const WORK: u64 = 2;
+
+const ENTRY: u64 = 3;
 
 const ADDRESS: u64 = 5;
 
@@ -130,6 +165,8 @@ fn planned_number(turn: u64, number: u64) -> u64 {
         PROPER | NO_BYTES | BYTES_BEHIND | ENDED_OK => OK,
         NO_FORMAT => SHAPE,
         NO_POWER_UP => WORK,
+        NOT_AFTER_P..=AFTER_NEWER => ENTRY,
+        LATEST_TAKEN..=EARLIER_TAKEN => OK,
         _ => TRACE,
     }
 }
