@@ -2,12 +2,13 @@
 -- The loop's invariant is `Walked`, its turn `walk-next`, its ways out `walk-end` and `walk-found`.
 use Prim.Native.Nat.{ℕ, zero, suc, _+_, _-_, _<_, _≤_}
 use mathlib.Core.Path.{_≡_, refl, sym, _∙_}
-use mathlib.Core.Bool.{Bool, true, false, cond, not}
+use mathlib.Core.Bool.{Bool, true, false, cond, not, _&&_}
 use native.Mathlib.Omega.{arith}
 use native.Mathlib.Numerals.{add-one}
 use native.Mathlib.Decide.{ℕ-discrete}
-use borrow.Author.Tests.{lt-ltb, le-ltb, le-leb, lt-leb, not-true, not-false}
+use borrow.Author.Tests.{lt-ltb, le-ltb, le-leb, lt-leb, leb-true, not-true, not-false}
 use lib.Dec.{ltb, leb}
+use Rattle.base.specs.Tests.{and-left, and-right, and-true}
 
 -- the first of the k places from i on at which f is false, or i + k
 unfoldable pub firstFrom : (ℕ → Bool) → ℕ → ℕ → ℕ
@@ -89,6 +90,24 @@ module _ (f : ℕ → Bool) (n : ℕ) (all : (i : ℕ) → i < n → f i ≡ tru
 
   pub all-first : leb n (first f n) ≡ true
   all-first = sym (walk-all (walked n (omega arith)) (omega arith))
+
+-- two tests at once pass at every place exactly if each does
+pub both-first : (f g : ℕ → Bool) (n : ℕ) → leb n (first (λ (i : ℕ). f i && g i) n) ≡ leb n (first f n) && leb n (first g n)
+both-first f g n = go (leb n (first both n)) (leb n (first f n)) (leb n (first g n)) refl refl refl
+  where
+    both : ℕ → Bool
+    both i = f i && g i
+
+    passed : (h : ℕ → Bool) → leb n (first h n) ≡ true → (i : ℕ) → i < n → h i ≡ true
+    passed h e = first-all h n (leb-true n (first h n) e)
+
+    go : (a b c : Bool) → leb n (first both n) ≡ a → leb n (first f n) ≡ b → leb n (first g n) ≡ c → a ≡ b && c
+    go true b c e x y =
+        sym (and-true b c (sym x ∙ all-first f n (λ i h. and-left (f i) (g i) (passed both e i h)))
+        (sym y ∙ all-first g n (λ i h. and-right (f i) (g i) (passed both e i h))))
+    go false true true e x y = sym e ∙ all-first both n (λ i h. and-true (f i) (g i) (passed f x i h) (passed g y i h))
+    go false true false e x y = refl
+    go false false c e x y = refl
 
 -- a walk ends at or behind the place where it starts, and at most behind the last
 from-least : (f : ℕ → Bool) (k i : ℕ) → i ≤ firstFrom f i k

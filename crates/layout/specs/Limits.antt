@@ -61,6 +61,10 @@ mostSlots = 256
 abbrev pub bufferPlaces : ℕ
 bufferPlaces = 32
 
+-- request 3/13: "the filter of source document 000, 4,096 bits"
+abbrev pub filterSize : ℕ
+filterSize = 4096
+
 -- "s − P ≤ 16", and of a log entry "ValidTill ≤ P + 16": how far the running epoch, and so an entry's end, may be ahead of the persisted one
 abbrev pub mostAhead : ℕ
 mostAhead = 16

@@ -5,7 +5,7 @@ use lib.ListN.{length, getD, set, take, drop, replicate}
 use Rattle.layout.specs.declared.Control.{Control}
 use Rattle.layout.specs.declared.Shape.{Shape}
 use Rattle.layout.specs.declared.Slot.{Slot}
-use Rattle.layout.specs.Limits.{boardVersion, bufferPlaces}
+use Rattle.layout.specs.Limits.{wordBits, boardVersion, bufferPlaces, filterSize}
 use Rattle.layout.specs.Words.{encodeShape, decodeControl, decodeShape, decodeSlot}
 
 -- "Board memory, 2 + 2L + N words, in this order": the control word, the shape word, the log's entries of two words, the lines
@@ -41,13 +41,21 @@ controlIn board = decodeControl (getD board controlAt 0)
 abbrev pub shapeIn : List ℕ → Shape
 shapeIn board = decodeShape (getD board shapeAt 0)
 
--- "Work memory, 2S + 64 words, .. S being read from its length: per slot a slot word .. and a data word; then 32 places for
--- undo entries": two regions, the slots and behind them the buffer
+-- "Work memory, .. S being read from its length: per slot a slot word .. and a data word; then 32 places for undo entries". Request 3/13: the
+-- filter "as 64 words after the undo places, so the work memory has 2S + 128 words". Two regions: the slots, and behind them the buffer, which
+-- is the places and the filter.
 abbrev pub slotWords : ℕ
 slotWords = 2
 
+-- where the filter stands in the buffer
+abbrev pub filterAt : ℕ
+filterAt = entryWords * bufferPlaces
+
+abbrev pub filterWords : ℕ
+filterWords = filterSize / wordBits
+
 abbrev pub bufferWords : ℕ
-bufferWords = entryWords * bufferPlaces
+bufferWords = filterAt + filterWords
 
 abbrev pub workWords : ℕ → ℕ
 workWords slots = slotWords * slots + bufferWords

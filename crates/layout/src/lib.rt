@@ -19,7 +19,7 @@ pub use bytes::bytes_of;
 pub use bytes::with_byte;
 
 // Widths in bits.
-const WORD_BITS: u32 = 64;
+pub const WORD_BITS: u32 = 64;
 
 const EPOCH_BITS: u32 = 24;
 
@@ -63,6 +63,8 @@ pub const MOST_SLOTS: usize = 256;
 
 pub const BUFFER_PLACES: usize = 32;
 
+pub const FILTER_SIZE: u64 = 4096;
+
 pub const MOST_AHEAD: u64 = 16;
 
 // Where things stand on the board: the control word, the shape word, the log's entries, and then the lines.
@@ -95,8 +97,12 @@ pub fn board_words(lines: u64, entries: u64) -> usize
 // A slot of the work memory: its slot word, then the line's data.
 pub const SLOT_WORDS: usize = 2;
 
-// The buffer of undo entries, behind the slots.
-pub const BUFFER_WORDS: usize = ENTRY_WORDS * BUFFER_PLACES;
+// The undo buffer, behind the slots: places for entries, and behind them the filter's words.
+pub const FILTER_AT: usize = ENTRY_WORDS * BUFFER_PLACES;
+
+pub const FILTER_WORDS: usize = FILTER_SIZE as usize / WORD_BITS as usize;
+
+const BUFFER_WORDS: usize = FILTER_AT + FILTER_WORDS;
 
 // The words of a work memory with one slot, and with the most.
 pub const LEAST_WORK: usize = SLOT_WORDS + BUFFER_WORDS;

@@ -24,6 +24,7 @@ names =
     ∷ "none"
     ∷ "cut"
     ∷ "trace"
+    ∷ "filter"
     ∷ []
 
 abbrev pub rowBytes : ℕ

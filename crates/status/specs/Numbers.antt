@@ -18,6 +18,7 @@ use Rattle.status.specs.declared.Status.the-variants.{
   None,
   Cut,
   Trace,
+  Filter,
 }
 
 abbrev pub numberOf : Status → ℕ
@@ -35,6 +36,7 @@ numberOf Last = 10
 numberOf None = 11
 numberOf Cut = 12
 numberOf Trace = 13
+numberOf Filter = 14
 
 -- "0 ok"
 abbrev pub isOk : Status → Bool

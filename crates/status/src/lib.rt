@@ -19,6 +19,7 @@ pub enum Status {
     None,
     Cut,
     Trace,
+    Filter,
 }
 
 const OK: u64 = 0;
@@ -42,6 +43,7 @@ impl Status {
             Status::None => 11,
             Status::Cut => 12,
             Status::Trace => 13,
+            Status::Filter => 14,
         }
     }
 
@@ -52,7 +54,7 @@ impl Status {
     }
 }
 
-const NAMES: usize = 14;
+const NAMES: usize = 15;
 
 const ROW_BYTES: usize = 8;
 
@@ -73,6 +75,7 @@ const ROWS: [[u8; ROW_BYTES]; NAMES] = [
     *b"none    ",
     *b"cut     ",
     *b"trace   ",
+    *b"filter  ",
 ];
 
 // A name: the first bytes of its row, as many as length says, and spaces behind them.

@@ -1,4 +1,5 @@
 pub mod Ring
+pub mod Filtering
 pub mod Reading
 pub mod Storing
 pub mod Restoring

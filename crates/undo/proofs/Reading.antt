@@ -6,9 +6,9 @@ use mathlib.Core.List.{List}
 use native.Mathlib.Numerals.{add-one}
 use native.Mathlib.Omega.{arith}
 use borrow.Author.Tests.{lt-ltb, le-ltb, le-leb, lt-leb, ltb-true, ltb-false, leb-true, not-true, not-false}
-use lib.Dec.{ltb, leb, eqb}
+use lib.Dec.{ltb, leb}
 use lib.ListN.{getD}
-use Rattle.base.specs.Walk.{Walked, walk-start, walk-end, walk-stop, walk-pass, walk-found, walk-next}
+use Rattle.base.specs.Walk.{first, Walked, walk-start, walk-end, walk-stop, walk-pass, walk-found, walk-next, walk-all, walk-not-all, both-first}
 use Rattle.layout.specs.declared.Entry.{Entry}
 use Rattle.layout.specs.Limits.{mostAhead}
 use Rattle.layout.specs.Memory.{logAt}
@@ -16,7 +16,8 @@ use Rattle.layout.specs.Words.{Decoded, EntryFits, decodeEntry}
 use Rattle.undo.specs.declared.LogState.{LogState}
 use Rattle.undo.specs.Entries.{properEntry, properBuffered}
 use Rattle.undo.specs.Log.{Sound, Placed, entryIn, olderTill, properAt, firstImproper}
-use Rattle.undo.specs.Log.{bufferedIn, bufferedProper, elsewhere, expired, dropped, KeptBy}
+use Rattle.undo.specs.Filter.{marks}
+use Rattle.undo.specs.Log.{bufferedIn, bufferedProper, bufferProper, bufferedMarked, bufferMarked, expired, dropped, KeptBy}
 use Rattle.undo.specs.Contracts.{properBetween}
 use Rattle.undo.specs.Laws.{proper-till}
 use Rattle.undo.specs.Ring.{nextPlace}
@@ -131,26 +132,51 @@ module _ {board : List ℕ} {u : LogState} {lines i at least : ℕ} (s : Searche
           carried = rw (add-one, same) (bounds-next (u .control .persisted) (entryIn board u i .till) above);
         }
 
--- one place's test
-module _ (buffer : List ℕ) (lines epoch i : ℕ) (t : Bool) (address : t ≡ ltb (decodeEntry (getD buffer (2 * i) 0) .address) lines) where
-  pub buffered-outside : not t ≡ true → false ≡ bufferedProper buffer lines epoch i
-  unfolding bufferedProper bufferedIn properBuffered
+-- the test of a buffered entry's word, one law for each way out
+module _ (word lines epoch : ℕ) (t : Bool) (address : t ≡ ltb (decodeEntry word .address) lines) where
+  pub buffered-outside : not t ≡ true → false ≡ properBuffered lines epoch (decodeEntry word)
+  unfolding properBuffered
   buffered-outside x = rw (← address, not-true t x)
 
-  module _ (named : not t ≡ false) (s : Bool) (till : s ≡ leb (decodeEntry (getD buffer (2 * i) 0) .till) epoch) where
-    pub buffered-late : not s ≡ true → false ≡ bufferedProper buffer lines epoch i
-    unfolding bufferedProper bufferedIn properBuffered
+  module _ (named : not t ≡ false) (s : Bool) (till : s ≡ leb (decodeEntry word .till) epoch) where
+    pub buffered-late : not s ≡ true → false ≡ properBuffered lines epoch (decodeEntry word)
+    unfolding properBuffered
     buffered-late x = rw (← address, not-false t named, ← till, not-true s x, and-false)
 
-    pub buffered-range : (r : Bool) → not s ≡ false → r ≡ ltb (decodeEntry (getD buffer (2 * i) 0) .from) (decodeEntry (getD buffer (2 * i) 0) .till)
-        → r ≡ bufferedProper buffer lines epoch i
-    unfolding bufferedProper bufferedIn properBuffered
+    pub buffered-range : (r : Bool) → not s ≡ false → r ≡ ltb (decodeEntry word .from) (decodeEntry word .till)
+        → r ≡ properBuffered lines epoch (decodeEntry word)
+    unfolding properBuffered
     buffered-range r x range = rw (← address, not-false t named, ← till, not-false s x, ← range, and-true)
 
-pub elsewhere-read : (buffer : List ℕ) (address i : ℕ) (e : Entry) → Decoded EntryFits (decodeEntry (getD buffer (2 * i) 0)) e
-    → not (eqb (e .address) address) ≡ elsewhere buffer address i
-unfolding elsewhere bufferedIn
-elsewhere-read buffer address i e d = rw (← d .is)
+-- the walk over the buffered entries that tests each, and the filter's bits of each
+abbrev pub soundAt : List ℕ → (lines epoch : ℕ) → ℕ → Bool
+soundAt buffer lines epoch i = bufferedProper buffer lines epoch i && bufferedMarked buffer i
+
+module _ (buffer : List ℕ) (count lines epoch i : ℕ) (w : Walked (soundAt buffer lines epoch) count i) where
+  sound-both : leb count (first (soundAt buffer lines epoch) count) ≡ bufferProper buffer count lines epoch && bufferMarked buffer count
+  unfolding bufferProper bufferMarked
+  sound-both = both-first (bufferedProper buffer lines epoch) (bufferedMarked buffer) count
+
+  pub sound-end : count ≤ i → true ≡ bufferProper buffer count lines epoch && bufferMarked buffer count
+  sound-end h = walk-all w h ∙ sound-both
+
+  module _ (h : i < count) (t : Bool) (proper : t ≡ properBuffered lines epoch (decodeEntry (getD buffer (2 * i) 0))) where
+    pub sound-improper : not t ≡ true → false ≡ bufferProper buffer count lines epoch && bufferMarked buffer count
+    unfolding bufferedProper bufferedIn
+    sound-improper x =
+        walk-not-all w false (sym (rw (← proper, not-true t x))) h refl ∙ sound-both
+
+    module _ (passed : not t ≡ false) (e : Entry) (d : Decoded EntryFits (decodeEntry (getD buffer (2 * i) 0)) e) (s : Bool)
+        (marked : s ≡ marks buffer (e .address)) where
+      tested-both : s ≡ soundAt buffer lines epoch i
+      unfolding bufferedProper bufferedMarked bufferedIn
+      tested-both = rw (← proper, not-false t passed, ← d .is) marked
+
+      pub sound-unmarked : not s ≡ true → false ≡ bufferProper buffer count lines epoch && bufferMarked buffer count
+      sound-unmarked x = walk-not-all w s tested-both h x ∙ sound-both
+
+      pub sound-next : not s ≡ false → Walked (soundAt buffer lines epoch) count (i + 1)
+      sound-next x = walk-next w s tested-both h x
 
 -- the run that an advance drops: the walk counts down what is left of the log, and carries the place of the next entry
 pub record Dropping (board : List ℕ) (u : LogState) (target at left : ℕ) : Type 0 where

@@ -15,16 +15,17 @@ use Rattle.layout.specs.declared.Entry.{Entry}
 use Rattle.layout.specs.Memory.{controlAt, logAt}
 use Rattle.layout.specs.Words.{encodeControl, encodeEntry, ControlFits}
 use Rattle.undo.specs.declared.LogState.{LogState}
+use Rattle.undo.specs.Filter.{marking}
 use Rattle.undo.specs.Log.{Sound, Placed, entryStores, flushed, flushStores, flushedBuffer, pushed, counted}
 use Rattle.undo.specs.Log.{DroppedBy, advanced, advanceStores}
 use Rattle.undo.specs.Ring.{nextPlace}
 use Rattle.undo.proofs.Ring.{placed-next}
 use Rattle.undo.specs.Contracts.{Flushes, FlushReady, Pushes, AdvanceReady}
 
-pub push-done : (buffer buffer′ : List ℕ) (u : LogState) (e : Entry) (old w : ℕ) (r : LogState) → w ≡ encodeEntry e
-    → buffer′ ≡ setPair buffer (2 * u .buffered) w old → r ≡ counted u → Pushes buffer u e old buffer′ r
+pub push-done : (buffer buffer′ buffer″ : List ℕ) (u : LogState) (e : Entry) (old w : ℕ) (r : LogState) → w ≡ encodeEntry e
+    → buffer′ ≡ setPair buffer (2 * u .buffered) w old → buffer″ ≡ marking buffer′ (e .address) → r ≡ counted u → Pushes buffer u e old buffer″ r
 unfolding pushed
-push-done buffer buffer′ u e old w r h x g = record { undo = g; memory = rw (← h) x }
+push-done buffer buffer′ buffer″ u e old w r h x y g = record { undo = g; memory = rw (← h, ← x) y }
 
 -- the entries of the buffer, each to its place
 pub record Putting (log₀ buffer : List ℕ) (u : LogState) (m₀ : Meter) (log : List ℕ) (m : Meter) (at i : ℕ) : Type 0 where

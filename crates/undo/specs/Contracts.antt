@@ -1,18 +1,20 @@
 -- What the functions of this crate do, and need, where it takes more than a line.
-use Prim.Native.Nat.{ℕ, _+_, _*_, _^_, _<_, _≤_}
+use Prim.Native.Nat.{ℕ, _+_, _-_, _*_, _^_, _<_, _≤_}
 use mathlib.Core.Path.{_≡_}
 use mathlib.Core.Bool.{Bool, true, _&&_}
 use mathlib.Core.List.{List}
+use lib.Count.{ones}
 use lib.Dec.{ltb, leb}
 use lib.ListN.{length}
 use Rattle.board.specs.declared.Meter.{Meter}
 use Rattle.board.specs.Stores.{Ran}
 use Rattle.layout.specs.declared.Entry.{Entry}
-use Rattle.layout.specs.Limits.{epochBits, bufferPlaces}
+use Rattle.layout.specs.Limits.{wordBits, epochBits, bufferPlaces, filterSize}
 use Rattle.layout.specs.Memory.{linesAt, boardWords, bufferWords, entryWords}
 use Rattle.layout.specs.Words.{EntryFits}
 use Rattle.undo.specs.declared.LogState.{LogState}
 use Rattle.undo.specs.declared.Progress.{Progress}
+use Rattle.undo.specs.Filter.{firstBit, secondBit, isSet}
 use Rattle.undo.specs.Log.{Sound, properAt, flushStores, flushed, flushedBuffer, pushed, counted}
 use Rattle.undo.specs.Ring.{entryAt}
 
@@ -20,6 +22,28 @@ use Rattle.undo.specs.Ring.{entryAt}
 unfoldable pub properBetween : (lines least most : ℕ) → Entry → Bool
 properBetween lines least most e =
     ltb (e .address) lines && ltb (e .from) (e .till) && leb least (e .till) && leb (e .till) most
+
+-- the two bits of an address
+pub record FirstBit (address r : ℕ) : Type 0 where
+  pub is : r ≡ firstBit address
+  pub below : r < filterSize
+
+pub record SecondBit (address r : ℕ) : Type 0 where
+  pub is : r ≡ secondBit address
+  pub below : r < filterSize
+
+-- a word whose first bit is bit i of the filter
+abbrev pub startsWithOne : ℕ → Bool
+startsWithOne word = leb (2 ^ (wordBits - 1)) word
+
+pub record ReadsBit (buffer : List ℕ) (i r : ℕ) : Type 0 where
+  pub is : startsWithOne r ≡ isSet buffer i
+  pub fits : r < 2 ^ wordBits
+
+-- the ones of a word
+pub record CountsOnes (word r : ℕ) : Type 0 where
+  pub is : r ≡ ones word
+  pub most : r ≤ wordBits
 
 -- a flush of the buffer to the board's log
 pub record Flushes (board buffer : List ℕ) (u : LogState) (m : Meter) (board′ buffer′ : List ℕ) (r : Progress) : Type 0 where

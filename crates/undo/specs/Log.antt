@@ -2,9 +2,9 @@
 -- persisted epoch and a recovery owe.
 use Prim.Native.Nat.{ℕ, zero, suc, _+_, _-_, _*_, _%_, _^_, _<_, _≤_}
 use mathlib.Core.Path.{_≡_}
-use mathlib.Core.Bool.{Bool, not, cond}
+use mathlib.Core.Bool.{Bool, false, cond, _||_}
 use mathlib.Core.List.{List, [], _++_}
-use lib.Dec.{ltb, leb, eqb}
+use lib.Dec.{leb, eqb}
 use lib.ListN.{length, getD, set, replicate}
 use Rattle.base.specs.Walk.{first}
 use Rattle.board.specs.Stores.{Store, one, each, shifted}
@@ -15,6 +15,7 @@ use Rattle.layout.specs.Memory.{controlAt, logAt, linesAt, entryWords}
 use Rattle.layout.specs.Words.{encodeControl, encodeEntry, decodeEntry}
 use Rattle.undo.specs.declared.LogState.{LogState}
 use Rattle.undo.specs.Entries.{covers, properEntry, properBuffered}
+use Rattle.undo.specs.Filter.{isBitOf, marks, marking}
 
 -- What holds of the log's numbers once a call's tests have passed.
 pub record Sound (u : LogState) : Type 0 where
@@ -63,16 +64,22 @@ bufferedProper buffer lines epoch i = properBuffered lines epoch (bufferedIn buf
 unfoldable pub bufferProper : List ℕ → (count lines epoch : ℕ) → Bool
 bufferProper buffer count lines epoch = leb count (first (bufferedProper buffer lines epoch) count)
 
-unfoldable pub elsewhere : List ℕ → (address : ℕ) → ℕ → Bool
-elsewhere buffer address i = not (eqb (bufferedIn buffer i .address) address)
+-- bit i is one of those of the first count entries
+unfoldable pub isBitBuffered : List ℕ → (count i : ℕ) → Bool
+isBitBuffered buffer zero i = false
+isBitBuffered buffer (suc n) i = isBitBuffered buffer n i || isBitOf (bufferedIn buffer n .address) i
 
--- "if any buffered entry has its address": not all of the first count are of other addresses
-unfoldable pub buffers : List ℕ → (count address : ℕ) → Bool
-buffers buffer count address = ltb (first (elsewhere buffer address) count) count
+-- "14 filter, a buffered entry with either bit unset": none of the first count is
+unfoldable pub bufferedMarked : List ℕ → ℕ → Bool
+bufferedMarked buffer i = marks buffer (bufferedIn buffer i .address)
 
--- "An entry goes to the buffer's end"
+unfoldable pub bufferMarked : List ℕ → (count : ℕ) → Bool
+bufferMarked buffer count = leb count (first (bufferedMarked buffer) count)
+
+-- "An entry goes to the buffer's end"; "A new entry for address a sets bit .. and bit .."
 unfoldable pub pushed : List ℕ → ℕ → Entry → ℕ → List ℕ
-pushed buffer count e old = set (set buffer (entryWords * count) (encodeEntry e)) (entryWords * count + 1) old
+pushed buffer count e old =
+    marking (set (set buffer (entryWords * count) (encodeEntry e)) (entryWords * count + 1) old) (e .address)
 
 -- "stores each entry at the ring's end, packed word then data word": entry i of the buffer, as stores of the log part
 unfoldable pub entryStores : LogState → List ℕ → ℕ → List Store
@@ -80,7 +87,8 @@ entryStores u buffer i =
     one (placeOf u (u .control .length + i)) (getD buffer (entryWords * i) 0)
     ++ one (placeOf u (u .control .length + i) + 1) (getD buffer (entryWords * i + 1) 0)
 
--- "then the control word with length + b: 2b + 1 stores; then b = 0 and the 64 buffer words are zero"
+-- "then the control word with length + b: 2b + 1 stores; then b = 0 and the 64 buffer words are zero"; "The filter is cleared at each flush
+-- with b > 0."
 abbrev pub longer : Control → ℕ → Control
 longer c count = record { persisted = c .persisted; start = c .start; length = c .length + count }
 

@@ -1,4 +1,6 @@
 // The undo log on the board, and the undo buffer before it.
+mod filter;
+
 ghost use Prim.Native.Nat.{_*_, _%_, _^_, _<_, _≤_};
 ghost use lib.Dec.{leb};
 ghost use lib.ListN.{length};
@@ -8,12 +10,15 @@ ghost use Rattle.board.specs.Stores.{Ran, each};
 ghost use Rattle.layout.specs.Limits.{epochBits, mostLines, mostEntries, bufferPlaces};
 ghost use Rattle.layout.specs.Memory.{linesAt, bufferWords, entryWords};
 ghost use Rattle.layout.specs.Words.{decodeEntry};
-ghost use Rattle.undo.specs.Log.{Sound, Placed, firstImproper, bufferedProper, bufferProper, elsewhere};
-ghost use Rattle.undo.specs.Log.{buffers, DroppedBy, KeptBy, entryStores, counted, flushed, advanceStores};
+ghost use Rattle.undo.specs.Entries.{properBuffered};
+ghost use Rattle.undo.specs.Log.{Sound, Placed, firstImproper, bufferProper, bufferMarked};
+ghost use Rattle.undo.specs.Log.{DroppedBy, KeptBy, entryStores, counted, flushed, advanceStores};
 ghost use Rattle.undo.specs.Log.{restoreTurn, recoverStores};
 ghost use Rattle.undo.specs.Ring.{nextPlace, previousPlace, restoreAt};
 ghost use Rattle.undo.specs.Contracts.{properBetween, Flushes, FlushReady, Pushes, PushReady, AdvanceReady, RecoverReady, RestoreReady};
 use board::Meter;
+pub use filter::bits_set;
+pub use filter::is_hit;
 use layout::CONTROL_AT;
 use layout::Control;
 use layout::ENTRY_WORDS;
@@ -190,15 +195,13 @@ pub fn dropped_by(board: &[u64], undo: LogState, target: u64) -> u64
     undo.control.length - kept_by(board, undo, target)
 }
 
-// Whether entry i of the buffer is proper.
-fn is_buffered_proper(buffer: &[u64], lines: u64, epoch: u64, i: usize) -> bool
-    requires { ⌜ entryWords * i < length (now buffer) ⌝ }
+// Whether the buffered entry with this first word is proper.
+fn is_buffered_proper(word: u64, lines: u64, epoch: u64) -> bool
     requires { ⌜ 1 ≤ lines ⌝ }
     requires { ⌜ lines ≤ mostLines ⌝ }
     requires { ⌜ epoch < 2 ^ epochBits ⌝ }
-    ensures { λ r. ⌜ r ≡ bufferedProper (now (buffer .entry)) lines epoch i ⌝ }
+    ensures { λ r. ⌜ r ≡ properBuffered lines epoch (decodeEntry word) ⌝ }
 {
-    let word = buffer[ENTRY_WORDS * i];
     if !layout::is_address_below(word, lines) {
         return false;
     }
@@ -218,7 +221,7 @@ pub fn is_buffer_proper(buffer: &[u64], count: usize, lines: u64, epoch: u64) ->
 {
     let mut i: usize = 0;
     while i < count {
-        if !is_buffered_proper(buffer, lines, epoch, i) {
+        if !is_buffered_proper(buffer[ENTRY_WORDS * i], lines, epoch) {
             return false;
         }
         i += 1;
@@ -226,37 +229,38 @@ pub fn is_buffer_proper(buffer: &[u64], count: usize, lines: u64, epoch: u64) ->
     true
 }
 
-// Whether entry i of the buffer is of another address.
-fn is_elsewhere(buffer: &[u64], address: u64, i: usize) -> bool
-    requires { ⌜ entryWords * i < length (now buffer) ⌝ }
-    ensures { λ r. ⌜ r ≡ elsewhere (now (buffer .entry)) address i ⌝ }
-{
-    let entry = Entry::decode(buffer[ENTRY_WORDS * i]);
-    entry.address != address
-}
-
-// Whether one of the first entries of the buffer, count of them, has the address.
-pub fn is_buffering(buffer: &[u64], count: usize, address: u64) -> bool
-    requires { ⌜ entryWords * count ≤ length (now buffer) ⌝ }
-    ensures { λ r. ⌜ r ≡ buffers (now (buffer .entry)) count address ⌝ }
+// The same, and whether the filter has both bits of each: in one pass, since every call asks it.
+pub fn is_buffer_sound(buffer: &[u64], count: usize, lines: u64, epoch: u64) -> bool
+    requires { ⌜ length (now buffer) ≡ bufferWords ⌝ }
+    requires { ⌜ count ≤ bufferPlaces ⌝ }
+    requires { ⌜ 1 ≤ lines ⌝ }
+    requires { ⌜ lines ≤ mostLines ⌝ }
+    requires { ⌜ epoch < 2 ^ epochBits ⌝ }
+    ensures { λ r. ⌜ r ≡ bufferProper (now (buffer .entry)) count lines epoch && bufferMarked (now (buffer .entry)) count ⌝ }
 {
     let mut i: usize = 0;
     while i < count {
-        if !is_elsewhere(buffer, address, i) {
-            return true;
+        let word = buffer[ENTRY_WORDS * i];
+        if !is_buffered_proper(word, lines, epoch) {
+            return false;
+        }
+        let entry = Entry::decode(word);
+        if !filter::is_marked(buffer, entry.address) {
+            return false;
         }
         i += 1;
     }
-    false
+    true
 }
 
-// An entry to the buffer's end.
+// An entry to the buffer's end, and its bits to the filter.
 pub fn push(buffer: &mut [u64], undo: LogState, entry: Entry, old: u64) -> LogState
     requires { ⌜ PushReady (now buffer) undo entry ⌝ }
     ensures { λ r. ⌜ Pushes (now (buffer .entry)) undo entry old (now (buffer .exit)) r ⌝ }
 {
     let at = ENTRY_WORDS * undo.buffered as usize;
     base::set_pair(buffer, at, entry.encode(), old);
+    filter::mark(buffer, entry.address);
     undo.counted()
 }
 

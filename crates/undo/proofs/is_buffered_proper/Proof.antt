@@ -3,15 +3,6 @@ use borrow.Author.Needs.{needs}
 use Rattle.undo.proofs.is_buffered_proper.Statement.{statement}
 use Rattle.undo.proofs.is_buffered_proper.Tie as tie
 
-mul-word : tie.Need-mul-word
-mul-word c = search needs
-
-mul-word-2 : tie.Need-mul-word-2
-mul-word-2 c = search needs
-
-shared-slice-read-word : tie.Need-shared-slice-read-word
-shared-slice-read-word c = search needs
-
 is-address-below-requires : tie.Need-is-address-below-requires
 is-address-below-requires c κs = search needs
 
@@ -34,9 +25,6 @@ pub is-buffered-proper-spec : {M : Type 1} → statement M
 is-buffered-proper-spec =
     tie.close
     (tie.spec
-    mul-word
-    mul-word-2
-    shared-slice-read-word
     is-address-below-requires
     returns
     is-till-at-most-requires

@@ -12,6 +12,9 @@ encode-requires c κs = search needs
 set-pair-requires : tie.Need-set-pair-requires
 set-pair-requires c κs = search needs
 
+mark-requires : tie.Need-mark-requires
+mark-requires c κs = search needs
+
 counted-requires : tie.Need-counted-requires
 counted-requires c κs = search needs
 
@@ -24,4 +27,11 @@ returns c = search (push-done)
 pub push-spec : {M : Type 1} → statement M
 push-spec =
     tie.close
-    (tie.spec mul-at encode-requires set-pair-requires counted-requires same-length returns)
+    (tie.spec
+    mul-at
+    encode-requires
+    set-pair-requires
+    mark-requires
+    counted-requires
+    same-length
+    returns)
