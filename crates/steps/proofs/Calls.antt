@@ -15,7 +15,8 @@ use Rattle.layout.specs.Memory.{linesAt, bufferIn, slotIn, dataIn}
 use Rattle.layout.specs.Words.{Decoded, SlotFits, encodeSlot}
 use Rattle.undo.specs.declared.LogState.{LogState}
 use Rattle.undo.specs.declared.Progress.{Progress}
-use Rattle.undo.specs.Log.{Sound, buffers, flushed, advanceStores}
+use Rattle.undo.specs.Filter.{hits}
+use Rattle.undo.specs.Log.{Sound, flushed, advanceStores}
 use Rattle.undo.specs.Contracts.{AdvanceReady}
 use Rattle.undo.specs.Laws.{sound-flushed}
 use Rattle.slots.specs.declared.Spot.{Spot}
@@ -152,7 +153,7 @@ module _ (board work : List ℕ) (u : LogState) (address : ℕ) (spot : Spot) (e
       flush false = same
 
       dirty : (t : Bool) → Kept (cond t (writingOut u work (slotIn work (spot .slot) .address) (dataIn work (spot .slot))) (nothing u work) .undo)
-      dirty true = flush (buffers (bufferIn work) (u .buffered) (slotIn work (spot .slot) .address))
+      dirty true = flush (hits (bufferIn work) (u .buffered) (slotIn work (spot .slot) .address))
       dirty false = same
 
   module _ (m : Meter) (board′ work′ : List ℕ) (b : Progress) (out : spot .held ≡ false)

@@ -16,7 +16,7 @@ use Rattle.layout.specs.Memory.{linesAt, bufferAt, bufferIn, slotIn, dataIn}
 use Rattle.layout.specs.Words.{Decoded, SlotFits, encodeSlot}
 use Rattle.undo.specs.declared.LogState.{LogState}
 use Rattle.undo.specs.declared.Progress.{Progress}
-use Rattle.undo.specs.Log.{buffers}
+use Rattle.undo.specs.Filter.{hits}
 use Rattle.undo.specs.Contracts.{Flushes}
 use Rattle.slots.specs.Slots.{cleanSlot, zeroed, filled}
 use Rattle.layout.specs.Memory.{withBuffer}
@@ -46,21 +46,21 @@ module _ (due : Bool) (board work : List ℕ) (u : LogState) (m : Meter) where
 
 pub written : (board work : List ℕ) (u : LogState) (address value : ℕ) (m m′ : Meter) (due : Bool) (board′ work′ part : List ℕ) (f : Progress) (at lines : ℕ)
     → LineReady board work u address → at ≡ bufferAt (length work)
-    → due ≡ buffers (take (length work - at) (drop at work)) (u .buffered) address
+    → due ≡ hits (take (length work - at) (drop at work)) (u .buffered) address
     → Acts board m (flushingIf due u work) board′ work′ f → lines ≡ linesAt (u .entries)
     → Ran (take (length board′ - lines) (drop lines board′)) (f .meter) (one address value) part m′
     → Acts board m (writingOut u work address value) (take lines board′ ++ (part ++ drop (length board′ - lines) (drop lines board′))) work′
     (record { undo = f .undo; meter = m′ })
 unfolding writingOut shifted
 written board work u address value m m′ due board′ work′ part f at lines ready here d x l y =
-    let e : due ≡ buffers (bufferIn work) (u .buffered) address = rw (rest-lent at work, here) at d in
+    let e : due ≡ hits (bufferIn work) (u .buffered) address = rw (rest-lent at work, here) at d in
     let h : lines ≤ length board′ = omega (arith, ready .named, ran-length (flushingIf due u work .stores) (x .ran)) in
     rw (← e, ← l) record { ran = ran-then (x .ran) (ran-part lines h y); undo = x .undo; memory = x .memory }
 
 -- a line leaves its slot
 module _ (board work : List ℕ) (u : LogState) (k : ℕ) (s : Slot) (read : Decoded SlotFits (slotIn work k) s) where
   pub slot-line : SlotReady board work u k → LineReady board work u (s .address)
-  slot-line h = rw (read .is) record { ready = h .ready; named = h .named }
+  slot-line h = record { ready = h .ready; named = rw (read .is) (h .named); fits = read .fits .address }
 
   pub leave-clean : (m : Meter) → not (s .dirty) ≡ true → Acts board m (writingBack u work k) board work (record { undo = u; meter = m })
   unfolding writingBack

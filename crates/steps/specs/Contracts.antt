@@ -42,6 +42,7 @@ pub record Ready (board work : List ℕ) (u : LogState) : Type 0 where
 pub record LineReady (board work : List ℕ) (u : LogState) (address : ℕ) : Type 0 where
   pub ready : Ready board work u
   pub named : linesAt (u .entries) + address < length board
+  pub fits : address < 2 ^ addressBits
 
 -- The work memory has slot k, and the board has its line.
 pub record SlotReady (board work : List ℕ) (u : LogState) (k : ℕ) : Type 0 where

@@ -10,7 +10,8 @@ use Rattle.layout.specs.declared.Slot.{Slot}
 use Rattle.layout.specs.Limits.{bufferPlaces}
 use Rattle.layout.specs.Memory.{linesAt, bufferIn, slotIn, dataIn, withBuffer}
 use Rattle.undo.specs.declared.LogState.{LogState}
-use Rattle.undo.specs.Log.{buffers, pushed, counted, flushed, flushStores, flushedBuffer, advanceStores}
+use Rattle.undo.specs.Filter.{hits}
+use Rattle.undo.specs.Log.{pushed, counted, flushed, flushStores, flushedBuffer, advanceStores}
 use Rattle.slots.specs.declared.Spot.{Spot}
 use Rattle.slots.specs.Slots.{zeroed, filled, dirtied, cleaned, entryDue}
 
@@ -28,10 +29,11 @@ flushing u work = record { stores = flushStores u (bufferIn work); undo = flushe
 unfoldable pub flushingIf : Bool → LogState → List ℕ → Effect
 flushingIf due u work = cond due (flushing u work) (nothing u work)
 
--- "Writing out a line: if any buffered entry has its address, flush first; then one store to the line."
+-- "Writing out a line: .. flush first; then one store to the line." Request 3/13: "A write-out flushes exactly when b > 0 and both bits of its
+-- address are set."
 unfoldable pub writingOut : LogState → List ℕ → (address value : ℕ) → Effect
 writingOut u work address value =
-    let f = flushingIf (buffers (bufferIn work) (u .buffered) address) u work in
+    let f = flushingIf (hits (bufferIn work) (u .buffered) address) u work in
     record { stores = f .stores ++ one (linesAt (u .entries) + address) value; undo = f .undo; work = f .work }
 
 -- "Emptying a slot writes a dirty line out, then zeroes both slot words; an empty or clean slot costs no store."

@@ -230,7 +230,8 @@ pub fn load(
     if spot.held {
         return Progress { undo, meter };
     }
-    let left = moves::write_back(board, work, undo, spot.slot, meter);
+    let slot = slots::slot_at(work, spot.slot);
+    let left = moves::write_back(board, work, undo, spot.slot, slot, meter);
     moves::fill(board, work, undo, spot.slot, address);
     left
 }
@@ -252,7 +253,8 @@ pub fn store(
     if spot.held {
         return store_held(board, work, undo, spot.slot, address, epoch, value, meter);
     }
-    let left = moves::write_back(board, work, undo, spot.slot, meter);
+    let slot = slots::slot_at(work, spot.slot);
+    let left = moves::write_back(board, work, undo, spot.slot, slot, meter);
     let after = left.undo;
     let rest = left.meter;
     store_absent(board, work, after, spot.slot, address, epoch, value, rest)

@@ -1,11 +1,14 @@
 // Lines on their way between the slots and the board.
 ghost use Prim.Native.Nat.{_+_, _*_};
 ghost use mathlib.Core.Path.{_≡_};
+ghost use Rattle.layout.specs.Memory.{slotIn};
+ghost use Rattle.layout.specs.Words.{Decoded, SlotFits};
 ghost use Rattle.slots.specs.Slots.{filled};
 ghost use Rattle.steps.specs.Effects.{flushingIf, writingOut, writingBack, emptying, lineIn};
 ghost use Rattle.steps.specs.Contracts.{Acts, Ready, LineReady, SlotReady, PlaceReady};
 use board::Meter;
 use layout::SLOT_WORDS;
+use layout::Slot;
 use undo::LogState;
 use undo::Progress;
 
@@ -40,7 +43,7 @@ pub fn write_out(
     ensures { λ r. ⌜ Acts (now (board .entry)) meter (writingOut undo (now (work .entry)) address value) (now (board .exit)) (now (work .exit)) r ⌝ }
 {
     let at = layout::buffer_at(work.len());
-    let due = undo::is_buffering(&work[at..], undo.buffered as usize, address);
+    let due = undo::is_hit(&work[at..], undo.buffered, address);
     let flushed = flush_if(due, board, work, undo, meter);
     let after = flushed.undo;
     let left = flushed.meter;
@@ -52,18 +55,19 @@ pub fn write_out(
     }
 }
 
-// A dirty line of slot k to the board; a clean or an empty slot costs nothing. The slot's words stay.
+// A dirty line of slot k, which the caller has decoded, to the board; a clean or an empty slot costs nothing. The slot's words stay.
 pub fn write_back(
     board: &mut [u64],
     work: &mut [u64],
     undo: LogState,
     k: usize,
+    slot: Slot,
     meter: Meter,
 ) -> Progress
     requires { ⌜ SlotReady (now board) (now work) undo k ⌝ }
+    requires { ⌜ Decoded SlotFits (slotIn (now work) k) slot ⌝ }
     ensures { λ r. ⌜ Acts (now (board .entry)) meter (writingBack undo (now (work .entry)) k) (now (board .exit)) (now (work .exit)) r ⌝ }
 {
-    let slot = slots::slot_at(work, k);
     if !slot.dirty {
         return Progress { undo, meter };
     }
@@ -82,7 +86,8 @@ pub fn empty(
     requires { ⌜ SlotReady (now board) (now work) undo k ⌝ }
     ensures { λ r. ⌜ Acts (now (board .entry)) meter (emptying undo (now (work .entry)) k) (now (board .exit)) (now (work .exit)) r ⌝ }
 {
-    let left = write_back(board, work, undo, k, meter);
+    let slot = slots::slot_at(work, k);
+    let left = write_back(board, work, undo, k, slot, meter);
     base::set_pair(work, SLOT_WORDS * k, 0, 0);
     left
 }

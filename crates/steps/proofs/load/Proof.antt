@@ -6,6 +6,9 @@ use Rattle.steps.proofs.load.Tie as tie
 returns : tie.Need-returns
 returns c = search (load-held)
 
+slot-at-requires : tie.Need-slot-at-requires
+slot-at-requires c κs = search needs
+
 write-back-requires : tie.Need-write-back-requires
 write-back-requires c κs = search needs
 
@@ -23,4 +26,12 @@ returns-2 c = search (load-brought)
 
 pub load-spec : {M : Type 1} → statement M
 load-spec =
-    tie.close (tie.spec returns write-back-requires fill-requires same-length same-length-2 returns-2)
+    tie.close
+    (tie.spec
+    returns
+    slot-at-requires
+    write-back-requires
+    fill-requires
+    same-length
+    same-length-2
+    returns-2)

@@ -15,6 +15,9 @@ same-length-2 c = search needs
 returns : tie.Need-returns
 returns c = search (store-held)
 
+slot-at-requires : tie.Need-slot-at-requires
+slot-at-requires c κs = search needs
+
 write-back-requires : tie.Need-write-back-requires
 write-back-requires c κs = search needs
 
@@ -28,7 +31,7 @@ same-length-4 : tie.Need-same-length-4
 same-length-4 c = search needs
 
 returns-2 : tie.Need-returns-2
-returns-2 c = search (store-brought)
+returns-2 c = search (store-brought, c .before .before .before .before .before .before .before .before .before .before .before .before .before .before .before .before .before .before .before .before .before .pre, c .before .before .before .before .before .before .before .before .before .before .before .before .before .before .before .before .before .before .if1)
 
 pub store-spec : {M : Type 1} → statement M
 store-spec =
@@ -38,6 +41,7 @@ store-spec =
     same-length
     same-length-2
     returns
+    slot-at-requires
     write-back-requires
     store-absent-requires
     same-length-3

@@ -3,6 +3,9 @@ use borrow.Author.Needs.{needs}
 use Rattle.steps.proofs.moves.empty.Statement.{statement}
 use Rattle.steps.proofs.moves.empty.Tie as tie
 
+slot-at-requires : tie.Need-slot-at-requires
+slot-at-requires c κs = search needs
+
 write-back-requires : tie.Need-write-back-requires
 write-back-requires c κs = search needs
 
@@ -24,4 +27,11 @@ returns c = search (emptied)
 pub empty-spec : {M : Type 1} → statement M
 empty-spec =
     tie.close
-    (tie.spec write-back-requires mul-set-pair set-pair-requires same-length same-length-2 returns)
+    (tie.spec
+    slot-at-requires
+    write-back-requires
+    mul-set-pair
+    set-pair-requires
+    same-length
+    same-length-2
+    returns)

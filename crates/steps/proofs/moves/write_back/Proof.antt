@@ -3,12 +3,6 @@ use borrow.Author.Needs.{needs}
 use Rattle.steps.proofs.moves.write_back.Statement.{statement}
 use Rattle.steps.proofs.moves.write_back.Tie as tie
 
-slot-at-requires : tie.Need-slot-at-requires
-slot-at-requires c κs = search needs
-
-same-length : tie.Need-same-length
-same-length c = search needs
-
 returns : tie.Need-returns
 returns c = search (leave-clean)
 
@@ -27,11 +21,11 @@ slice-read-value c = search needs
 write-out-requires : tie.Need-write-out-requires
 write-out-requires c κs = search (slot-line)
 
+same-length : tie.Need-same-length
+same-length c = search needs
+
 same-length-2 : tie.Need-same-length-2
 same-length-2 c = search needs
-
-same-length-3 : tie.Need-same-length-3
-same-length-3 c = search needs
 
 returns-2 : tie.Need-returns-2
 returns-2 c = search (leave-dirty)
@@ -40,14 +34,12 @@ pub write-back-spec : {M : Type 1} → statement M
 write-back-spec =
     tie.close
     (tie.spec
-    slot-at-requires
-    same-length
     returns
     mul-value
     add-value
     mul-value-2
     slice-read-value
     write-out-requires
+    same-length
     same-length-2
-    same-length-3
     returns-2)

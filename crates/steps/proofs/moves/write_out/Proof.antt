@@ -6,20 +6,20 @@ use Rattle.steps.proofs.moves.write_out.Tie as tie
 buffer-at-requires : tie.Need-buffer-at-requires
 buffer-at-requires c κs = search needs
 
-mul-is-buffering : tie.Need-mul-is-buffering
-mul-is-buffering c = search needs
+mul-is-hit : tie.Need-mul-is-hit
+mul-is-hit c = search needs
 
-sub-is-buffering : tie.Need-sub-is-buffering
-sub-is-buffering c = search needs
+sub-is-hit : tie.Need-sub-is-hit
+sub-is-hit c = search needs
 
-part-is-buffering-start : tie.Need-part-is-buffering-start
-part-is-buffering-start c = search needs
+part-is-hit-start : tie.Need-part-is-hit-start
+part-is-hit-start c = search needs
 
-part-is-buffering-end : tie.Need-part-is-buffering-end
-part-is-buffering-end c = search needs
+part-is-hit-end : tie.Need-part-is-hit-end
+part-is-hit-end c = search needs
 
-is-buffering-requires : tie.Need-is-buffering-requires
-is-buffering-requires c κs = search needs
+is-hit-requires : tie.Need-is-hit-requires
+is-hit-requires c κs = search needs
 
 flush-if-requires : tie.Need-flush-if-requires
 flush-if-requires c κs = search needs
@@ -56,11 +56,11 @@ write-out-spec =
     tie.close
     (tie.spec
     buffer-at-requires
-    mul-is-buffering
-    sub-is-buffering
-    part-is-buffering-start
-    part-is-buffering-end
-    is-buffering-requires
+    mul-is-hit
+    sub-is-hit
+    part-is-hit-start
+    part-is-hit-end
+    is-hit-requires
     flush-if-requires
     lines-at-requires
     mul-put
