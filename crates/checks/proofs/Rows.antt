@@ -1,16 +1,17 @@
 -- The rows behind 1, 2 and 4: one law for each way out of a function.
 use Prim.Native.Nat.{ℕ, _+_, _-_, _*_, _<_, _≤_}
 use mathlib.Core.Path.{_≡_, sym, _∙_}
-use mathlib.Core.Bool.{Bool, true, false, not}
+use mathlib.Core.Bool.{Bool, true, false, not, _&&_}
 use mathlib.Core.List.{List, _++_}
 use native.Mathlib.Omega.{arith}
 use borrow.Author.Tests.{lt-ltb, le-ltb, le-leb, lt-leb, not-true, not-false}
 use lib.ListN.{length, take, drop}
 use Rattle.base.specs.Parts.{rest-lent}
-use Rattle.layout.specs.Memory.{bufferAt}
+use Rattle.base.specs.Tests.{and-left, and-right}
+use Rattle.layout.specs.Memory.{bufferAt, bufferIn}
 use Rattle.status.specs.declared.Status.{Status}
 use Rattle.status.specs.declared.Status.the-variants as status
-use Rattle.undo.specs.Log.{bufferProper}
+use Rattle.undo.specs.Log.{bufferProper, bufferMarked}
 use Rattle.slots.specs.declared.Bounds.{Bounds}
 use Rattle.slots.specs.declared.Spot.{Spot}
 use Rattle.slots.specs.Contracts.{SlotsReady, SpotReady}
@@ -21,26 +22,47 @@ use Rattle.checks.specs.declared.Checked.{Checked}
 use Rattle.checks.specs.declared.Checked.the-variants.{Refused, Passed}
 use Rattle.checks.specs.declared.Registers.{Registers}
 use Rattle.checks.specs.declared.View.{View}
-use Rattle.checks.specs.View.{boundsOf, goodBuffer}
+use Rattle.checks.specs.View.{boundsOf, goodBuffer, goodFilter}
 use Rattle.checks.specs.Refusals.{tested, bufferRows, lineRows, roomRows, epochRows, cursorRows, waitingRows}
 use Rattle.checks.specs.Contracts.{RowsReady}
 use Rattle.checks.specs.Laws.{refused-first, passed-first}
 
--- 7
-module _ (v : View) (work : List ℕ) (r : Registers) (at : ℕ) (here : at ≡ bufferAt (length work)) (t : Bool)
-    (test : t ≡ bufferProper (take (length work - at) (drop at work)) (r .buffered) (v .shape .lines) (r .epoch))
-  where
-    good : t ≡ goodBuffer v work r
-    unfolding goodBuffer
-    good = rw (rest-lent at work, here) at test
+-- 7 and 14
+module _ (v : View) (work : List ℕ) (r : Registers) (at : ℕ) (here : at ≡ bufferAt (length work)) where
+  lent : take (length work - at) (drop at work) ≡ bufferIn work
+  lent = rest-lent at work ∙ rw here
 
-    pub buffer-refused : not t ≡ true → Refused status.Buffer ≡ tested (bufferRows v work r) v
-    buffer-refused h = rw (← good, not-true t h)
+  module _ (t : Bool)
+      (test : t
+      ≡ bufferProper (take (length work - at) (drop at work)) (r .buffered) (v .shape .lines) (r .epoch)
+      && bufferMarked (take (length work - at) (drop at work)) (r .buffered))
+    where
+      sound : t ≡ goodBuffer v work r && goodFilter work r
+      unfolding goodBuffer goodFilter
+      sound = rw lent at test
 
-    pub buffer-passed : not t ≡ false → Passed v ≡ tested (bufferRows v work r) v
-    buffer-passed h = rw (← good, not-false t h)
+      pub buffer-passed : t ≡ true → Passed v ≡ tested (bufferRows v work r) v
+      buffer-passed h =
+          let both = sym sound ∙ h in
+          rw (and-left (goodBuffer v work r) (goodFilter work r) both, and-right (goodBuffer v work r) (goodFilter work r) both)
 
--- 5, 6 and 7
+      module _ (bad : t ≡ false) (p : Bool)
+          (proper : p ≡ bufferProper (take (length work - at) (drop at work)) (r .buffered) (v .shape .lines) (r .epoch))
+        where
+          good : p ≡ goodBuffer v work r
+          unfolding goodBuffer
+          good = rw lent at proper
+
+          pub buffer-unmarked : p ≡ true → Refused status.Filter ≡ tested (bufferRows v work r) v
+          buffer-unmarked h =
+              let yes : goodBuffer v work r ≡ true = sym good ∙ h in
+              let no : goodFilter work r ≡ false = sym (rw yes at sound) ∙ bad in
+              rw (yes, no)
+
+          pub buffer-refused : p ≡ false → Refused status.Buffer ≡ tested (bufferRows v work r) v
+          buffer-refused h = let no : goodBuffer v work r ≡ false = sym good ∙ h in rw no
+
+-- 5 and 6
 module _ (v : View) (work : List ℕ) (r : Registers) (address : ℕ) where
   pub line-outside : v .shape .lines ≤ address → Refused status.Address ≡ tested (lineRows v work r address) v
   line-outside h = rw (le-leb (v .shape .lines) address h)
@@ -49,8 +71,8 @@ module _ (v : View) (work : List ℕ) (r : Registers) (address : ℕ) where
     pub line-slot : not t ≡ true → Refused status.Slot ≡ tested (lineRows v work r address) v
     line-slot h = rw (lt-leb (v .shape .lines) address named, ← bounds, ← slot, not-true t h)
 
-    pub line-buffer : (k : Checked) → not t ≡ false → k ≡ tested (bufferRows v work r) v → k ≡ tested (lineRows v work r address) v
-    line-buffer k h x = x ∙ sym (rw (lt-leb (v .shape .lines) address named, ← bounds, ← slot, not-false t h))
+    pub line-proper : not t ≡ false → Passed v ≡ tested (lineRows v work r address) v
+    line-proper h = rw (lt-leb (v .shape .lines) address named, ← bounds, ← slot, not-false t h)
 
 -- 8
 module _ (v : View) (work : List ℕ) (r : Registers) (address : ℕ) (spot : Spot) (at : spot ≡ spotOf work (v .slots) address) where

@@ -151,15 +151,15 @@ running board work r v e =
     let b = then-both (memoriesChecked board work) (λ w. registerRows w r) v e in
     running-of board work r v (memories-shaped board work v (b .before)) (not-false _ (passed-row status.Regs (registerRows v r) v v (b .here)))
 
--- ---- 5, 6 and 7
+-- ---- 5, 6, 7 and 14
 
 module _ (board work : List ℕ) (r : Registers) (address : ℕ) (v : View) (e : Passed v ≡ lineChecked board work r address) where
-  line-both : Both (runningChecked board work r) (λ w. lineRows w work r address) v
+  line-both : Both (runningChecked board work r) (λ w. lineRows w work r address ++ bufferRows w work r) v
   unfolding lineChecked
-  line-both = then-both (runningChecked board work r) (λ w. lineRows w work r address) v e
+  line-both = then-both (runningChecked board work r) (λ w. lineRows w work r address ++ bufferRows w work r) v e
 
-  line-row : (s : Status) → heldAs s (lineRows v work r address) ≡ false
-  line-row s = passed-row s (lineRows v work r address) v v (line-both .here)
+  line-row : (s : Status) → heldAs s (lineRows v work r address ++ bufferRows v work r) ≡ false
+  line-row s = passed-row s (lineRows v work r address ++ bufferRows v work r) v v (line-both .here)
 
   pub line-running : Running board work r v
   line-running = running board work r v (line-both .before)

@@ -1,4 +1,5 @@
--- "What an answer says": the rows of the paper's table, and the order in which each call tests them.
+-- "What an answer says": the rows of the paper's table, and the order in which each call tests them. The paper's "The lowest number wins" is
+-- true of the rows that it lists; a later request says behind which row its own is tested.
 use Prim.Native.Nat.{ℕ, _+_, _-_}
 use mathlib.Core.Bool.{Bool, not, cond, _&&_}
 use mathlib.Core.List.{List, [], _∷_, _++_}
@@ -12,7 +13,7 @@ use Rattle.checks.specs.declared.Checked.{Checked}
 use Rattle.checks.specs.declared.Checked.the-variants.{Refused, Passed}
 use Rattle.checks.specs.declared.Registers.{Registers}
 use Rattle.checks.specs.declared.View.{View}
-use Rattle.checks.specs.View.{viewOf, goodShape, goodWork, properRegisters, boundsOf, goodBuffer}
+use Rattle.checks.specs.View.{viewOf, goodShape, goodWork, properRegisters, boundsOf, goodBuffer, goodFilter}
 
 -- a row of the table: when it refuses, and as what
 pub record Row : Type 0 where
@@ -53,13 +54,13 @@ slotRows v work r address = row (not (properFor (boundsOf v r) work address)) st
 abbrev pub cursorRows : View → List ℕ → Registers → List Row
 cursorRows v work r = row (ltb (r .cursor) (v .slots) && not (properAt (boundsOf v r) work (r .cursor))) status.Slot ∷ []
 
--- 7
+-- 7, and 14 "tested right after 7 wherever 7 is"
 abbrev pub bufferRows : View → List ℕ → Registers → List Row
-bufferRows v work r = row (not (goodBuffer v work r)) status.Buffer ∷ []
+bufferRows v work r = row (not (goodBuffer v work r)) status.Buffer ∷ row (not (goodFilter work r)) status.Filter ∷ []
 
--- 5, 6 and 7 of load, store and evict
+-- 5 and 6 of load, store and evict
 abbrev pub lineRows : View → List ℕ → Registers → (address : ℕ) → List Row
-lineRows v work r address = row (leb (v .shape .lines) address) status.Address ∷ slotRows v work r address ++ bufferRows v work r
+lineRows v work r address = row (leb (v .shape .lines) address) status.Address ∷ slotRows v work r address
 
 -- "8 room: an undo entry is due and length + b + 1 > L", of store
 abbrev pub roomRows : View → List ℕ → Registers → (address : ℕ) → List Row
@@ -94,7 +95,7 @@ runningChecked board work r = then (memoriesChecked board work) (λ v. registerR
 
 -- load and evict
 unfoldable pub lineChecked : (board work : List ℕ) → Registers → (address : ℕ) → Checked
-lineChecked board work r address = then (runningChecked board work r) (λ v. lineRows v work r address)
+lineChecked board work r address = then (runningChecked board work r) (λ v. lineRows v work r address ++ bufferRows v work r)
 
 unfoldable pub storeChecked : (board work : List ℕ) → Registers → (address : ℕ) → Checked
 storeChecked board work r address = then (lineChecked board work r address) (λ v. roomRows v work r address)

@@ -1,7 +1,7 @@
 -- A call makes its check in stages: what the answer of one stage tells of the whole check, and what it gives the next stage. The premises
 -- are what the code knows there.
 use Prim.Native.Nat.{ℕ}
-use mathlib.Core.Path.{_≡_, sym, _∙_}
+use mathlib.Core.Path.{_≡_, refl, sym, _∙_}
 use mathlib.Core.List.{List, _++_}
 use Rattle.layout.specs.Laws.{control-laws}
 use Rattle.layout.specs.Words.{ControlFits}
@@ -14,7 +14,7 @@ use Rattle.checks.specs.View.{viewOf}
 use Rattle.checks.specs.Refusals.{Row, tested, then, registerRows, lineRows, roomRows, cursorRows, bufferRows, epochRows, waitingRows}
 use Rattle.checks.specs.Refusals.{memoriesChecked, runningChecked, lineChecked, storeChecked, commitChecked, scanChecked}
 use Rattle.checks.specs.Contracts.{Running, RowsReady}
-use Rattle.checks.specs.Laws.{passed-view, then-refused, then-passed, memories-shaped, running, line-running}
+use Rattle.checks.specs.Laws.{passed-view, refused-first, passed-first, then-refused, then-passed, memories-shaped, running, line-running}
 
 -- a stage behind a check that passed
 module _ (before : Checked) (rows : View → List Row) (v : View) (passed : Passed v ≡ before) (k : Checked) (is : k ≡ tested (rows v) v) where
@@ -73,15 +73,28 @@ module _ (board work : List ℕ) (r : Registers) (v : View) (passed : Passed v �
   running-ready = ready-of board work r v (running board work r v passed)
 
   module _ (k : Checked) where
-    -- load and evict
+    -- load and evict: 5 and 6, and then 7 and 14
     module _ (address : ℕ) (line : k ≡ tested (lineRows v work r address) v) where
+      abbrev rowsOf : View → List Row
+      rowsOf w = lineRows w work r address ++ bufferRows w work r
+
       pub line-refused : (s : Status) → k ≡ Refused s → Refused s ≡ lineChecked board work r address
       unfolding lineChecked
-      line-refused = stage-refused (runningChecked board work r) (λ w. lineRows w work r address) v passed k line
+      line-refused s e =
+          stage-refused (runningChecked board work r) rowsOf v passed (Refused s)
+          (refused-first (lineRows v work r address) (bufferRows v work r) v s (sym e ∙ line)) s refl
 
-      pub line-passed : (w : View) → k ≡ Passed w → Passed v ≡ lineChecked board work r address
-      unfolding lineChecked
-      line-passed = stage-passed (runningChecked board work r) (λ w. lineRows w work r address) v passed k line
+      module _ (w : View) (named : k ≡ Passed w) (k₂ : Checked) (buffer : k₂ ≡ tested (bufferRows v work r) v) where
+        both : k₂ ≡ tested (rowsOf v) v
+        both = buffer ∙ sym (passed-first (lineRows v work r address) (bufferRows v work r) v w (sym named ∙ line))
+
+        pub buffer-refused : (s : Status) → k₂ ≡ Refused s → Refused s ≡ lineChecked board work r address
+        unfolding lineChecked
+        buffer-refused = stage-refused (runningChecked board work r) rowsOf v passed k₂ both
+
+        pub line-passed : (x : View) → k₂ ≡ Passed x → Passed v ≡ lineChecked board work r address
+        unfolding lineChecked
+        line-passed = stage-passed (runningChecked board work r) rowsOf v passed k₂ both
 
     module _ (commit : k ≡ tested (bufferRows v work r ++ epochRows v r) v) where
       pub commit-refused : (s : Status) → k ≡ Refused s → Refused s ≡ commitChecked board work r
@@ -107,7 +120,7 @@ module _ (board work : List ℕ) (r : Registers) (v : View) (passed : Passed v �
 module _ (board work : List ℕ) (r : Registers) (s : Status) (refused : Refused s ≡ runningChecked board work r) where
   pub line-first : (address : ℕ) → Refused s ≡ lineChecked board work r address
   unfolding lineChecked
-  line-first address = then-refused (runningChecked board work r) (λ v. lineRows v work r address) s refused
+  line-first address = then-refused (runningChecked board work r) (λ v. lineRows v work r address ++ bufferRows v work r) s refused
 
   pub commit-first : Refused s ≡ commitChecked board work r
   unfolding commitChecked

@@ -7,7 +7,7 @@ use lib.ListN.{length}
 use Rattle.layout.specs.Limits.{boardVersion, lastEpoch, mostLines, mostEntries, mostSlots, bufferPlaces, mostAhead}
 use Rattle.layout.specs.Memory.{logAt, boardWords, workWords, slotsOf, controlIn, shapeIn, bufferIn}
 use Rattle.undo.specs.declared.LogState.{LogState}
-use Rattle.undo.specs.Log.{bufferProper}
+use Rattle.undo.specs.Log.{bufferProper, bufferMarked}
 use Rattle.slots.specs.declared.Bounds.{Bounds}
 use Rattle.checks.specs.declared.Registers.{Registers}
 use Rattle.checks.specs.declared.View.{View}
@@ -32,7 +32,7 @@ unfoldable pub goodShape : (words : ℕ) → View → Bool
 goodShape words v =
     leb logAt words && eqb (v .shape .version) boardVersion && goodSizes words (v .shape .lines) (v .shape .entries) && goodControl v
 
--- "2 work: work memory is not 2S + 64 words, S 1 to 256"
+-- "2 work: work memory is not" 2S + 128 "words, S 1 to 256"
 unfoldable pub goodWork : (words : ℕ) → Bool
 goodWork words = leb 1 (slotsOf words) && leb (slotsOf words) mostSlots && eqb words (workWords (slotsOf words))
 
@@ -63,3 +63,7 @@ undoOf v r = record { control = v .control; entries = v .shape .entries; buffere
 -- "7 buffer: a buffered entry is not proper"
 unfoldable pub goodBuffer : View → List ℕ → Registers → Bool
 goodBuffer v work r = bufferProper (bufferIn work) (r .buffered) (v .shape .lines) (r .epoch)
+
+-- request 3/13: "14 filter, a buffered entry with either bit unset"
+unfoldable pub goodFilter : List ℕ → Registers → Bool
+goodFilter work r = bufferMarked (bufferIn work) (r .buffered)

@@ -58,24 +58,32 @@ pub fn check_registers(view: View, registers: Registers) -> Checked
     Checked::Passed(view)
 }
 
-// 7.
+// 7 and 14. One pass tells that neither holds; only where one does, another tells which.
 pub fn check_buffer(view: View, work: &[u64], registers: Registers) -> Checked
     requires { ⌜ RowsReady (now work) registers view ⌝ }
     ensures { λ r. ⌜ r ≡ tested (bufferRows view (now (work .entry)) registers) view ⌝ }
 {
     let at = layout::buffer_at(work.len());
-    if !undo::is_buffer_proper(
+    if undo::is_buffer_sound(
         &work[at..],
         registers.buffered as usize,
         view.shape.lines,
         registers.epoch,
     ) {
-        return Checked::Refused(Status::Buffer);
+        return Checked::Passed(view);
     }
-    Checked::Passed(view)
+    if undo::is_buffer_proper(
+        &work[at..],
+        registers.buffered as usize,
+        view.shape.lines,
+        registers.epoch,
+    ) {
+        return Checked::Refused(Status::Filter);
+    }
+    Checked::Refused(Status::Buffer)
 }
 
-// 5, 6 and 7 of load, store and evict.
+// 5 and 6 of load, store and evict, which 7 and 14 stand behind.
 pub fn check_line(view: View, work: &[u64], registers: Registers, address: u64) -> Checked
     requires { ⌜ RowsReady (now work) registers view ⌝ }
     ensures { λ r. ⌜ r ≡ tested (lineRows view (now (work .entry)) registers address) view ⌝ }
@@ -86,7 +94,7 @@ pub fn check_line(view: View, work: &[u64], registers: Registers, address: u64) 
     if !slots::is_proper_for(work, view.bounds(registers), address) {
         return Checked::Refused(Status::Slot);
     }
-    check_buffer(view, work, registers)
+    Checked::Passed(view)
 }
 
 // 8 of store.

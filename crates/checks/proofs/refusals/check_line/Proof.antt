@@ -1,4 +1,4 @@
-use Rattle.checks.proofs.Rows.{line-outside, line-slot, line-buffer, bounds-spot}
+use Rattle.checks.proofs.Rows.{line-outside, line-slot, line-proper, bounds-spot}
 use borrow.Author.Needs.{needs}
 use Rattle.checks.proofs.refusals.check_line.Statement.{statement}
 use Rattle.checks.proofs.refusals.check_line.Tie as tie
@@ -15,19 +15,9 @@ is-proper-for-requires c κs = search (bounds-spot)
 returns-2 : tie.Need-returns-2
 returns-2 c = search (line-slot)
 
-check-buffer-requires : tie.Need-check-buffer-requires
-check-buffer-requires c κs = search needs
-
 returns-3 : tie.Need-returns-3
-returns-3 c = search (line-buffer)
+returns-3 c = search (line-proper)
 
 pub check-line-spec : {M : Type 1} → statement M
 check-line-spec =
-    tie.close
-    (tie.spec
-    returns
-    bounds-requires
-    is-proper-for-requires
-    returns-2
-    check-buffer-requires
-    returns-3)
+    tie.close (tie.spec returns bounds-requires is-proper-for-requires returns-2 returns-3)
