@@ -12,12 +12,12 @@ use Rattle.checks.specs.declared.Registers.{Registers}
 use Rattle.picl.specs.declared.Answer.{Answer}
 use Rattle.picl.specs.declared.Report.{Report}
 use Rattle.picl.specs.Answers.{Verdict}
-use Rattle.picl.specs.Calls.{formatReport, formatAfter, tallyReport}
+use Rattle.picl.specs.Calls.{formatReport, formatAfter}
 use Rattle.picl.specs.Contracts.{Answers, Formats}
 use Rattle.capi.specs.Places.{epochAt, bufferedAt, registerWords, answerWords, hasAnswer, hasPlaces}
 use Rattle.capi.specs.Contracts.{Gives, Reports}
 use Rattle.capi.specs.Crossing.{tooShort, back, crossing}
-use Rattle.capi.specs.Crossing.{reported, reporting, formatCrossing, tallyCrossing}
+use Rattle.capi.specs.Crossing.{reported, reporting, formatCrossing}
 
 pub buffered-within : (registers : List ℕ) (epoch : ℕ) → registerWords ≤ length registers → bufferedAt < length (set registers epochAt epoch)
 buffered-within registers epoch h = rw (length-set registers epochAt epoch) (omega arith)
@@ -77,5 +77,6 @@ module _ (answer answer′ : List ℕ) (t : Bool) (is : t ≡ hasAnswer answer) 
       reporting-made (formatReport board lines entries) board (formatAfter board lines entries) answer t is given board′ answer′ number lent
       (x .report) (x .board-left) gave
 
-  pub tally-made : (work : List ℕ) → given ≡ tallyReport work → reported number work answer′ ≡ tallyCrossing work answer
-  tally-made work x = reporting-made (tallyReport work) work work answer t is given work answer′ number lent x refl gave
+  -- tally and the number of filter bits
+  pub asked-made : (work : List ℕ) (told : Report) → given ≡ told → reported number work answer′ ≡ reporting told work work answer
+  asked-made work told x = reporting-made told work work answer t is given work answer′ number lent x refl gave

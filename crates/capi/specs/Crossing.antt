@@ -10,7 +10,7 @@ use Rattle.checks.specs.Registers.{zero}
 use Rattle.picl.specs.declared.Report.{Report}
 use Rattle.picl.specs.Answers.{Verdict, answerOf}
 use Rattle.board.specs.Verdict.{boardAfter, workAfter}
-use Rattle.picl.specs.Calls.{Call, verdictOf, powerUpVerdict, formatReport, formatAfter, tallyReport}
+use Rattle.picl.specs.Calls.{Call, verdictOf, powerUpVerdict, formatReport, formatAfter, tallyReport, filterBitsReport}
 use Rattle.records.specs.declared.Written.{Written}
 use Rattle.records.specs.Records.{recordBytes, written}
 use Rattle.capi.specs.Places.{hasAnswer, hasPlaces, hasRecordPlaces, readRegisters, writeRegisters, writeAnswer}
@@ -49,7 +49,7 @@ abbrev pub powerUpCrossing : (allowance : ℕ) → (board work registers answer 
 powerUpCrossing allowance board work registers answer =
     crossing allowance zero (powerUpVerdict board work) board work registers answer
 
--- "format and tally do neither" take nor return registers: the one memory that the call is lent, and the answer
+-- "format and tally do neither" take nor return registers, nor does the status question: the one memory that the call is lent, and the answer
 pub record Reported : Type 0 where
   pub number : ℕ
   pub memory : List ℕ
@@ -68,6 +68,9 @@ formatCrossing board answer lines entries =
 
 abbrev pub tallyCrossing : (work answer : List ℕ) → Reported
 tallyCrossing work answer = reporting (tallyReport work) work work answer
+
+abbrev pub filterBitsCrossing : (work answer : List ℕ) → Reported
+filterBitsCrossing work answer = reporting (filterBitsReport work) work work answer
 
 -- The writer of records: the first sixteen bytes, or the refusal and no byte touched. It has no value and makes no stores.
 unfoldable pub recordPut : (bytes : List ℕ) → Written → List ℕ

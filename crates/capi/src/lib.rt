@@ -7,7 +7,7 @@ mod recording;
 ghost use mathlib.Core.Path.{_≡_};
 ghost use Rattle.picl.specs.Calls as call;
 ghost use Rattle.capi.specs.Crossing.{back, callCrossing};
-ghost use Rattle.capi.specs.Crossing.{powerUpCrossing, reported, formatCrossing, tallyCrossing, recordCrossing};
+ghost use Rattle.capi.specs.Crossing.{powerUpCrossing, reported, formatCrossing, tallyCrossing, filterBitsCrossing, recordCrossing};
 use picl::Report;
 use places::TOO_SHORT;
 use places::give;
@@ -153,6 +153,17 @@ pub extern "C" fn picl_tally(work: &[u64], answer: &mut [u64]) -> u64
         return TOO_SHORT;
     }
     let counted = picl::tally(work);
+    report(answer, counted)
+}
+
+#[no_mangle]
+pub extern "C" fn picl_filter_bits(work: &[u64], answer: &mut [u64]) -> u64
+    ensures { λ r. ⌜ reported r (now (work .entry)) (now (answer .exit)) ≡ filterBitsCrossing (now (work .entry)) (now (answer .entry)) ⌝ }
+{
+    if !has_answer(answer) {
+        return TOO_SHORT;
+    }
+    let counted = picl::filter_bits(work);
     report(answer, counted)
 }
 

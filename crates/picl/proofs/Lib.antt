@@ -2,3 +2,4 @@ pub mod Finishing
 pub mod Passing
 pub mod Calling
 pub mod Waking
+pub mod Asking

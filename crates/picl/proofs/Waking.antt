@@ -1,20 +1,19 @@
--- Power-up, format and tally: one law for each way out of a function.
+-- Power-up and format: one law for each way out of a function.
 use Prim.Native.Nat.{ℕ, _+_, _-_, _*_, _<_, _≤_}
 use mathlib.Core.Path.{_≡_, refl, sym, ap, _∙_}
 use mathlib.Core.Bool.{Bool, true, false, not, _&&_}
 use mathlib.Core.List.{List}
-use native.Mathlib.Numerals.{add-one}
 use native.Mathlib.Omega.{arith}
 use borrow.Author.Tests.{lt-ltb, le-ltb, not-true, not-false}
-use lib.ListN.{length, getD, set, replicate, length-replicate}
+use lib.ListN.{length, set, replicate, length-replicate}
 use Rattle.base.specs.Tests.{held}
 use Rattle.base.specs.Walk.{first, first-all}
 use Rattle.board.specs.declared.Meter.{Meter}
 use Rattle.board.specs.Stores.{full, Ran}
 use Rattle.board.specs.Outcome.{ran-within}
 use Rattle.layout.specs.Limits.{lastEpoch, mostLines, mostEntries}
-use Rattle.layout.specs.Memory.{shapeAt, linesAt, boardWords, slotIn, slotsOf}
-use Rattle.layout.specs.Words.{ShapeFits, IsBit, bit, encodeShape, decodeSlot}
+use Rattle.layout.specs.Memory.{shapeAt, linesAt, boardWords}
+use Rattle.layout.specs.Words.{ShapeFits, encodeShape}
 use Rattle.status.specs.declared.Status.{Status}
 use Rattle.status.specs.declared.Status.the-variants as status
 use Rattle.undo.specs.declared.LogState.{LogState}
@@ -28,15 +27,14 @@ use Rattle.checks.specs.Contracts.{Shaped}
 use Rattle.checks.specs.Laws.{memories-shaped}
 use Rattle.checks.specs.Refusals.{memoriesChecked}
 use Rattle.checks.specs.Registers as registers
-use Rattle.checks.specs.View.{goodSizes, goodWork, undoOf}
+use Rattle.checks.specs.View.{goodSizes, undoOf}
 use Rattle.picl.specs.declared.Answer.{Answer}
 use Rattle.picl.specs.declared.Report.{Report}
 use Rattle.board.specs.Verdict.{due}
-use Rattle.picl.specs.Answers.{refusal, answerOf}
+use Rattle.picl.specs.Answers.{refusal}
 use Rattle.picl.specs.Calls.{wakeAt, wakeVerdict, powerUpVerdict, report, formatReport, formatAfter}
 use Rattle.layout.specs.Memory.{formatted, shapeFor}
-use Rattle.picl.specs.Calls.{dirtySlots, tallyVerdict, tallyReport}
-use Rattle.picl.specs.Contracts.{Answers, Formats, Finishes, CountsDirty}
+use Rattle.picl.specs.Contracts.{Answers, Formats, Finishes}
 use Rattle.picl.proofs.Finishing.{answers-refused, answers-due}
 
 -- power-up
@@ -142,46 +140,3 @@ module _ (board : List ℕ) (lines entries : ℕ) (t : Bool) (test : t ≡ goodS
       where
         words : length board ≡ boardWords lines entries
         words = words-of board lines entries sizes
-
--- tally
-pub dirty-counted : (work : List ℕ) (at r : ℕ) (t : Bool) → t ≡ decodeSlot (getD work at 0) .valid && decodeSlot (getD work at 0) .dirty → IsBit t r
-    → CountsDirty work at r
-dirty-counted work at r t e x = record { is = rw e at (x .is); most = omega (arith, x .below) }
-
--- the slots before a word's place
-pub record Counted (work : List ℕ) (slots at count : ℕ) : Type 0 where
-  pub slot : ℕ
-  pub here : at ≡ 2 * slot
-  pub within : slot ≤ slots
-  pub so-far : count ≡ dirtySlots work slot
-  pub most : count ≤ slot
-
-pub count-start : (work : List ℕ) (slots : ℕ) → Counted work slots 0 0
-unfolding dirtySlots
-count-start work slots = record { slot = 0; here = refl; within = omega arith; so-far = refl; most = omega arith }
-
-pub count-next : (work : List ℕ) (slots at count r : ℕ) → Counted work slots at count → at < 2 * slots → CountsDirty work at r
-    → Counted work slots (at + 2) (count + r)
-unfolding dirtySlots
-count-next work slots at count r c h x =
-    let e : r ≡ bit (slotIn work (c .slot) .valid && slotIn work (c .slot) .dirty) = rw (c .here) at (x .is) in
-    record {
-      slot = c .slot + 1;
-      here = omega (arith, c .here);
-      within = omega (arith, c .here);
-      so-far = rw (add-one, c .so-far, e);
-      most = omega (arith, c .most, x .most);
-    }
-
-pub count-end : (work : List ℕ) (slots at count : ℕ) → Counted work slots at count → 2 * slots ≤ at → count ≡ dirtySlots work slots
-count-end work slots at count c h = let e : c .slot ≡ slots = omega (arith, c .here, c .within) in rw e at (c .so-far)
-
-module _ (work : List ℕ) (t : Bool) (test : t ≡ goodWork (length work)) (r : Report) where
-  pub tally-refused : not t ≡ true → r ≡ report status.Work 0 → r ≡ tallyReport work
-  unfolding tallyReport tallyVerdict answerOf
-  tally-refused h x = rw (← test, not-true t h) x
-
-  pub tally-counted : (slots count : ℕ) → not t ≡ false → slots ≡ slotsOf (length work) → count ≡ dirtySlots work slots → r ≡ report status.Ok count
-      → r ≡ tallyReport work
-  unfolding tallyReport tallyVerdict answerOf
-  tally-counted slots count h e c x = rw (← test, not-false t h, ← e, ← c) x

@@ -5,11 +5,12 @@ use mathlib.Core.List.{List, []}
 use lib.Dec.{ltb}
 use lib.ListN.{length, replicate}
 use Rattle.layout.specs.declared.Shape.{Shape}
-use Rattle.layout.specs.Memory.{slotsOf, slotIn, dataIn, formatted}
+use Rattle.layout.specs.Memory.{slotsOf, slotIn, dataIn, bufferIn, formatted}
 use Rattle.layout.specs.Words.{bit}
 use Rattle.status.specs.declared.Status.{Status}
 use Rattle.status.specs.declared.Status.the-variants as status
 use Rattle.undo.specs.declared.LogState.{LogState}
+use Rattle.undo.specs.Filter.{bitsSet}
 use Rattle.undo.specs.Log.{firstImproper, recoverStores}
 use Rattle.slots.specs.declared.Spot.{Spot}
 use Rattle.slots.specs.Slots.{spotOf}
@@ -113,9 +114,16 @@ unfoldable pub dirtySlots : List ℕ → ℕ → ℕ
 dirtySlots work zero = 0
 dirtySlots work (suc k) = dirtySlots work k + bit (slotIn work k .valid && slotIn work k .dirty)
 
+-- a question about the work memory, which 2 alone refuses
+abbrev pub asked : (work : List ℕ) → Registers → (value : ℕ) → Verdict
+asked work r value = cond (goodWork (length work)) (due (unstored value r work)) (refused status.Work 0)
+
 unfoldable pub tallyVerdict : (work : List ℕ) → Registers → Verdict
-tallyVerdict work r =
-    cond (goodWork (length work)) (due (unstored (dirtySlots work (slotsOf (length work))) r work)) (refused status.Work 0)
+tallyVerdict work r = asked work r (dirtySlots work (slotsOf (length work)))
+
+-- request 3/13: "A status question gives the number of filter bits set, and refuses only by number 2"
+unfoldable pub filterBitsVerdict : (work : List ℕ) → Registers → Verdict
+filterBitsVerdict work r = asked work r (bitsSet (bufferIn work))
 
 -- ---- the calls of a controller that runs, with their arguments
 
@@ -126,6 +134,7 @@ pub data Call : Type 0 where
   commit : Call
   scan : Call
   tally : Call
+  filterBits : Call
 
 abbrev pub verdictOf : (board work : List ℕ) → Registers → Call → Verdict
 verdictOf board work r (load address) = loadVerdict board work r address
@@ -134,8 +143,9 @@ verdictOf board work r (evict address) = evictVerdict board work r address
 verdictOf board work r commit = commitVerdict board work r
 verdictOf board work r scan = scanVerdict board work r
 verdictOf board work r tally = tallyVerdict work r
+verdictOf board work r filterBits = filterBitsVerdict work r
 
--- ---- "format and tally do neither" take nor return registers: they report
+-- ---- "format and tally do neither" take nor return registers, and so does the status question: they report
 
 abbrev pub report : Status → (value : ℕ) → Report
 report why value = record { status = why; value = value; stores = 0 }
@@ -147,8 +157,14 @@ formatReport board lines entries = report (cond (goodSizes (length board) lines 
 unfoldable pub formatAfter : (board : List ℕ) → (lines entries : ℕ) → List ℕ
 formatAfter board lines entries = cond (goodSizes (length board) lines entries) (formatted lines entries) board
 
--- a tally owes no store, so that no allowance is too small for it
-unfoldable pub tallyReport : (work : List ℕ) → Report
-tallyReport work =
-    let a = answerOf 0 registers.zero (tallyVerdict work registers.zero) in
+-- a question owes no store, so that no allowance is too small for it: "it takes no allowance and reports 0"
+abbrev pub reportOf : Verdict → Report
+reportOf v =
+    let a = answerOf 0 registers.zero v in
     record { status = a .status; value = a .value; stores = a .stores }
+
+unfoldable pub tallyReport : (work : List ℕ) → Report
+tallyReport work = reportOf (tallyVerdict work registers.zero)
+
+unfoldable pub filterBitsReport : (work : List ℕ) → Report
+filterBitsReport work = reportOf (filterBitsVerdict work registers.zero)

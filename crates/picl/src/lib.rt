@@ -1,5 +1,5 @@
-// The PiCL cache log: format, power-up, load, store, evict, commit, scan and tally over two lent memories, the board's and the
-// work memory. Every call answers every input.
+// The PiCL cache log: format, power-up, load, store, evict, commit, scan, tally and the number of filter bits, over two lent memories, the
+// board's and the work memory. Every call answers every input.
 mod epochs;
 mod lines;
 mod memory;
@@ -16,6 +16,7 @@ pub use epochs::scan;
 pub use lines::evict;
 pub use lines::load;
 pub use lines::store;
+pub use memory::filter_bits;
 pub use memory::format;
 pub use memory::tally;
 use status::Status;

@@ -69,10 +69,16 @@ fn load_running(
     requires { ⌜ Passed view ≡ runningChecked (now board) (now work) registers ⌝ }
     ensures { λ r. ⌜ Calls (call.load address) allowance registers (now (board .entry)) (now (work .entry)) (now (board .exit)) (now (work .exit)) r ⌝ }
 {
-    let checked = checks::check_line(view, work, registers, address);
-    match checked {
+    let named = checks::check_line(view, work, registers, address);
+    match named {
         Checked::Refused(status) => refusal(status, 0, registers),
-        Checked::Passed(_) => load_passed(board, work, registers, address, view, allowance),
+        Checked::Passed(_) => {
+            let buffered = checks::check_buffer(view, work, registers);
+            match buffered {
+                Checked::Refused(status) => refusal(status, 0, registers),
+                Checked::Passed(_) => load_passed(board, work, registers, address, view, allowance),
+            }
+        }
     }
 }
 
@@ -192,10 +198,24 @@ fn store_running(
     requires { ⌜ Passed view ≡ runningChecked (now board) (now work) registers ⌝ }
     ensures { λ r. ⌜ Calls (call.store address value) allowance registers (now (board .entry)) (now (work .entry)) (now (board .exit)) (now (work .exit)) r ⌝ }
 {
-    let checked = checks::check_line(view, work, registers, address);
-    match checked {
+    let named = checks::check_line(view, work, registers, address);
+    match named {
         Checked::Refused(status) => refusal(status, 0, registers),
-        Checked::Passed(_) => store_named(board, work, registers, address, value, view, allowance),
+        Checked::Passed(_) => {
+            let buffered = checks::check_buffer(view, work, registers);
+            match buffered {
+                Checked::Refused(status) => refusal(status, 0, registers),
+                Checked::Passed(_) => store_named(
+                    board,
+                    work,
+                    registers,
+                    address,
+                    value,
+                    view,
+                    allowance,
+                ),
+            }
+        }
     }
 }
 
@@ -275,10 +295,23 @@ fn evict_running(
     requires { ⌜ Passed view ≡ runningChecked (now board) (now work) registers ⌝ }
     ensures { λ r. ⌜ Calls (call.evict address) allowance registers (now (board .entry)) (now (work .entry)) (now (board .exit)) (now (work .exit)) r ⌝ }
 {
-    let checked = checks::check_line(view, work, registers, address);
-    match checked {
+    let named = checks::check_line(view, work, registers, address);
+    match named {
         Checked::Refused(status) => refusal(status, 0, registers),
-        Checked::Passed(_) => evict_passed(board, work, registers, address, view, allowance),
+        Checked::Passed(_) => {
+            let buffered = checks::check_buffer(view, work, registers);
+            match buffered {
+                Checked::Refused(status) => refusal(status, 0, registers),
+                Checked::Passed(_) => evict_passed(
+                    board,
+                    work,
+                    registers,
+                    address,
+                    view,
+                    allowance,
+                ),
+            }
+        }
     }
 }
 

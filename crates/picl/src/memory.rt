@@ -1,10 +1,10 @@
-// Format and tally: each reads or writes one of the two memories, without registers or an allowance.
+// Format, tally and the number of filter bits: each reads or writes one of the two memories, without registers or an allowance.
 ghost use Prim.Native.Nat.{_+_, _*_, _<_, _≤_};
 ghost use lib.ListN.{length};
 ghost use mathlib.Core.Path.{_≡_};
 ghost use Rattle.status.specs.declared.Status.the-variants as status;
 ghost use Rattle.layout.specs.Memory.{slotWords};
-ghost use Rattle.picl.specs.Calls.{report as reported, dirtySlots, tallyReport};
+ghost use Rattle.picl.specs.Calls.{report as reported, dirtySlots, tallyReport, filterBitsReport};
 ghost use Rattle.picl.specs.Contracts.{Formats, CountsDirty};
 use crate::Report;
 use layout::BOARD_VERSION;
@@ -62,6 +62,17 @@ fn count_dirty(work: &[u64], slots: usize) -> u64
         at += SLOT_WORDS;
     }
     count
+}
+
+// The number of bits that are set in the undo buffer's filter.
+pub fn filter_bits(work: &[u64]) -> Report
+    ensures { λ r. ⌜ r ≡ filterBitsReport (now (work .entry)) ⌝ }
+{
+    if !checks::is_good_work(work.len()) {
+        return reporting(Status::Work, 0);
+    }
+    let at = layout::buffer_at(work.len());
+    reporting(Status::Ok, undo::bits_set(&work[at..]))
 }
 
 // The number of dirty lines that the cache holds.

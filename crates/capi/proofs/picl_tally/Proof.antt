@@ -1,4 +1,4 @@
-use Rattle.capi.proofs.Laws.{answer-tested, reporting-short, tally-made}
+use Rattle.capi.proofs.Laws.{answer-tested, reporting-short, asked-made}
 use borrow.Author.Needs.{needs}
 use Rattle.capi.proofs.picl_tally.Statement.{statement}
 use Rattle.capi.proofs.picl_tally.Tie as tie
@@ -22,7 +22,7 @@ same-length-2 : tie.Need-same-length-2
 same-length-2 c = search needs
 
 returns-2 : tie.Need-returns-2
-returns-2 c = search (tally-made)
+returns-2 c = search (asked-made)
 
 pub picl-tally-spec : {M : Type 1} → statement M
 picl-tally-spec =

@@ -1,6 +1,6 @@
 use borrow.Author.Needs.{needs}
 use Prim.Native.Nat.{_*_, _-_}
-use Rattle.picl.proofs.Waking.{Counted, count-start, count-next, count-end}
+use Rattle.picl.proofs.Asking.{Counted, count-start, count-next, count-end}
 use Rattle.picl.proofs.memory.count_dirty.Statement.{statement}
 use Rattle.picl.proofs.memory.count_dirty.Tie as tie
 

@@ -1,4 +1,4 @@
-use Rattle.picl.proofs.Waking.{dirty-counted}
+use Rattle.picl.proofs.Asking.{dirty-counted}
 use borrow.Author.Needs.{needs}
 use Rattle.picl.proofs.memory.dirty_at.Statement.{statement}
 use Rattle.picl.proofs.memory.dirty_at.Tie as tie

@@ -1,4 +1,5 @@
-use Rattle.picl.proofs.Waking.{tally-refused, tally-counted}
+use Rattle.picl.proofs.Asking.{asked-refused, tally-counted}
+use Rattle.picl.specs.Calls.{tallyVerdict, tallyReport}
 use borrow.Author.Needs.{needs}
 use Rattle.picl.proofs.memory.tally.Statement.{statement}
 use Rattle.picl.proofs.memory.tally.Tie as tie
@@ -10,7 +11,8 @@ reporting-requires : tie.Need-reporting-requires
 reporting-requires c κs = search needs
 
 returns : tie.Need-returns
-returns c = search (tally-refused)
+unfolding tallyReport tallyVerdict
+returns c = search (asked-refused)
 
 slots-of-requires : tie.Need-slots-of-requires
 slots-of-requires c κs = search needs
