@@ -23,7 +23,7 @@ use Rattle.checks.specs.View.{viewOf, goodWork, undoOf}
 use Rattle.picl.specs.Answers.{Outcome, Verdict, success, cutOff, answerOf}
 use Rattle.board.specs.Verdict.{refused, due}
 use Rattle.picl.specs.Calls as calls
-use Rattle.picl.specs.Calls.{Call, verdictOf, tallyVerdict, judged, loadAt, loadOutcome, loadVerdict, storeAt, storeOutcome, storeVerdict}
+use Rattle.picl.specs.Calls.{Call, verdictOf, asked, tallyVerdict, filterBitsVerdict, judged, loadAt, loadOutcome, loadVerdict, storeAt, storeOutcome, storeVerdict}
 use Rattle.steps.specs.Effects.{scanTarget}
 use Rattle.picl.specs.Calls.{evictAt, evictOutcome, evictVerdict, commitOutcome, commitVerdict, scanOutcome, scanVerdict}
 use Rattle.picl.specs.Calls.{wakeJudged, wakeAt, wakeVerdict, powerUpVerdict}
@@ -101,18 +101,21 @@ module _ (board work : List ℕ) (r : Registers) where
       (omega (arith, most, visiting-cost (undoOf v r) work (r .cursor) target))
       (omega (arith, most, persisting-most board (undoOf v r) work target)))
 
-  tally-bounded : Bounded mostStores (tallyVerdict work r)
-  unfolding tallyVerdict
-  tally-bounded = either (Bounded mostStores) (goodWork (length work)) (due-bounded mostStores _ (omega arith)) (refused-bounded mostStores _ 0)
+  -- tally and the number of filter bits
+  asked-bounded : (value : ℕ) → Bounded mostStores (asked work r value)
+  asked-bounded value =
+      either (Bounded mostStores) (goodWork (length work)) (due-bounded mostStores _ (omega arith)) (refused-bounded mostStores _ 0)
 
   -- "No call but format and power-up"
   pub call-bounded : (c : Call) → Bounded mostStores (verdictOf board work r c)
+  unfolding tallyVerdict filterBitsVerdict
   call-bounded (calls.load address) = load-bounded address
   call-bounded (calls.store address value) = store-bounded address value
   call-bounded (calls.evict address) = evict-bounded address
   call-bounded calls.commit = commit-bounded
   call-bounded calls.scan = scan-bounded
-  call-bounded calls.tally = tally-bounded
+  call-bounded calls.tally = asked-bounded _
+  call-bounded calls.filterBits = asked-bounded _
 
 pub power-up-bounded : (board work : List ℕ) → Bounded (controlIn board .length + 1) (powerUpVerdict board work)
 unfolding powerUpVerdict wakeVerdict wakeAt viewOf

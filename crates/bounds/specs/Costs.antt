@@ -18,7 +18,8 @@ use Rattle.layout.specs.Memory.{controlAt, logAt, bufferIn, slotIn, dataIn}
 use Rattle.layout.specs.Words.{encodeControl}
 use Rattle.undo.specs.declared.LogState.{LogState}
 use Rattle.undo.specs.Entries.{covers}
-use Rattle.undo.specs.Log.{buffers, entryIn, counted, entryStores, flushed, flushStores, advanceStores}
+use Rattle.undo.specs.Filter.{hits}
+use Rattle.undo.specs.Log.{entryIn, counted, entryStores, flushed, flushStores, advanceStores}
 use Rattle.undo.specs.Log.{restoreStores, restoreTurn, recoverStores}
 use Rattle.slots.specs.declared.Spot.{Spot}
 use Rattle.steps.specs.Effects.{Effect, nothing, flushing, flushingIf, writingOut, writingBack, emptying, bringing, loading}
@@ -67,7 +68,7 @@ flushing-cost due u work = either (Costs 0 u) due (omega (arith, flush-cost u (b
 writing-cost : (u : LogState) (work : List ℕ) (address value : ℕ) → Costs 1 u (writingOut u work address value)
 unfolding writingOut
 writing-cost u work address value =
-    rw length-append (omega (arith, flushing-cost (buffers (bufferIn work) (u .buffered) address) u work))
+    rw length-append (omega (arith, flushing-cost (hits (bufferIn work) (u .buffered) address) u work))
 
 emptying-cost : (u : LogState) (work : List ℕ) (k : ℕ) → Costs 1 u (emptying u work k)
 unfolding emptying writingBack

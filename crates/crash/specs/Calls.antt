@@ -15,7 +15,8 @@ use Rattle.board.specs.Stores.{applied}
 use Rattle.layout.specs.Words.{bit}
 use Rattle.status.specs.declared.Status.the-variants as status
 use Rattle.undo.specs.declared.LogState.{LogState}
-use Rattle.undo.specs.Log.{buffers, counted, flushed}
+use Rattle.undo.specs.Filter.{hits}
+use Rattle.undo.specs.Log.{counted, flushed}
 use Rattle.slots.specs.declared.Bounds.{Bounds}
 use Rattle.slots.specs.declared.Spot.{Spot}
 use Rattle.steps.specs.Effects.{Effect, nothing, flushing, flushingIf, writingOut, emptying, entryFor, logged, bringing, storingHeld, loading}
@@ -108,7 +109,7 @@ unfolding visiting cleaning writingOut
 visiting-fewer u work k target = go (slotIn work k .dirty && eqb (slotIn work k .tag) target)
   where
     go : (t : Bool) → Fewer u (cond t (cleaning u work k) (nothing u work) .undo)
-    go true = flush-fewer (buffers (bufferIn work) (u .buffered) (slotIn work k .address)) u work
+    go true = flush-fewer (hits (bufferIn work) (u .buffered) (slotIn work k .address)) u work
     go false = same-fewer u
 
 persisting-none : (board work : List ℕ) (u : LogState) (target : ℕ) → persisting board u work target .undo .buffered ≡ 0

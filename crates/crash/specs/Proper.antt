@@ -18,15 +18,16 @@ use Rattle.checks.specs.declared.Checked.the-variants.{Refused, Passed}
 use Rattle.checks.specs.declared.Registers.{Registers}
 use Rattle.checks.specs.declared.View.{View}
 use Rattle.checks.specs.Refusals.{then, roomRows, boardChecked, memoriesChecked, runningChecked, lineChecked, storeChecked, commitChecked, scanChecked}
-use Rattle.checks.specs.View.{viewOf, boundsOf, goodShape, goodWork, properEpoch, properCounts, properRegisters, goodBuffer}
+use Rattle.checks.specs.View.{viewOf, boundsOf, goodShape, goodWork, properEpoch, properCounts, properRegisters, goodBuffer, goodFilter}
 use Rattle.reference.specs.Machine.{Reference}
 use Rattle.history.specs.Lines.{entries-proper}
 use Rattle.volatile.specs.Buffer.{entries-buffer-proper}
+use Rattle.volatile.specs.Filter.{Exact, exact-marked}
 use Rattle.picl.specs.Answers as picl
 use Rattle.board.specs.Verdict.{refused, due}
 use Rattle.picl.specs.Answers.{success, cutOff, answerOf}
 use Rattle.picl.specs.Calls as calls
-use Rattle.picl.specs.Calls.{Call, tallyVerdict, judged, loadOutcome, loadVerdict, storeOutcome, storeVerdict, evictOutcome, evictVerdict, commitOutcome, commitVerdict}
+use Rattle.picl.specs.Calls.{Call, asked, tallyVerdict, filterBitsVerdict, judged, loadOutcome, loadVerdict, storeOutcome, storeVerdict, evictOutcome, evictVerdict, commitOutcome, commitVerdict}
 use Rattle.picl.specs.Calls.{scanOutcome, scanVerdict}
 use Rattle.crash.specs.Statement.{call, Machine, Both, made, Awake, Expected, ok, address, room, waiting, last, none, cut}
 use Rattle.crash.specs.State.{Up, Holds, is-up, is-down}
@@ -124,11 +125,16 @@ module _ {N L : ℕ} {m : Machine} {g : Reference} (up : Up N L m g) where
       entries-buffer-proper (bufferIn (m .work)) (r .buffered) (v .shape .lines) (r .epoch) mostAhead _ (up .ok .durable .log)
       (entries-proper (up .ok .live))
 
+  -- 14
+  filtered : goodFilter (m .work) r ≡ true
+  unfolding goodFilter
+  filtered = exact-marked (bufferIn (m .work)) (r .buffered) (up .ok .filter)
+
   -- ---- the answers
 
   line-answered : (a k : ℕ) (f : View → picl.Outcome) → Expected (answerOf k r (judged (lineChecked (m .board) (m .work) r a) f) .status)
   unfolding lineChecked runningChecked memoriesChecked boardChecked
-  line-answered a k f = rw (shaped, worked, proper, home a, buffered) (go (leb (v .shape .lines) a))
+  line-answered a k f = rw (shaped, worked, proper, home a, buffered, filtered) (go (leb (v .shape .lines) a))
     where
       go : (t : Bool) → Expected (answerOf k r (judged (cond t (Refused status.Address) (Passed v)) f) .status)
       go true = refusal-answered k r status.Address address
@@ -139,7 +145,7 @@ module _ {N L : ℕ} {m : Machine} {g : Reference} (up : Up N L m g) where
 
   store-answered : (a k : ℕ) (f : View → picl.Outcome) → Expected (answerOf k r (judged (storeChecked (m .board) (m .work) r a) f) .status)
   unfolding storeChecked lineChecked runningChecked memoriesChecked boardChecked
-  store-answered a k f = rw (shaped, worked, proper, home a, buffered) (go (leb (v .shape .lines) a) (crowded a) refl)
+  store-answered a k f = rw (shaped, worked, proper, home a, buffered, filtered) (go (leb (v .shape .lines) a) (crowded a) refl)
     where
       go : (t c : Bool) → crowded a ≡ c
           → Expected (answerOf k r (judged (then (cond t (Refused status.Address) (Passed v)) (λ w. roomRows w (m .work) r a)) f) .status)
@@ -150,7 +156,7 @@ module _ {N L : ℕ} {m : Machine} {g : Reference} (up : Up N L m g) where
   commit-answered : (k : ℕ) (f : View → picl.Outcome) → Expected (answerOf k r (judged (commitChecked (m .board) (m .work) r) f) .status)
   unfolding commitChecked runningChecked memoriesChecked boardChecked
   commit-answered k f =
-      rw (shaped, worked, proper, buffered) (go (eqb (r .epoch - v .control .persisted) mostAhead) (eqb (r .epoch) lastEpoch))
+      rw (shaped, worked, proper, buffered, filtered) (go (eqb (r .epoch - v .control .persisted) mostAhead) (eqb (r .epoch) lastEpoch))
     where
       go : (t c : Bool)
           → Expected (answerOf k r (judged (cond t (Refused status.Waiting) (cond c (Refused status.Last) (Passed v))) f) .status)
@@ -167,7 +173,7 @@ module _ {N L : ℕ} {m : Machine} {g : Reference} (up : Up N L m g) where
 
   scan-answered : (k : ℕ) (f : View → picl.Outcome) → Expected (answerOf k r (judged (scanChecked (m .board) (m .work) r) f) .status)
   unfolding scanChecked runningChecked memoriesChecked boardChecked
-  scan-answered k f = rw (shaped, worked, proper, cursor-proper, buffered) (go (eqb (r .epoch) (v .control .persisted + 1)))
+  scan-answered k f = rw (shaped, worked, proper, cursor-proper, buffered, filtered) (go (eqb (r .epoch) (v .control .persisted + 1)))
     where
       go : (t : Bool) → Expected (answerOf k r (judged (cond t (Refused status.None) (Passed v)) f) .status)
       go true = refusal-answered k r status.None none
@@ -177,7 +183,7 @@ module _ {N L : ℕ} {m : Machine} {g : Reference} (up : Up N L m g) where
   store-full : (a k : ℕ) (f : View → picl.Outcome) → answerOf k r (judged (storeChecked (m .board) (m .work) r a) f) .status ≡ status.Room
       → v .control .length + r .buffered ≡ L
   unfolding storeChecked lineChecked runningChecked memoriesChecked boardChecked
-  store-full a k f = rw (shaped, worked, proper, home a, buffered) (go (leb (v .shape .lines) a) (crowded a) refl)
+  store-full a k f = rw (shaped, worked, proper, home a, buffered, filtered) (go (leb (v .shape .lines) a) (crowded a) refl)
     where
       go : (t c : Bool) → crowded a ≡ c
           → answerOf k r (judged (then (cond t (Refused status.Address) (Passed v)) (λ w. roomRows w (m .work) r a)) f) .status ≡ status.Room
@@ -191,18 +197,22 @@ module _ {N L : ℕ} {m : Machine} {g : Reference} (up : Up N L m g) where
       go true false e = λ same. absurd (refusal-not-room k r same)
       go false false e = rw e (λ same. absurd (due-not-room k r (f v) same))
 
-  tally-expected : (k : ℕ) → Expected (answerOf k r (tallyVerdict (m .work) r) .status)
-  unfolding tallyVerdict
-  tally-expected k = rw worked (due-answered k r _)
+  asked-expected : (value k : ℕ) → Expected (answerOf k r (asked (m .work) r value) .status)
+  asked-expected value k = rw worked (due-answered k r _)
 
   pub call-expected : (c : Call) (k : ℕ) → Expected (made m (call c k) .status)
-  unfolding made loadVerdict storeVerdict evictVerdict commitVerdict scanVerdict
+  unfolding made loadVerdict storeVerdict evictVerdict commitVerdict scanVerdict tallyVerdict filterBitsVerdict
   call-expected (calls.load a) k = line-answered a k (loadOutcome (m .board) (m .work) r a)
   call-expected (calls.store a w) k = store-answered a k (storeOutcome (m .board) (m .work) r a w)
   call-expected (calls.evict a) k = line-answered a k (evictOutcome (m .work) r a)
   call-expected calls.commit k = commit-answered k (λ w. commitOutcome (m .work) r)
   call-expected calls.scan k = scan-answered k (scanOutcome (m .board) (m .work) r)
-  call-expected calls.tally k = tally-expected k
+  call-expected calls.tally k = asked-expected _ k
+  call-expected calls.filterBits k = asked-expected _ k
+
+  -- the filter is exactly the bits of the buffered entries
+  pub filter-exact : Exact (bufferIn (m .work)) (r .buffered)
+  filter-exact = up .ok .filter
 
   pub room-full : (a w k : ℕ) → made m (call (calls.store a w) k) .status ≡ status.Room
       → controlIn (m .board) .length + m .registers .buffered ≡ L

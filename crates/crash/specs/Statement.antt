@@ -7,13 +7,14 @@ use mathlib.Core.List.{List, [], _∷_}
 use lib.Dec.{eqb}
 use lib.ListN.{length, getD}
 use Rattle.board.specs.Verdict.{boardAfter, workAfter}
-use Rattle.layout.specs.Limits.{lastEpoch, mostLines, mostEntries}
-use Rattle.layout.specs.Memory.{linesAt, boardWords, shapeFor, slotsOf, controlIn, shapeIn}
+use Rattle.layout.specs.Limits.{lastEpoch, mostLines, mostEntries, filterSize}
+use Rattle.layout.specs.Memory.{linesAt, boardWords, shapeFor, slotsOf, controlIn, shapeIn, bufferIn}
 use Rattle.status.specs.declared.Status.{Status}
 use Rattle.status.specs.declared.Status.the-variants as status
 use Rattle.status.specs.Numbers.{numberOf}
 use Rattle.undo.specs.declared.LogState.{LogState}
-use Rattle.undo.specs.Log.{properAt}
+use Rattle.undo.specs.Filter.{isSet}
+use Rattle.undo.specs.Log.{properAt, isBitBuffered}
 use Rattle.checks.specs.declared.Registers.{Registers}
 use Rattle.checks.specs.Registers.{zero}
 use Rattle.checks.specs.View.{goodWork}
@@ -24,8 +25,8 @@ use Rattle.reference.specs.Machine.{Reference, resting, Event, stored, committe
 
 -- ---- the calls of a list
 
--- "every list of loads, stores, evictions, commits, scan calls, tallies and power-ups". The allowance is the cut point, and may be any
--- number; "A power-up may be lent any work memory."
+-- "every list of loads, stores, evictions, commits, scan calls, tallies and power-ups", and "A call on the board that document 02 adds joins
+-- the list": the status question of 3/13. The allowance is the cut point, and may be any number; "A power-up may be lent any work memory."
 pub data Step : Type 0 where
   call : Call → (allowance : ℕ) → Step
   powerUp : (lent : List ℕ) (allowance : ℕ) → Step
@@ -66,6 +67,7 @@ seenCall (calls.evict a) value = nothing
 seenCall calls.commit value = committed
 seenCall calls.scan value = scanned value
 seenCall calls.tally value = nothing
+seenCall calls.filterBits value = nothing
 
 abbrev pub seen : Step → (value : ℕ) → Event
 seen (call c k) value = seenCall c value
@@ -162,7 +164,7 @@ Persists s =
 abbrev pub Awake : Both → Type 0
 Awake s = s .machine .registers .epoch ≡ 0 → ⊥
 
--- the answers of a controller that is awake: shape, work, registers, slots and buffer are never at fault
+-- the answers of a controller that is awake: shape, work, registers, slots, buffer and filter are never at fault
 pub data Expected : Status → Type 0 where
   ok : Expected status.Ok
   address : Expected status.Address
@@ -206,6 +208,9 @@ pub record Consistent (N L : ℕ) (s : Both) : Type 0 where
   -- .. and "8 room" only where the log and what is buffered for it fill all L entries
   pub full : Awake s → (a v k : ℕ) → made (s .machine) (call (calls.store a v) k) .status ≡ status.Room
       → controlIn (s .machine .board) .length + s .machine .registers .buffered ≡ L
+  -- and, of request 3/13, the filter is exactly the bits of the buffered entries
+  pub filter-exact : Awake s → (i : ℕ) → i < filterSize
+      → isSet (bufferIn (s .machine .work)) i ≡ isBitBuffered (bufferIn (s .machine .work)) (s .machine .registers .buffered) i
 
 -- "Demand 3 is one claim about the whole list."
 abbrev pub Demand3 : Type 0

@@ -19,12 +19,12 @@ use Rattle.checks.specs.Refusals.{boardChecked, memoriesChecked, runningChecked
 use Rattle.checks.specs.View.{viewOf, goodWork}
 use Rattle.picl.specs.Answers.{Outcome, answerOf}
 use Rattle.picl.specs.Calls as calls
-use Rattle.picl.specs.Calls.{Call, verdictOf, judged, dirtySlots, tallyVerdict}
+use Rattle.picl.specs.Calls.{Call, verdictOf, judged, asked, tallyVerdict, filterBitsVerdict}
 use Rattle.picl.specs.Calls.{loadOutcome, loadVerdict, storeOutcome, storeVerdict, evictOutcome, evictVerdict, commitOutcome, commitVerdict}
 use Rattle.picl.specs.Calls.{scanOutcome, scanVerdict}
-use Rattle.reference.specs.Machine.{Reference}
+use Rattle.reference.specs.Machine.{Reference, nothing}
 use Rattle.refine.specs.Along.{along-none}
-use Rattle.crash.specs.Statement.{call, Machine, answered, made}
+use Rattle.crash.specs.Statement.{call, Machine, answered, made, seenCall}
 use Rattle.crash.specs.State.{Holds, is-up, is-down}
 use Rattle.crash.specs.Fares.{Refuses, tested-refuses, then-refuses, Fares, refuses, goes, Kept, fares-kept}
 use Rattle.crash.specs.Calls.{down-stays, load-goes, load-up-value, store-goes, evict-goes, commit-goes, scan-goes}
@@ -42,7 +42,7 @@ module _ (board work : List ℕ) (r : Registers) where
 
   line-refuses : (a : ℕ) → Refuses (lineChecked board work r a)
   unfolding lineChecked
-  line-refuses a = then-refuses (runningChecked board work r) (λ v. lineRows v work r a) running-refuses (λ v. refl)
+  line-refuses a = then-refuses (runningChecked board work r) (λ v. lineRows v work r a ++ bufferRows v work r) running-refuses (λ v. refl)
 
   store-refuses : (a : ℕ) → Refuses (storeChecked board work r a)
   unfolding storeChecked
@@ -127,25 +127,27 @@ module _ {N L : ℕ} {m : Machine} {g : Reference} (h : Holds N L m g) where
           let same = scan-running board work r v (sym e) .shaped .is in
           rw same (scan-goes u (rw same at (scan-waiting board work r v (sym e))))
 
-  -- a tally leaves all as it is, with the current on or off
-  tally-fares : Fares N L m g calls.tally (tallyVerdict work r)
-  unfolding tallyVerdict applied
-  tally-fares = go (goodWork (length work))
+  -- a question leaves all as it is, with the current on or off
+  asked-fares : (c : Call) (value : ℕ) → seenCall c value ≡ nothing → Fares N L m g c (asked work r value)
+  unfolding applied
+  asked-fares c value unseen = go (goodWork (length work))
     where
-      counted : Outcome
-      counted = record { value = dirtySlots work (slotsOf (length work)); registers = r; work = work; stores = [] }
+      told : Outcome
+      told = record { value = value; registers = r; work = work; stores = [] }
 
-      go : (t : Bool) → Fares N L m g calls.tally (cond t (due counted) (refused status.Work 0))
-      go true = goes counted (along-none N L board g) h refl (omega arith)
+      go : (t : Bool) → Fares N L m g c (cond t (due told) (refused status.Work 0))
+      go true = goes told (along-none N L board g) (rw unseen h) refl (rw unseen (omega arith))
       go false = refuses status.Work 0 refl
 
   call-fares : (c : Call) → Fares N L m g c (verdictOf board work r c)
+  unfolding tallyVerdict filterBitsVerdict
   call-fares (calls.load a) = load-fares a
   call-fares (calls.store a value) = store-fares a value
   call-fares (calls.evict a) = evict-fares a
   call-fares calls.commit = commit-fares
   call-fares calls.scan = scan-fares
-  call-fares calls.tally = tally-fares
+  call-fares calls.tally = asked-fares calls.tally _ refl
+  call-fares calls.filterBits = asked-fares calls.filterBits _ refl
 
   pub call-kept : (c : Call) (k : ℕ) → Kept N L m g c k (made m (call c k))
   unfolding made

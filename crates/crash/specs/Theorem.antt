@@ -13,7 +13,7 @@ use Rattle.crash.specs.Power.{log-proper-of, power-up-lines-of, power-up
 use Rattle.crash.specs.Format.{formatted-rests}
 use Rattle.crash.specs.Runs.{run-holds, start-holds}
 use Rattle.crash.specs.Progress.{persisted-risen}
-use Rattle.crash.specs.Proper.{awake-up, call-expected, room-full}
+use Rattle.crash.specs.Proper.{awake-up, call-expected, room-full, filter-exact}
 
 same-epoch : {N L : ℕ} (s : Both) → Holds N L (s .machine) (s .reference) → persistedOn (s .machine .board) ≡ s .reference .persisted
 same-epoch s h =
@@ -38,6 +38,7 @@ consistent {N} {L} s h =
           (p, rw (same-epoch s h, same-epoch (run s xs) (run-holds s h xs)) p);
       answers = λ awake c k. call-expected (awake-up s h awake) c k;
       full = λ awake a v k. room-full (awake-up s h awake) a v k;
+      filter-exact = λ awake. filter-exact (awake-up s h awake);
     }
 
 pub demand-3 : Demand3

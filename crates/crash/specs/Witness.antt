@@ -17,11 +17,12 @@ use Rattle.layout.specs.Words.{encodeEntry}
 use Rattle.status.specs.declared.Status.the-variants as status
 use Rattle.undo.specs.Entries.{covers, properEntry, properBuffered}
 use Rattle.undo.specs.Log.{placeOf, entryIn, oldIn, olderTill, properAt, firstImproper, bufferedIn, bufferedProper, bufferProper}
-use Rattle.undo.specs.Log.{elsewhere, buffers, pushed, entryStores, flushed, flushStores, flushedBuffer, expired, dropped, advanceStores}
+use Rattle.undo.specs.Filter.{firstBit, secondBit, isSet, withBit, marking, marks, hits}
+use Rattle.undo.specs.Log.{bufferedMarked, bufferMarked, pushed, entryStores, flushed, flushStores, flushedBuffer, expired, dropped, advanceStores}
 use Rattle.undo.specs.Log.{restoreStores, restoreTurn, recoverStores}
 use Rattle.slots.specs.Slots as slots
 use Rattle.steps.specs.Effects as steps
-use Rattle.checks.specs.View.{viewOf, goodSizes, goodControl, goodShape, goodWork, properEpoch, properCounts, properRegisters, goodBuffer}
+use Rattle.checks.specs.View.{viewOf, goodSizes, goodControl, goodShape, goodWork, properEpoch, properCounts, properRegisters, goodBuffer, goodFilter}
 use Rattle.checks.specs.Refusals.{boardChecked, memoriesChecked, runningChecked, lineChecked, storeChecked, commitChecked, scanChecked}
 use Rattle.picl.specs.Answers.{answerOf}
 use Rattle.picl.specs.Calls as calls
@@ -95,12 +96,12 @@ pub met : Met
 unfolding update firstFrom applied each shifted boardAfter workAfter width pack unpack formatted withBuffer
     encode decode
     covers properEntry properBuffered placeOf entryIn oldIn olderTill properAt firstImproper bufferedIn bufferedProper bufferProper
-    elsewhere buffers pushed entryStores flushed flushStores flushedBuffer expired dropped advanceStores restoreStores restoreTurn recoverStores
+    firstBit secondBit isSet withBit marking marks hits bufferedMarked bufferMarked pushed entryStores flushed flushStores flushedBuffer expired dropped advanceStores restoreStores restoreTurn recoverStores
     slots.homeOf slots.properTag slots.properFull slots.properSlot slots.properAt slots.properFor slots.holds slots.spotOf slots.zeroed
     slots.filled slots.dirtied slots.cleaned slots.entryDue slots.undoDue
     steps.flushingIf steps.writingOut steps.writingBack steps.emptying steps.lineIn steps.bringing steps.entryFor steps.logged
     steps.storingHeld steps.loading steps.storing steps.evicting steps.cleaning steps.visiting steps.persisting
-    viewOf goodSizes goodControl goodShape goodWork properEpoch properCounts properRegisters goodBuffer
+    viewOf goodSizes goodControl goodShape goodWork properEpoch properCounts properRegisters goodBuffer goodFilter
     boardChecked memoriesChecked runningChecked lineChecked storeChecked commitChecked scanChecked answerOf
     calls.storeAt calls.storeOutcome calls.storeVerdict calls.evictAt calls.evictOutcome calls.evictVerdict calls.commitOutcome
     calls.commitVerdict calls.scanOutcome calls.scanVerdict calls.wakeAt calls.wakeVerdict calls.powerUpVerdict

@@ -10,7 +10,7 @@ use Rattle.layout.specs.Memory.{bufferIn, slotIn, dataIn}
 use Rattle.board.specs.Stores.{applied}
 use Rattle.undo.specs.declared.LogState.{LogState}
 use Rattle.undo.specs.Log as undo
-use Rattle.undo.specs.Log.{buffers}
+use Rattle.undo.specs.Filter.{hits}
 use Rattle.slots.specs.declared.Bounds.{Bounds}
 use Rattle.steps.specs.Effects.{nothing, flushingIf, writingOut, writingBack, emptying}
 use Rattle.slots.specs.Slots.{holds, cleanSlot, dirtySlot}
@@ -73,7 +73,7 @@ module _ {L : ℕ} {b : Bounds} {c : ℕ} {board work : List ℕ} {u : LogState}
     dirty-keeps : (tag : ℕ) → slotIn work k ≡ dirtySlot a tag → b .persisted < tag → tag ≤ b .epoch → Keeps L b c board g (emptying u work k) c g
     unfolding emptying writingBack writingOut
     dirty-keeps tag e lo hi =
-        let t = buffers (bufferIn work) (u .buffered) a in
+        let t = hits (bufferIn work) (u .buffered) a in
         let x = first o k below a tag home e t refl in
         let h : holds (flushingIf t u work .work) k a ≡ true =
         full-holds b (flushingIf t u work .work) k a (is-dirty tag (flushed-slot o k below a tag home e t refl) lo hi) in
@@ -102,7 +102,7 @@ module _ {L : ℕ} {b : Bounds} {c : ℕ} {board work : List ℕ} {u : LogState}
       go (is-empty e) = rw e (zeroed-empty (o .slotted) k below e .slot)
       go (is-full a home (is-clean e)) = rw e (zeroed-held (o .slotted) k below a (full-holds b work k a (is-clean e)) .slot)
       go (is-full a home (is-dirty tag e lo hi)) =
-          let t = buffers (bufferIn work) (u .buffered) a in
+          let t = hits (bufferIn work) (u .buffered) a in
           rw e
           (zeroed-held (first o k below a tag home e t refl .after .slotted) k below a
           (full-holds b (flushingIf t u work .work) k a (is-dirty tag (flushed-slot o k below a tag home e t refl) lo hi)) .slot)
@@ -128,5 +128,5 @@ emptying-fewer u work k = go (slotIn work k .dirty)
   where
     go : (t : Bool)
         → Fewer u (cond t (writingOut u work (slotIn work k .address) (dataIn work k)) (nothing u work) .undo)
-    go true = flush-fewer (buffers (bufferIn work) (u .buffered) (slotIn work k .address)) u work
+    go true = flush-fewer (hits (bufferIn work) (u .buffered) (slotIn work k .address)) u work
     go false = same-fewer u

@@ -17,6 +17,7 @@ use Rattle.history.specs.Invariant.{Live}
 use Rattle.history.specs.Keeps.{flush-safe, flush-live}
 use Rattle.durable.specs.View as durable
 use Rattle.durable.specs.Flush.{flush-cut, flush-reads}
+use Rattle.volatile.specs.Filter.{flushed-exact}
 use Rattle.volatile.specs.Slotted.{with-slotted}
 use Rattle.volatile.specs.View.{volatileOf, flushed-words, view-flushed}
 use Rattle.refine.specs.Pass.{pass-with}
@@ -64,6 +65,7 @@ module _ {L : ℕ} {b : Bounds} {c : ℕ} {board work : List ℕ} {u : LogState}
               last = o .last;
               room = omega (arith, o .room);
               places = omega arith;
+              filter = flushed-exact (o .slotted) u (o .filter);
               pass = pass-with (o .pass) (o .slotted) buffer words;
               safe = flush-safe (o .live) (o .safe);
               live =

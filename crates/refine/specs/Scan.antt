@@ -10,7 +10,8 @@ use Rattle.board.specs.Laws.{applied-append}
 use Rattle.board.specs.Stores.{applied}
 use Rattle.undo.specs.declared.LogState.{LogState}
 use Rattle.undo.specs.Log as undo
-use Rattle.undo.specs.Log.{buffers, advanceStores, dropped}
+use Rattle.undo.specs.Filter.{hits}
+use Rattle.undo.specs.Log.{advanceStores, dropped}
 use Rattle.slots.specs.declared.Bounds.{Bounds}
 use Rattle.steps.specs.Effects.{nothing, flushingIf, writingOut, cleaning, visiting, persisting}
 use Rattle.slots.specs.Slots.{holds, dirtySlot}
@@ -51,6 +52,7 @@ module _ {L : ℕ} {b : Bounds} {c : ℕ} {board work : List ℕ} {u : LogState}
                 last = o .last;
                 room = o .room;
                 places = o .places;
+                filter = o .filter;
                 pass = pass-passed (o .pass) waits below (o .slotted) e;
                 safe = o .safe;
                 live = o .live;
@@ -61,7 +63,7 @@ module _ {L : ℕ} {b : Bounds} {c : ℕ} {board work : List ℕ} {u : LogState}
         → Keeps L b c board g (cleaning u work c) (c + 1) g
     unfolding cleaning writingOut
     dirty-keeps a tag home e lo hi =
-        let t = buffers (bufferIn work) (u .buffered) a in
+        let t = hits (bufferIn work) (u .buffered) a in
         let f = flushingIf t u work in
         let x = first o c below a tag home e t refl in
         let h : holds (f .work) c a ≡ true = full-holds b (f .work) c a (is-dirty tag (flushed-slot o c below a tag home e t refl) lo hi) in
@@ -128,6 +130,7 @@ module _ {L : ℕ} {b : Bounds} {c : ℕ} {board work : List ℕ} {u : LogState}
         last = o .last;
         room = omega (arith, o .room);
         places = omega arith;
+        filter = p .filter;
         pass = pass-none (withEpochs b (target b) (b .epoch)) (flushingIf true u work .work);
         safe = advance-safe (p .live) (target b) after waits empty scanned;
         live = advance-live (p .live) (target b) after waits empty scanned;

@@ -4,12 +4,14 @@ use mathlib.Core.Path.{_≡_}
 use mathlib.Core.List.{List}
 use Rattle.layout.specs.declared.Control.{Control}
 use Rattle.layout.specs.Limits.{lastEpoch, bufferPlaces, mostAhead}
+use Rattle.layout.specs.Memory.{bufferIn}
 use Rattle.undo.specs.declared.LogState.{LogState}
 use Rattle.slots.specs.declared.Bounds.{Bounds}
 use Rattle.history.specs.Machine.{Durable}
 use Rattle.reference.specs.Machine.{Reference}
 use Rattle.history.specs.Invariant.{Safe, Live}
 use Rattle.durable.specs.View.{Reads}
+use Rattle.volatile.specs.Filter.{Exact}
 use Rattle.volatile.specs.Slotted.{Slotted}
 use Rattle.volatile.specs.View.{volatileOf}
 use Rattle.refine.specs.Pass.{Pass}
@@ -33,6 +35,8 @@ pub record Ok (L : ℕ) (b : Bounds) (c : ℕ) (board work : List ℕ) (u : LogS
   -- "Since room for buffered entries is held back": so a flush always fits
   pub room : u .control .length + u .buffered ≤ L
   pub places : u .buffered ≤ bufferPlaces
+  -- request 3/13: the filter is exactly the bits of the buffered entries
+  pub filter : Exact (bufferIn work) (u .buffered)
   pub pass : Pass b work c
   pub safe : Safe (b .lines) mostAhead durable g
   pub live : Live (b .lines) mostAhead durable (volatileOf work (b .slots) (b .epoch) (u .buffered)) g

@@ -9,6 +9,7 @@ use borrow.Author.Tests.{eq-eqb, ne-eqb}
 use lib.Dec.{eqb}
 use Rattle.layout.specs.Limits.{epochBits, bufferPlaces, mostAhead}
 use Rattle.layout.specs.Memory.{slotIn, dataIn}
+use Rattle.layout.specs.Words.{EntryFits}
 use Rattle.board.specs.Stores.{applied}
 use Rattle.undo.specs.declared.LogState.{LogState}
 use Rattle.undo.specs.Log.{counted}
@@ -22,6 +23,7 @@ use Rattle.history.specs.Invariant.{Live}
 use Rattle.history.specs.Keeps.{store-safe, store-clean-live, store-committed-live, store-transient-live}
 use Rattle.durable.specs.Reads.{reads-persisted}
 use Rattle.volatile.specs.Cache.{cache-clean, cache-dirty}
+use Rattle.volatile.specs.Filter.{logged-exact}
 use Rattle.volatile.specs.Proper.{AtHome, FullSlot, is-clean, is-dirty, full-holds}
 use Rattle.volatile.specs.Stores.{dirtied-held}
 use Rattle.volatile.specs.View.{volatileOf, undoFields, marked-stored, view-marked}
@@ -49,6 +51,9 @@ module _ {L : ℕ} {b : Bounds} {c : ℕ} {board work : List ℕ} {u : LogState}
     abbrev work′ : List ℕ
     work′ = dirtied (logged u work (undoFields (b .epoch) a from) (dataIn work k)) k a (b .epoch) value
 
+    entry-fits : EntryFits (undoFields (b .epoch) a from)
+    entry-fits = record { address = home .fits; from = omega (arith, fits); till = fits }
+
     logged-ok : Ok L b c board work′ (counted u) (stores g a value)
     logged-ok =
         let st = marked-stored (o .slotted) u k a below h ahead fits (dataIn work k) value (undoFields (b .epoch) a from) in
@@ -61,6 +66,7 @@ module _ {L : ℕ} {b : Bounds} {c : ℕ} {board work : List ℕ} {u : LogState}
           last = o .last;
           room = omega arith;
           places = omega arith;
+          filter = rw (st .buffer) (logged-exact (o .slotted) u (o .filter) (undoFields (b .epoch) a from) (dataIn work k) place entry-fits);
           pass = pass-dirtied c (pass-logged (o .pass) (o .slotted) u (undoFields (b .epoch) a from) (dataIn work k)) st;
           safe = store-safe (o .safe) a value;
           live =

@@ -18,6 +18,7 @@ use Rattle.durable.specs.Proper.{proper-named}
 use Rattle.durable.specs.Reads.{reads-bounded, reads-persisted}
 use Rattle.durable.specs.Recover.{recover-cut, recover-reads}
 use Rattle.durable.specs.View.{Reads, undoWith}
+use Rattle.volatile.specs.Filter.{exact-awake}
 use Rattle.volatile.specs.Proper.{withEpochs}
 use Rattle.volatile.specs.Slotted.{zeroWork, zero-slotted}
 use Rattle.volatile.specs.Swept.{commit-slotted}
@@ -63,6 +64,7 @@ module _ {N L : ℕ} {board : List ℕ} {g : Reference} (off : Off N L board g) 
         last = omega (arith, reads-bounded (off .reads));
         room = omega arith;
         places = omega arith;
+        filter = exact-awake slots;
         pass = pass-none (wakeBounds slots) (zeroWork slots);
         safe = power-up-safe (off .safe);
         live =
@@ -83,6 +85,7 @@ commit-ok {b = b} {work = work} {u = u} o early window =
       last = omega arith;
       room = o .room;
       places = o .places;
+      filter = o .filter;
       pass = pass-commit (o .pass);
       safe = commit-safe (o .live) (o .safe);
       live = rw view-commit (commit-live (o .live) (omega (arith, o .persisted)));

@@ -10,7 +10,7 @@ use Rattle.board.specs.Laws.{applied-append}
 use Rattle.board.specs.Stores.{one, applied}
 use Rattle.undo.specs.declared.LogState.{LogState}
 use Rattle.undo.specs.Log as undo
-use Rattle.undo.specs.Log.{buffers}
+use Rattle.undo.specs.Filter.{hits}
 use Rattle.slots.specs.declared.Bounds.{Bounds}
 use Rattle.steps.specs.Effects.{Effect, flushingIf}
 use Rattle.slots.specs.Slots.{dirtySlot}
@@ -22,7 +22,7 @@ use Rattle.durable.specs.View.{Reads}
 use Rattle.durable.specs.Seen.{line-reads}
 use Rattle.durable.specs.Listed.{listed}
 use Rattle.durable.specs.View.{bufferOf}
-use Rattle.volatile.specs.Buffer.{none-silent}
+use Rattle.volatile.specs.Filter.{Exact, missed-silent}
 use Rattle.volatile.specs.Cache.{cache-dirty}
 use Rattle.volatile.specs.Proper.{AtHome}
 use Rattle.volatile.specs.Slotted.{Slotted, with-slot, with-value}
@@ -49,6 +49,7 @@ ok-with {b = b} {u = u} o st c′ pass board′ d reads named g′ safe live =
       last = o .last;
       room = o .room;
       places = o .places;
+      filter = rw (st .buffer) (o .filter);
       pass = pass;
       safe = safe;
       live =
@@ -67,16 +68,17 @@ module _ {b : Bounds} {work : List ℕ} (slotted : Slotted b work) (u : LogState
   flush-value true = with-value slotted _ (flushed-words slotted u) k below
   flush-value false = refl
 
--- a write-out flushes first where a buffered entry has the address: so no buffered entry is left that tells the line
-pub flush-silent : (u : LogState) (work : List ℕ) (a e : ℕ) (t : Bool) → t ≡ buffers (bufferIn work) (u .buffered) a
+-- a write-out flushes first where the filter has both bits of the address, for an entry of that address or for others': so no buffered
+-- entry is left that tells the line
+flush-silent : (u : LogState) (work : List ℕ) → Exact (bufferIn work) (u .buffered) → (a e : ℕ) (t : Bool) → t ≡ hits (bufferIn work) (u .buffered) a
     → Silent (bufferOf (bufferIn (flushingIf t u work .work)) (flushingIf t u work .undo .buffered)) e a
 unfolding flushingIf listed recall undo.flushed
-flush-silent u work a e true h = λ d. refl
-flush-silent u work a e false h = none-silent (bufferIn work) (u .buffered) a (sym h) e
+flush-silent u work exact a e true h = λ d. refl
+flush-silent u work exact a e false h = missed-silent (bufferIn work) (u .buffered) exact a (sym h) e
 
 module _ {L : ℕ} {b : Bounds} {c : ℕ} {board work : List ℕ} {u : LogState} {g : Reference} (o : Ok L b c board work u g) (k : ℕ)
     (below : k < b .slots) (a tag : ℕ) (home : AtHome b k a) (slot : slotIn work k ≡ dirtySlot a tag) (t : Bool)
-    (test : t ≡ buffers (bufferIn work) (u .buffered) a) where
+    (test : t ≡ hits (bufferIn work) (u .buffered) a) where
   abbrev flush : Effect
   flush = flushingIf t u work
 
@@ -100,7 +102,7 @@ module _ {L : ℕ} {b : Bounds} {c : ℕ} {board work : List ℕ} {u : LogState}
       cache-dirty (flush .work) (b .slots) a k (home .home) tag flushed-slot ∙ ap (dirty tag) (flush-value (o .slotted) u k below t)
 
   logged : Silent (w .buffer) (d .persisted) a
-  logged = flush-silent u work a (d .persisted) t test
+  logged = flush-silent u work (o .filter) a (d .persisted) t test
 
   pub written-live : Live (b .lines) mostAhead (written d a value) (holding w a (clean value)) g
   written-live = write-out-live (first .after .live) a flushed-cache

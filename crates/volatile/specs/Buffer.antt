@@ -1,29 +1,28 @@
 -- The undo buffer as a list of entries, and the tests of it that calls make.
 use Prim.Native.Nat.{ℕ, zero, suc, _+_, _*_, _<_, _≤_}
 use mathlib.Core.Path.{_≡_, refl, sym, ap, _∙_}
-use mathlib.Core.Logic.{_≢_}
 use mathlib.Core.Bool.{Bool, true, false, cond}
 use mathlib.Core.List.{List, [], _∷_, _++_}
 use native.Mathlib.Numerals.{add-one}
 use native.Mathlib.Omega.{arith}
-use borrow.Author.Tests.{ltb-false, eqb-false, not-true, lt-ltb, le-leb}
+use borrow.Author.Tests.{lt-ltb, le-leb}
 use lib.Dec.{eqb}
 use lib.ListN.{length, getD, set, length-set, length-drop, replicate, length-replicate}
 use lib.Seq.{getD-set-same, getD-set-other}
-use Rattle.base.specs.Walk.{first, first-all, all-first}
+use Rattle.base.specs.Walk.{all-first}
 use Rattle.layout.specs.declared.Entry as layout
 use Rattle.layout.specs.Laws.{entry-laws}
 use Rattle.layout.specs.Limits.{bufferPlaces}
-use Rattle.layout.specs.Memory.{bufferWords, bufferIn}
+use Rattle.layout.specs.Memory.{filterAt, bufferWords, bufferIn}
 use Rattle.layout.specs.Words.{encodeEntry, EntryFits}
 use Rattle.undo.specs.declared.LogState.{LogState}
 use Rattle.undo.specs.Entries.{properBuffered}
-use Rattle.undo.specs.Log.{bufferedIn, bufferedProper, bufferProper, elsewhere, buffers, pushed, flushedBuffer}
+use Rattle.undo.specs.Log.{bufferedIn, bufferedProper, bufferProper, pushed, flushedBuffer}
+use Rattle.undo.specs.Marks.{marking-length, marking-before}
 use Rattle.base.specs.Every.{Every, every-split, every-map}
 use Rattle.history.specs.Invariant.{ProperEntry}
-use Rattle.history.specs.Machine.{Entry, Silent}
+use Rattle.history.specs.Machine.{Entry}
 use Rattle.base.specs.Cases.{here-or-there}
-use Rattle.history.specs.Recall.{silent-away}
 use Rattle.durable.specs.Listed.{listed, listed-same, listed-append, every-listed}
 use Rattle.durable.specs.View.{entryWith, bufferedAt, bufferOf}
 
@@ -77,40 +76,42 @@ buffer-same buffer buffer′ n same =
 -- ---- "An entry goes to the buffer's end"
 
 module _ (buffer : List ℕ) (n : ℕ) (e : layout.Entry) (old : ℕ) where
+  -- the entry's two words, before the filter has its bits
+  abbrev pub placed : List ℕ
+  placed = set (set buffer (2 * n) (encodeEntry e)) (2 * n + 1) old
+
   pub pushed-length : length (pushed buffer n e old) ≡ length buffer
   unfolding pushed
-  pushed-length = simp length-set
+  pushed-length = marking-length placed (e .address) ∙ simp length-set
 
-  pushed-before : (i : ℕ) → i < 2 * n → getD (pushed buffer n e old) i 0 ≡ getD buffer i 0
+  pushed-word : (i : ℕ) → i < filterAt → getD (pushed buffer n e old) i 0 ≡ getD placed i 0
   unfolding pushed
-  pushed-before i below =
-      getD-set-other (set buffer (2 * n) (encodeEntry e)) (2 * n + 1) i old 0 (omega arith)
-      ∙ getD-set-other buffer (2 * n) i (encodeEntry e) 0 (omega arith)
+  pushed-word = marking-before placed (e .address)
+
+  module _ (place : n < bufferPlaces) where
+    pub pushed-before : (i : ℕ) → i < 2 * n → getD (pushed buffer n e old) i 0 ≡ getD buffer i 0
+    pushed-before i below =
+        pushed-word i (omega arith)
+        ∙ getD-set-other (set buffer (2 * n) (encodeEntry e)) (2 * n + 1) i old 0 (omega arith)
+        ∙ getD-set-other buffer (2 * n) i (encodeEntry e) 0 (omega arith)
 
   module _ (place : n < bufferPlaces) (words : length buffer ≡ bufferWords) (fits : EntryFits e) where
-    pushed-last : bufferedAt (pushed buffer n e old) n ≡ entryWith e old
-    unfolding bufferedAt bufferedIn pushed
-    pushed-last =
+    pub pushed-entry : bufferedIn (pushed buffer n e old) n ≡ e
+    unfolding bufferedIn
+    pushed-entry =
         let kept = getD-set-other (set buffer (2 * n) (encodeEntry e)) (2 * n + 1) (2 * n) old 0 (omega arith) in
         let word = getD-set-same buffer (2 * n) (encodeEntry e) 0 (omega arith) in
+        rw (pushed-word (2 * n) (omega arith), kept, word, entry-laws .decode-encode e fits)
+
+    pushed-last : bufferedAt (pushed buffer n e old) n ≡ entryWith e old
+    unfolding bufferedAt
+    pushed-last =
         let value = getD-set-same (set buffer (2 * n) (encodeEntry e)) (2 * n + 1) old 0 (simp length-set (omega arith)) in
-        rw (kept, word, entry-laws .decode-encode e fits, value)
+        rw (pushed-entry, pushed-word (2 * n + 1) (omega arith), value)
 
     pub pushed-buffer : bufferOf (pushed buffer n e old) (n + 1) ≡ bufferOf buffer n ++ (entryWith e old ∷ [])
     pushed-buffer =
-        rw (add-one, buffer-next (pushed buffer n e old) n, buffer-same buffer (pushed buffer n e old) n pushed-before, pushed-last)
-
--- ---- "if any buffered entry has its address"
-
-module _ (buffer : List ℕ) (count address : ℕ) (none : buffers buffer count address ≡ false) where
-  pub none-buffered : Every (λ x. x .address ≢ address) (bufferOf buffer count)
-  unfolding buffers elsewhere bufferedAt
-  none-buffered = every-buffered (λ x. x .address ≢ address) buffer count (λ i below.
-      eqb-false (bufferedIn buffer i .address) address
-      (not-true _ (first-all (elsewhere buffer address) count (ltb-false (first (elsewhere buffer address) count) count none) i below)))
-
-  pub none-silent : (epoch : ℕ) → Silent (bufferOf buffer count) epoch address
-  none-silent epoch = silent-away (bufferOf buffer count) epoch address none-buffered
+        rw (add-one, buffer-next (pushed buffer n e old) n, buffer-same buffer (pushed buffer n e old) n (pushed-before place), pushed-last)
 
 -- ---- "7 buffer: a buffered entry is not proper"
 

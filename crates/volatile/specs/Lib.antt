@@ -1,6 +1,6 @@
 -- The work memory as history's volatile state. To be believed: `Belongs` and `cacheOf` in Cache, `bufferOf` in durable's View,
--- `volatileOf` in View. To be cited: Proper and Slotted for the cases of a slot, Stores for a store to a slot, Buffer for the
--- tests of the buffer, View for what a step makes of the volatile state, Swept for the scan.
+-- `volatileOf` in View. To be cited: Proper and Slotted for the cases of a slot, Stores for a store to a slot, Buffer and Filter for
+-- the tests of the buffer, View for what a step makes of the volatile state, Swept for the scan.
 pub mod Parts
 pub mod Held
 pub mod Cache
@@ -8,5 +8,6 @@ pub mod Proper
 pub mod Slotted
 pub mod Stores
 pub mod Buffer
+pub mod Filter
 pub mod View
 pub mod Swept
