@@ -8,10 +8,10 @@ mod effects;
 mod finish;
 mod machine;
 mod record;
+mod record_runs;
 mod reference_machine;
 mod refusals;
 mod registers;
-mod trace;
 mod words;
 
 use effects::*;
@@ -22,15 +22,15 @@ pub use record::Record;
 pub use record::Written;
 pub use record::read_record;
 pub use record::write_record;
+pub use record_runs::RecordRun;
+pub use record_runs::Totals;
+pub use record_runs::TraceRun;
+pub use record_runs::run_fresh;
+pub use record_runs::run_record;
+pub use record_runs::run_trace;
 pub use reference_machine::Reference;
 use refusals::*;
 pub use registers::Registers;
-pub use trace::RecordRun;
-pub use trace::Totals;
-pub use trace::TraceRun;
-pub use trace::run_fresh;
-pub use trace::run_record;
-pub use trace::run_trace;
 use words::*;
 
 // A call's answer: its number in the table, its value, the board stores made, the registers.

@@ -1,10 +1,10 @@
--- `model::trace::run_trace` is safe and ends. The invariant: the two memories keep their lengths, and a turn's record begins within the bytes. The measure is the turns left. Assumes nothing.
+-- `model::record_runs::run_trace` is safe and ends. The invariant: the two memories keep their lengths, and a turn's record begins within the bytes. The measure is the turns left. Assumes nothing.
 use borrow.Author.Needs.{needs}
 use Prim.Native.Nat.{_-_, _≤_, _*_}
 use lib.ListN.{length}
 use mathlib.Core.Path.{_≡_}
-use Rattle.model.proofs.trace.run_trace.Statement.{statement}
-use Rattle.model.proofs.trace.run_trace.Tie as tie
+use Rattle.model.proofs.record_runs.run_trace.Statement.{statement}
+use Rattle.model.proofs.record_runs.run_trace.Tie as tie
 
 abbrev Inv-loop : tie.InvT-loop
 Inv-loop board₀ work₀ bytes run₀ i₀ i-end board work run i = (length board ≡ length board₀) × (length work ≡ length work₀) × (i-end * 16 ≤ length bytes)
