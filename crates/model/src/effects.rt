@@ -1,5 +1,7 @@
 // What the calls do to the decoded state. A store to the board is noted as due, and made later.
 use crate::Registers;
+use crate::filter::both_set;
+use crate::filter::filter_with;
 use crate::machine::*;
 use crate::refusals::undo_due;
 use crate::words::*;
@@ -29,7 +31,7 @@ fn entries_logged(m: Machine) -> Machine {
 
 // "A flush with b > 0 stores each entry at the ring's end, .., then the control word with
 // length + b: 2b + 1 stores; then b = 0 and the 64 buffer words are zero. With b = 0 it stores
-// nothing."
+// nothing." And "The filter is cleared at each flush with b > 0."
 fn flushed(m: Machine) -> Machine {
     let count = m.registers.buffered;
     if count == 0 {
@@ -41,28 +43,26 @@ fn flushed(m: Machine) -> Machine {
         length: sum(m.control.length, count),
     };
     let empty = [empty_entry(); BUFFER_ENTRIES];
+    let cleared = [0; FILTER_WORDS];
     let mut next = with_control(entries_logged(m), control);
     next.registers.buffered = 0;
     next.buffer = empty;
+    next.filter = cleared;
     next
 }
 
-// "if any buffered entry has its address".
-fn is_buffered(m: Machine, address: u64) -> bool {
-    let count = m.registers.buffered;
-    for i in 0..count {
-        let entry = buffer_entry(m, i);
-        if entry.address == address {
-            return true;
-        }
+// "A write-out flushes exactly when b > 0 and both bits of its address are set."
+fn flush_due(m: Machine, address: u64) -> bool {
+    let filter = m.filter;
+    if m.registers.buffered == 0 {
+        return false;
     }
-    false
+    both_set(filter, address)
 }
 
-// "Writing out a line: if any buffered entry has its address, flush first; then one store to the
-// line."
+// "Writing out a line: .. flush first; then one store to the line."
 fn written_out(m: Machine, slot: Slot) -> Machine {
-    if is_buffered(m, slot.address) {
+    if flush_due(m, slot.address) {
         return with_line(flushed(m), slot.address, slot.line_data);
     }
     with_line(m, slot.address, slot.line_data)
@@ -116,13 +116,17 @@ fn undo_entry(slot: Slot, persisted: u64, epoch: u64) -> Entry {
     }
 }
 
-// "An entry goes to the buffer's end; at 32 the buffer is flushed at once."
+// "An entry goes to the buffer's end; at 32 the buffer is flushed at once." "A new entry for address
+// a sets" its two bits of the filter.
 fn buffered(m: Machine, entry: Entry) -> Machine {
     let count = m.registers.buffered;
     let longer = sum(count, 1);
     let at = index(count, BUFFER_ENTRIES);
+    let filter = m.filter;
+    let with_both = filter_with(filter, entry.address);
     let mut next = m;
     next.buffer[at] = entry;
+    next.filter = with_both;
     next.registers.buffered = longer;
     if longer == BUFFER_ENTRIES as u64 {
         return flushed(next);
@@ -279,11 +283,13 @@ pub fn powered_up(m: Machine) -> Machine {
     };
     let slots = [empty_slot(); MOST_SLOTS];
     let buffer = [empty_entry(); BUFFER_ENTRIES];
+    let filter = [0; FILTER_WORDS];
     let mut registers = Registers::zero();
     registers.epoch = sum(persisted, 1);
     let mut next = with_control(entries_restored(m), control);
     next.slots = slots;
     next.buffer = buffer;
+    next.filter = filter;
     next.registers = registers;
     next
 }

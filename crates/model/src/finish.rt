@@ -53,6 +53,13 @@ fn encode_buffer(work: &mut [u64], buffer: [Entry; BUFFER_ENTRIES], slots: u64) 
     }
 }
 
+// The filter back into the work memory.
+fn encode_filter(work: &mut [u64], filter: [u64; FILTER_WORDS], slots: u64) {
+    for i in 0..FILTER_WORDS {
+        set_word(work, filter_place(slots, i as u64), filter[i]);
+    }
+}
+
 // "Number 12: exactly the first stores up to the allowance are on the board, work memory and
 // registers are all zero, value 0, and the stores reported are the allowance."
 fn cut(board: &mut [u64], work: &mut [u64], m: Machine, allowance: u64) -> Answer {
@@ -72,10 +79,12 @@ fn completed(board: &mut [u64], work: &mut [u64], m: Machine) -> Answer {
     let due = m.due;
     let slots = m.slots;
     let buffer = m.buffer;
+    let filter = m.filter;
     let registers = m.registers;
     make_stores(board, due, due.count);
     encode_slots(work, slots, m.slot_count);
     encode_buffer(work, buffer, m.slot_count);
+    encode_filter(work, filter, m.slot_count);
     Answer {
         number: OK,
         value: m.value,

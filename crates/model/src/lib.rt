@@ -5,6 +5,7 @@
 // words::BOARD_CAPACITY words; for a larger one each call answers refusals::TOO_LARGE and touches
 // nothing.
 mod effects;
+mod filter;
 mod finish;
 mod machine;
 mod record;
@@ -15,8 +16,11 @@ mod registers;
 mod words;
 
 use effects::*;
+use filter::bits_set;
+pub use filter::filter_with;
 use finish::*;
 use machine::decoded;
+use machine::decoded_filter;
 pub use record::Read;
 pub use record::Record;
 pub use record::Written;
@@ -85,7 +89,7 @@ pub fn power_up(board: &mut [u64], work: &mut [u64], allowance: u32) -> Answer {
     finished(board, work, powered_up(m), allowance)
 }
 
-// Load (a): rows 1, 2, 4 to 7 and 12; then what `loaded` says.
+// Load (a): rows 1, 2, 4 to 7, 14 and 12; then what `loaded` says.
 pub fn load(
     board: &mut [u64],
     work: &mut [u64],
@@ -105,7 +109,7 @@ pub fn load(
     finished(board, work, loaded(m, address), allowance)
 }
 
-// Store (a, value): rows 1, 2, 4 to 8 and 12; then what `stored` says.
+// Store (a, value): rows 1, 2, 4 to 7, 14, 8 and 12; then what `stored` says.
 pub fn store(
     board: &mut [u64],
     work: &mut [u64],
@@ -126,7 +130,7 @@ pub fn store(
     finished(board, work, stored(m, address, value), allowance)
 }
 
-// Evict (a): rows 1, 2, 4 to 7 and 12; then what `evicted` says.
+// Evict (a): rows 1, 2, 4 to 7, 14 and 12; then what `evicted` says.
 pub fn evict(
     board: &mut [u64],
     work: &mut [u64],
@@ -146,7 +150,7 @@ pub fn evict(
     finished(board, work, evicted(m, address), allowance)
 }
 
-// Commit: rows 1, 2, 4, 7, 9 and 10, and no store is ever due; then what `committed` says.
+// Commit: rows 1, 2, 4, 7, 14, 9 and 10, and no store is ever due; then what `committed` says.
 pub fn commit(board: &mut [u64], work: &mut [u64], registers: Registers, allowance: u32) -> Answer {
     let number = memory_refusal(board, work);
     if number != OK {
@@ -160,7 +164,7 @@ pub fn commit(board: &mut [u64], work: &mut [u64], registers: Registers, allowan
     finished(board, work, committed(m), allowance)
 }
 
-// Scan: rows 1, 2, 4, 6, 7, 11 and 12; then what `scanned` says.
+// Scan: rows 1, 2, 4, 6, 7, 14, 11 and 12; then what `scanned` says.
 pub fn scan(board: &mut [u64], work: &mut [u64], registers: Registers, allowance: u32) -> Answer {
     let number = memory_refusal(board, work);
     if number != OK {
@@ -204,6 +208,21 @@ pub fn tally(work: &[u64]) -> Answer {
     Answer {
         number: OK,
         value: dirty_count(work),
+        stores: 0,
+        registers: Registers::zero(),
+    }
+}
+
+// "A status question gives the number of filter bits set, and refuses only by number 2; like every
+// later call without board stores, it takes no allowance and reports 0."
+pub fn filter_bits(work: &[u64]) -> Answer {
+    let words = work.len() as u64;
+    if !work_good(words) {
+        return refused(WORK, Registers::zero());
+    }
+    Answer {
+        number: OK,
+        value: bits_set(decoded_filter(work, slot_count(words))),
         stores: 0,
         registers: Registers::zero(),
     }

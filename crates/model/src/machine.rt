@@ -26,10 +26,11 @@ pub struct Machine {
     pub control: Control,
     pub log: [Entry; LOG_CAPACITY],
     pub lines: [u64; LINE_CAPACITY],
-    // Work memory: S, the slots, the buffer's places.
+    // Work memory: S, the slots, the buffer's places, the filter's words.
     pub slot_count: u64,
     pub slots: [Slot; MOST_SLOTS],
     pub buffer: [Entry; BUFFER_ENTRIES],
+    pub filter: [u64; FILTER_WORDS],
     // The registers s, b and c.
     pub registers: Registers,
     // What the call owes the board, and the value of its answer: "Values not named are 0."
@@ -72,6 +73,14 @@ fn decoded_buffer(work: &[u64], slots: u64) -> [Entry; BUFFER_ENTRIES] {
     buffer
 }
 
+pub fn decoded_filter(work: &[u64], slots: u64) -> [u64; FILTER_WORDS] {
+    let mut filter = [0; FILTER_WORDS];
+    for i in 0..FILTER_WORDS {
+        filter[i] = word_at(work, filter_place(slots, i as u64));
+    }
+    filter
+}
+
 fn nothing_due() -> DueList {
     let none = DueStore { place: 0, word: 0 };
     DueList {
@@ -93,6 +102,7 @@ pub fn decoded(board: &[u64], work: &[u64], registers: Registers) -> Machine {
         slot_count: slots,
         slots: decoded_slots(work, slots),
         buffer: decoded_buffer(work, slots),
+        filter: decoded_filter(work, slots),
         registers,
         due: nothing_due(),
         value: 0,

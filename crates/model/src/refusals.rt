@@ -1,4 +1,6 @@
-// The table of "What an answer says": its numbers, and the tests of each, lowest number first.
+// The table of "What an answer says": its numbers, and the tests of each. "The lowest number wins",
+// but that 14 is "tested right after 7 wherever 7 is".
+use crate::filter::both_set;
 use crate::machine::*;
 use crate::words::*;
 
@@ -31,6 +33,9 @@ pub const CUT: u64 = 12;
 
 // "New numbers, here and later, join the names and return as 1 to 11 do: 13 trace".
 pub const TRACE: u64 = 13;
+
+// "14 filter, a buffered entry with either bit unset".
+pub const FILTER: u64 = 14;
 
 // Not in the paper: the model does not take a board of more than BOARD_CAPACITY words.
 pub const TOO_LARGE: u64 = 99;
@@ -87,7 +92,7 @@ fn shape_good(board: &[u64]) -> bool {
     fields_good(shape, control)
 }
 
-// "2 work: work memory is not 2S + 64 words, S 1 to 256".
+// "2 work: work memory is not 2S + 64 words, S 1 to 256", which are now "2S + 128 words".
 pub fn work_good(words: u64) -> bool {
     let slots = slot_count(words);
     if slots < 1 {
@@ -231,7 +236,31 @@ fn buffer_proper(m: Machine) -> bool {
     true
 }
 
-// Rows 4 to 7 of load, store and evict: "5 address: a >= N"; "6 slot: the slot visited is not
+// "14 filter, a buffered entry with either bit unset".
+fn filter_proper(m: Machine) -> bool {
+    let filter = m.filter;
+    let count = m.registers.buffered;
+    for i in 0..count {
+        let entry = buffer_entry(m, i);
+        if !both_set(filter, entry.address) {
+            return false;
+        }
+    }
+    true
+}
+
+// Row 7, of all buffered entries; then 14, "tested right after 7 wherever 7 is".
+fn buffer_refusal(m: Machine) -> u64 {
+    if !buffer_proper(m) {
+        return BUFFER;
+    }
+    if !filter_proper(m) {
+        return FILTER;
+    }
+    OK
+}
+
+// Rows 4 to 7 and 14 of load, store and evict: "5 address: a >= N"; "6 slot: the slot visited is not
 // proper: slot a mod S".
 pub fn line_refusal(m: Machine, address: u64) -> u64 {
     if !registers_proper(m) {
@@ -243,10 +272,7 @@ pub fn line_refusal(m: Machine, address: u64) -> u64 {
     if !slot_proper(m, home_slot(address, m.slot_count)) {
         return SLOT;
     }
-    if !buffer_proper(m) {
-        return BUFFER;
-    }
-    OK
+    buffer_refusal(m)
 }
 
 // Whether a store makes an undo entry: "a clean line makes the entry P, s ..; a dirty line with
@@ -262,7 +288,7 @@ pub fn undo_due(m: Machine, address: u64) -> bool {
     slot.tag < m.registers.epoch
 }
 
-// Rows 4 to 7, then "8 room: an undo entry is due and length + b + 1 > L".
+// Rows 4 to 7 and 14, then "8 room: an undo entry is due and length + b + 1 > L".
 pub fn store_refusal(m: Machine, address: u64) -> u64 {
     let number = line_refusal(m, address);
     if number != OK {
@@ -277,13 +303,14 @@ pub fn store_refusal(m: Machine, address: u64) -> u64 {
     OK
 }
 
-// Rows 4 and 7 of commit; "9 waiting: s - P = 16"; "10 last: s = 2^24 - 1".
+// Rows 4, 7 and 14 of commit; then "9 waiting: s - P = 16"; "10 last: s = 2^24 - 1".
 pub fn commit_refusal(m: Machine) -> u64 {
     if !registers_proper(m) {
         return REGISTERS;
     }
-    if !buffer_proper(m) {
-        return BUFFER;
+    let number = buffer_refusal(m);
+    if number != OK {
+        return number;
     }
     if m.registers.epoch == sum(m.control.persisted, MOST_AHEAD) {
         return WAITING;
@@ -294,7 +321,7 @@ pub fn commit_refusal(m: Machine) -> u64 {
     OK
 }
 
-// Rows 4, 6 and 7 of scan: "the slot visited is not proper: .. slot c if c < S"; "11 none:
+// Rows 4, 6, 7 and 14 of scan: "the slot visited is not proper: .. slot c if c < S"; then "11 none:
 // s = P + 1".
 pub fn scan_refusal(m: Machine) -> u64 {
     if !registers_proper(m) {
@@ -305,8 +332,9 @@ pub fn scan_refusal(m: Machine) -> u64 {
             return SLOT;
         }
     }
-    if !buffer_proper(m) {
-        return BUFFER;
+    let number = buffer_refusal(m);
+    if number != OK {
+        return number;
     }
     if m.registers.epoch == sum(m.control.persisted, 1) {
         return NONE;

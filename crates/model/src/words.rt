@@ -18,6 +18,11 @@ pub const BUFFER_ENTRIES: usize = 32;
 
 pub const BUFFER_WORDS: u64 = 64;
 
+// "4,096 bits as 64 words after the undo places, so the work memory has 2S + 128 words."
+pub const FILTER_WORDS: usize = 64;
+
+const BEHIND_SLOTS: u64 = BUFFER_WORDS + FILTER_WORDS as u64;
+
 // "Board memory, 2 + 2L + N words, in this order": the control word, the shape word, the log.
 pub const CONTROL_PLACE: u64 = 0;
 
@@ -241,12 +246,12 @@ pub fn ring_place(start: u64, i: u64, entries: u64) -> u64 {
     sum(start, i) % entries
 }
 
-// "S being read from its length": of 2S + 64 words.
+// "S being read from its length": of 2S + 128 words.
 pub fn slot_count(words: u64) -> u64 {
-    if words < BUFFER_WORDS {
+    if words < BEHIND_SLOTS {
         return 0;
     }
-    (words - BUFFER_WORDS) / 2
+    (words - BEHIND_SLOTS) / 2
 }
 
 // The place in the work memory of a slot word; its data word is one further.
@@ -259,9 +264,14 @@ pub fn buffer_place(slots: u64, i: u64) -> u64 {
     sum(slot_place(slots), sum(i, i))
 }
 
-// "Work memory, 2S + 64 words".
+// The place in the work memory of filter word i: "after the undo places".
+pub fn filter_place(slots: u64, i: u64) -> u64 {
+    sum(sum(slot_place(slots), BUFFER_WORDS), i)
+}
+
+// "so the work memory has 2S + 128 words".
 pub fn work_words(slots: u64) -> u64 {
-    sum(slot_place(slots), BUFFER_WORDS)
+    sum(slot_place(slots), BEHIND_SLOTS)
 }
 
 // "Address a belongs in slot a mod S."

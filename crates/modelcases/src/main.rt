@@ -1,6 +1,7 @@
 // Runs the paper's replay listing and its examples W5 to W12 on the model, and prints the listing's
-// columns; then logs about the limit of document 02's request 2/13, and records and traces, of its
-// request 1/13. The stored output holds what the papers say.
+// columns; then logs about the limit of document 02's request 2/13, the filter of its request 3/13,
+// and records and traces, of its request 1/13. The stored output holds what the papers say.
+mod filters;
 mod packing;
 mod random;
 mod records;
@@ -13,8 +14,8 @@ use packing::*;
 
 const ALL: u32 = 4294967295;
 
-// A script is text, five bytes a step: the listing's letter (t is tally), the address (for n: N),
-// the value (for n: L), the allowance (* is all of it), a space.
+// A script is text, five bytes a step: the listing's letter (t is tally, q the status question), the
+// address (for n: N), the value (for n: L), the allowance (* is all of it), a space.
 const STEP: usize = 5;
 
 fn number(n: u64) {
@@ -78,15 +79,19 @@ fn allowance_of(byte: u8) -> u32 {
     (digit(byte) % 256) as u32
 }
 
+fn no_step() -> Step {
+    Step {
+        letter: b'?',
+        address: 0,
+        value: 0,
+        allowance: 0,
+    }
+}
+
 // The step that some bytes begin with.
 fn step_of(bytes: &[u8]) -> Step {
     if bytes.len() < STEP {
-        return Step {
-            letter: b'?',
-            address: 0,
-            value: 0,
-            allowance: 0,
-        };
+        return no_step();
     }
     Step {
         letter: bytes[0],
@@ -106,6 +111,7 @@ fn called(board: &mut [u64], work: &mut [u64], r: Registers, s: Step) -> Answer 
         b'e' => model::evict(board, work, r, s.address, s.allowance),
         b'c' => model::commit(board, work, r, s.allowance),
         b'a' => model::scan(board, work, r, s.allowance),
+        b'q' => model::filter_bits(work),
         _ => model::tally(work),
     }
 }
@@ -214,6 +220,7 @@ fn main() {
     );
     recoveries();
     ends();
+    filters::cases();
     records::cases();
     traces::cases();
     random::list(1, 3000);

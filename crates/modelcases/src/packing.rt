@@ -8,7 +8,7 @@ pub const SHAPE: usize = 1;
 
 const LOG: usize = 2;
 
-// All boards of this program have 8 log entries.
+// All boards of this program have 8 log entries, but for two of the filter's cases.
 pub const ENTRIES: u64 = 8;
 
 pub const FIRST_ENTRY: usize = LOG;
@@ -20,22 +20,42 @@ pub const FIRST_LINE: usize = LOG + 2 * 8;
 // 2^24 - 1.
 pub const LAST_EPOCH: u64 = 16777215;
 
-// A work memory: slots of two words each, then 32 undo entries of two words each.
+// A work memory: slots of two words each, then 32 undo entries of two words each, then the filter.
 const BUFFER_WORDS: usize = 64;
+
+pub const FILTER_WORDS: usize = 64;
+
+const BEHIND_SLOTS: usize = BUFFER_WORDS + FILTER_WORDS;
 
 // The memories of the examples: 4 lines and 2 slots.
 pub const EXAMPLE_LINES: u64 = 4;
 
 pub const EXAMPLE_BOARD: usize = FIRST_LINE + 4;
 
-pub const EXAMPLE_WORK: usize = 2 * 2 + BUFFER_WORDS;
+pub const EXAMPLE_WORK: usize = 2 * 2 + BEHIND_SLOTS;
 
 // The memories of the random lists: 5 lines and 3 slots.
 pub const LIST_LINES: u64 = 5;
 
 pub const LIST_BOARD: usize = FIRST_LINE + 5;
 
-pub const LIST_WORK: usize = 2 * 3 + BUFFER_WORDS;
+pub const LIST_WORK: usize = 2 * 3 + BEHIND_SLOTS;
+
+// The memories of the filter's cases: 250 lines; 4 lines and 1 log entry; 40 lines and 32 log
+// entries; 4 slots; 32 slots; room for 257.
+pub const WIDE_BOARD: usize = FIRST_LINE + 250;
+
+pub const SHORT_BOARD: usize = LOG + 2 + 4;
+
+pub const FULL_BOARD: usize = LOG + 2 * 32 + 40;
+
+pub const BOARD_ROOM: usize = WIDE_BOARD;
+
+pub const WIDE_WORK: usize = 2 * 4 + BEHIND_SLOTS;
+
+pub const FULL_WORK: usize = 2 * 32 + BEHIND_SLOTS;
+
+pub const WORK_ROOM: usize = 2 * 257 + BEHIND_SLOTS;
 
 pub fn persisted_of(control: u64) -> u64 {
     control >> 40

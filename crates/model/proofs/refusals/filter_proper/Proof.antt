@@ -1,20 +1,23 @@
--- `model::effects::is_buffered` is safe and ends. The loop needs no invariant. The measure is the turns left. Assumes nothing.
+-- `model::refusals::filter_proper` is safe and ends. The loop needs no invariant. The measure is the turns left. Assumes nothing.
 use borrow.Author.Needs.{needs}
 use Prim.Native.Nat.{_-_}
-use Rattle.model.proofs.effects.is_buffered.Statement.{statement}
-use Rattle.model.proofs.effects.is_buffered.Tie as tie
+use Rattle.model.proofs.refusals.filter_proper.Statement.{statement}
+use Rattle.model.proofs.refusals.filter_proper.Tie as tie
 
 abbrev Inv-loop : tie.InvT-loop
-Inv-loop m address count i₀ i = Unit {0}
+Inv-loop m filter count i₀ i = Unit {0}
 
 abbrev μ-loop : tie.MeasureT-loop
-μ-loop m address count i₀ i = count - i
+μ-loop m filter count i₀ i = count - i
 
 loop-holds : tie.Need-loop-holds Inv-loop μ-loop
 loop-holds c = search needs
 
 buffer-entry-requires : tie.Need-buffer-entry-requires Inv-loop μ-loop
 buffer-entry-requires c κs = search needs
+
+both-set-requires : tie.Need-both-set-requires Inv-loop μ-loop
+both-set-requires c κs = search needs
 
 returns : tie.Need-returns Inv-loop μ-loop
 returns c = search needs
@@ -31,14 +34,15 @@ loop-again c = search needs
 returns-2 : tie.Need-returns-2 Inv-loop μ-loop
 returns-2 c = search needs
 
-pub is-buffered-spec : {M : Type 1} → statement M
-is-buffered-spec =
+pub filter-proper-spec : {M : Type 1} → statement M
+filter-proper-spec =
     tie.close
     (tie.spec
     Inv-loop
     μ-loop
     loop-holds
     buffer-entry-requires
+    both-set-requires
     returns
     add-i
     loop-less
