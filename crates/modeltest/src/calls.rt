@@ -15,6 +15,7 @@ pub enum Kind {
     Commit,
     Scan,
     Tally,
+    FilterBits,
 }
 
 // A call and its arguments. Format has N as its address and L as its value.
@@ -34,7 +35,8 @@ pub struct State {
     pub registers: [u64; REGISTERS],
 }
 
-// What a call answers. Format and tally return no registers: theirs are those given.
+// What a call answers. Format, tally and the status question return no registers: theirs are those
+// given.
 pub struct Outcome {
     pub number: u64,
     pub value: u64,
@@ -127,6 +129,14 @@ fn of_report(a: picl::Report, registers: [u64; REGISTERS]) -> Outcome {
     }
 }
 
+// The calls of a work memory alone.
+fn library_count(work: &[u64], kind: Kind) -> picl::Report {
+    match kind {
+        Kind::Tally => picl::tally(work),
+        _ => picl::filter_bits(work),
+    }
+}
+
 fn library_call(board: &mut [u64], work: &mut [u64], words: [u64; REGISTERS], c: Call) -> Outcome {
     let r = library_registers(words);
     let kind = c.kind;
@@ -138,7 +148,7 @@ fn library_call(board: &mut [u64], work: &mut [u64], words: [u64; REGISTERS], c:
         Kind::Evict => of_answer(picl::evict(board, work, r, c.address, c.allowance)),
         Kind::Commit => of_answer(picl::commit(board, work, r, c.allowance)),
         Kind::Scan => of_answer(picl::scan(board, work, r, c.allowance)),
-        Kind::Tally => of_report(picl::tally(work), words),
+        _ => of_report(library_count(work, kind), words),
     }
 }
 
@@ -156,6 +166,13 @@ fn of_model_report(a: model::Answer, registers: [u64; REGISTERS]) -> Outcome {
     }
 }
 
+fn model_count(work: &[u64], kind: Kind) -> model::Answer {
+    match kind {
+        Kind::Tally => model::tally(work),
+        _ => model::filter_bits(work),
+    }
+}
+
 fn model_call(board: &mut [u64], work: &mut [u64], words: [u64; REGISTERS], c: Call) -> Outcome {
     let r = model::Registers::from_words(words);
     let kind = c.kind;
@@ -167,7 +184,7 @@ fn model_call(board: &mut [u64], work: &mut [u64], words: [u64; REGISTERS], c: C
         Kind::Evict => of_model(model::evict(board, work, r, c.address, c.allowance)),
         Kind::Commit => of_model(model::commit(board, work, r, c.allowance)),
         Kind::Scan => of_model(model::scan(board, work, r, c.allowance)),
-        Kind::Tally => of_model_report(model::tally(work), words),
+        _ => of_model_report(model_count(work, kind), words),
     }
 }
 

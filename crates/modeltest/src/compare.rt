@@ -1,5 +1,6 @@
 // A call made on both sides, and what differs.
 use crate::calls::*;
+use crate::filter_words::is_false_hit;
 use crate::packing::*;
 use crate::print;
 use crate::turns::TURNS;
@@ -49,6 +50,8 @@ pub struct Score {
     pub persisted: u64,
     // How many accepted calls left a log that goes on past the ring's end.
     pub wrapped: u64,
+    // How many accepted calls flushed for a line that no buffered entry is of.
+    pub false_hits: u64,
     // How often each turn was taken, in the groups that have turns.
     pub turns: [u64; TURNS],
 }
@@ -68,6 +71,7 @@ pub fn new_score(group: u64) -> Score {
         most_stores: 0,
         persisted: 0,
         wrapped: 0,
+        false_hits: 0,
         turns: [0; TURNS],
     }
 }
@@ -203,6 +207,18 @@ fn with_wrapped(score: Score, s: State, number: u64) -> Score {
     next
 }
 
+fn with_false_hit(score: Score, s: State, c: Call, number: u64, left: State) -> Score {
+    if number != 0 {
+        return score;
+    }
+    if !is_false_hit(s, c, left) {
+        return score;
+    }
+    let mut next = score;
+    next.false_hits = sum(score.false_hits, 1);
+    next
+}
+
 pub fn is_power_up(c: Call) -> bool {
     let kind = c.kind;
     match kind {
@@ -281,9 +297,10 @@ pub fn compared(s: State, c: Call, score: Score) -> Step {
     let with_number = counted(judged, outcome.number);
     let with_most = with_stores(with_number, c, outcome.stores);
     let with_epoch = with_persisted(with_most, c, outcome.value);
+    let with_hit = with_false_hit(with_epoch, s, c, outcome.number, state);
     Step {
         state,
         outcome,
-        score: with_wrapped(with_epoch, state, outcome.number),
+        score: with_wrapped(with_hit, state, outcome.number),
     }
 }

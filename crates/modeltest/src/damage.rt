@@ -13,7 +13,8 @@ fn quiet_call(n: u64) -> Call {
         0 => plain(Kind::PowerUp),
         1 => plain(Kind::Commit),
         2 => plain(Kind::Scan),
-        _ => plain(Kind::Tally),
+        3 => plain(Kind::Tally),
+        _ => plain(Kind::FilterBits),
     }
 }
 
@@ -25,14 +26,17 @@ fn line_kind(n: u64) -> Kind {
     }
 }
 
-// The calls: power-up, commit, scan, tally; load, store and evict of each line and of one too many.
-const CALLS: u64 = 22;
+// The calls: power-up, commit, scan, tally, the status question; load, store and evict of each line
+// and of one too many.
+const QUIET: u64 = 5;
+
+const CALLS: u64 = QUIET + 18;
 
 fn numbered_call(n: u64) -> Call {
-    if n < 4 {
+    if n < QUIET {
         return quiet_call(n);
     }
-    to_line(line_kind((n - 4) % 3), (n - 4) / 3, n)
+    to_line(line_kind((n - QUIET) % 3), (n - QUIET) / 3, n)
 }
 
 fn called(s: State, c: Call, score: Score) -> Score {

@@ -6,6 +6,8 @@ mod calls;
 mod compare;
 mod cuts;
 mod damage;
+mod filter_words;
+mod filters;
 mod history;
 mod log_ends;
 mod noise;
@@ -60,6 +62,14 @@ fn cut_lists(score: Score) -> Score {
     next
 }
 
+fn shared_bits(score: Score) -> Score {
+    let mut next = score;
+    for n in 0..3 {
+        next = history::list(plans::sharing(n, 14001 + n), next);
+    }
+    next
+}
+
 fn three_fields(score: Score) -> Score {
     damage::fields(3, damage::fields(2, damage::fields(0, score)))
 }
@@ -73,25 +83,28 @@ fn lists() {
     group_line(history::list(plans::many(7001), new_score(7)));
     group_line(cut_lists(new_score(8)));
     group_line(cuts::sweeps(new_score(9)));
+    group_line(shared_bits(new_score(10)));
+    group_line(cuts::list(plans::cut_sharing(15001), new_score(11)));
 }
 
 fn damaged() {
-    group_line(damage::bits(1, new_score(10)));
-    group_line(three_fields(new_score(11)));
-    group_line(damage::registers(1, new_score(12)));
-    group_line(noise::words(10000, 8001, new_score(13)));
-    group_line(noise::fields(20000, 9001, new_score(14)));
+    group_line(damage::bits(1, new_score(12)));
+    group_line(three_fields(new_score(13)));
+    group_line(damage::registers(1, new_score(14)));
+    group_line(noise::words(10000, 8001, new_score(15)));
+    group_line(noise::fields(20000, 9001, new_score(16)));
     turns_line(
-        log_ends::logs(13001, new_score(15)),
+        log_ends::logs(13001, new_score(17)),
         ENTRY_ENDS,
         ENTRY_ENDS_END,
     );
+    turns_line(filters::calls(16001, new_score(18)), FILTERS, FILTERS_END);
 }
 
 fn recorded() {
-    let written = record_words::writer(10001, new_score(16));
-    let read = record_words::reader(11001, new_score(17));
-    let traced = traces::runs(12001, new_score(18));
+    let written = record_words::writer(10001, new_score(19));
+    let read = record_words::reader(11001, new_score(20));
+    let traced = traces::runs(12001, new_score(21));
     turns_line(written, WRITER, WRITER_END);
     turns_line(read, READER, READER_END);
     turns_line(traced, RUN, RUN_END);

@@ -4,6 +4,7 @@ use crate::calls::*;
 use crate::compare::*;
 use crate::damage::flipped;
 use crate::damage::words_of;
+use crate::filter_words::*;
 use crate::packing::*;
 use crate::plans;
 use crate::plans::ENTRIES;
@@ -160,7 +161,8 @@ fn registers(f: Frame) -> [u64; REGISTERS] {
     words
 }
 
-// A state whose words are all in range, if its epochs fit their fields.
+// A state whose words are all in range, if its epochs fit their fields, with the filter of its
+// buffered entries or one that is damaged.
 fn random_fields(seed: u64) -> State {
     let f = random_frame(seed);
     let words = random_words(seed);
@@ -169,13 +171,20 @@ fn random_fields(seed: u64) -> State {
     let mut board = with_log(old_board, f);
     board[CONTROL] = control(f);
     board[SHAPE] = shape_word(LINES, ENTRIES);
-    State {
+    let state = State {
         board,
         work: with_buffer(with_slots(old_work, f), f),
         board_words: words.board_words,
         work_words: words.work_words,
         registers: registers(f),
-    }
+    };
+    let second = scrambled(seed);
+    damaged_filter(
+        with_exact_filter(state),
+        below(second, 2 * DAMAGES),
+        below(second >> 20, LINES),
+        second,
+    )
 }
 
 // Some random words with a shape word that fits and with registers and a control word that may.

@@ -11,16 +11,21 @@ pub const SHAPE: usize = 1;
 
 const LOG: u64 = 2;
 
-// A work memory: slots of two words each, then 32 undo entries of two words each.
+// A work memory: slots of two words each, then 32 undo entries of two words each, then a filter of
+// 64 words.
 pub const BUFFER_ENTRIES: u64 = 32;
 
 const BUFFER_WORDS: usize = 64;
+
+pub const FILTER_WORDS: u64 = 64;
+
+const BEHIND_SLOTS: usize = BUFFER_WORDS + FILTER_WORDS as usize;
 
 // The model takes boards of up to 300 words. The work memory has room for S = 257, which is refused,
 // and for two words more.
 pub const BOARD_ROOM: usize = 300;
 
-pub const WORK_ROOM: usize = 2 * 257 + BUFFER_WORDS + 2;
+pub const WORK_ROOM: usize = 2 * 257 + BEHIND_SLOTS + 2;
 
 // N and L, in fields of 20 bits, are at most 65,536.
 pub const MOST_LINES: u64 = 65536;
@@ -37,7 +42,7 @@ pub fn board_words(lines: u64, entries: u64) -> usize {
 
 pub fn work_words(slots: u64) -> usize {
     at_most(
-        sum(slot_place(slots), BUFFER_WORDS as u64) as usize,
+        sum(slot_place(slots), BEHIND_SLOTS as u64) as usize,
         WORK_ROOM,
     )
 }
@@ -54,6 +59,31 @@ pub fn slot_place(k: u64) -> u64 {
 
 pub fn buffer_place(slots: u64, i: u64) -> u64 {
     sum(slot_place(slots), sum(i, i))
+}
+
+pub fn filter_place(slots: u64, i: u64) -> u64 {
+    sum(buffer_place(slots, BUFFER_ENTRIES), i)
+}
+
+// S of a work memory of so many words.
+pub fn slots_in(work_words: usize) -> u64 {
+    if work_words < BEHIND_SLOTS {
+        return 0;
+    }
+    ((work_words - BEHIND_SLOTS) / 2) as u64
+}
+
+// The first and the second bit of an address in the filter.
+pub fn address_bit(address: u64, is_second: bool) -> u64 {
+    if is_second {
+        return address % 65536 * 40503 % 65536 / 16;
+    }
+    address % 4096
+}
+
+// A mask of a bit of the filter, for its word.
+pub fn filter_mask(bit: u64) -> u64 {
+    1 << (63 - bit % 64)
 }
 
 pub fn persisted_of(control: u64) -> u64 {
@@ -82,6 +112,14 @@ pub fn shape_word(lines: u64, entries: u64) -> u64 {
 
 pub fn entry_word(address: u64, from: u64, till: u64) -> u64 {
     (address << 48) | ((from & LAST_EPOCH) << 24) | (till & LAST_EPOCH)
+}
+
+pub fn entry_address(word: u64) -> u64 {
+    word >> 48
+}
+
+pub fn slot_address(word: u64) -> u64 {
+    (word >> 46) & LAST_ADDRESS
 }
 
 pub fn clean_word(address: u64) -> u64 {
@@ -152,13 +190,17 @@ pub fn board_field(place: u64, entries: u64, n: u64) -> Field {
     no_field()
 }
 
-// Field n of a word of a work memory: of a slot word, or of a buffered entry's packed word.
+// Field n of a word of a work memory: of a slot word, or of a buffered entry's packed word. A filter
+// word has none.
 pub fn work_field(place: u64, slots: u64, n: u64) -> Field {
     if place % 2 != 0 {
         return no_field();
     }
     if place < slot_place(slots) {
         return slot_field(n);
+    }
+    if place >= filter_place(slots, 0) {
+        return no_field();
     }
     entry_field(n)
 }

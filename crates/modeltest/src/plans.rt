@@ -35,7 +35,7 @@ fn busy() -> Mix {
 // Many commits: epochs wait.
 fn committing() -> Mix {
     Mix {
-        stores: 18,
+        stores: 17,
         loads: 2,
         evicts: 2,
         commits: 26,
@@ -52,9 +52,22 @@ fn scanning() -> Mix {
         loads: 3,
         evicts: 1,
         commits: 2,
-        scans: 43,
+        scans: 42,
         power_ups: 0,
         cut_every: 500,
+    }
+}
+
+// Many evictions: lines are written out while others are buffered.
+fn evicting() -> Mix {
+    Mix {
+        stores: 26,
+        loads: 4,
+        evicts: 14,
+        commits: 4,
+        scans: 13,
+        power_ups: 1,
+        cut_every: 40,
     }
 }
 
@@ -62,7 +75,7 @@ fn scanning() -> Mix {
 pub fn often_cut() -> Mix {
     Mix {
         stores: 20,
-        loads: 10,
+        loads: 9,
         evicts: 10,
         commits: 6,
         scans: 12,
@@ -142,6 +155,52 @@ pub fn cut(n: u64, seed: u64) -> Plan {
         2 => seeded(plan(8, 40, 8, 3, even(), 1500), seed),
         _ => seeded(plan(8, 70, 8, 5, busy(), 1000), seed),
     }
+}
+
+// Lines that share bits of the filter. Three by three, both bits of the first are bits of the other
+// two: 0 has the bit 0 twice, and so has 233; 123 has 123 and 70, 157 has 123, and 70 has 70; and so
+// on. Random calls on boards of many lines are to the first of these lines alone.
+pub const MANY_LINES: u64 = 200;
+
+pub const SHARED_LINES: u64 = 6;
+
+pub fn shared_line(n: u64) -> u64 {
+    match n {
+        0 => 0,
+        1 | 2 => 233,
+        3 => 123,
+        4 => 157,
+        5 => 70,
+        6 => 246,
+        7 => 81,
+        8 => 141,
+        9 => 281,
+        10 => 26,
+        _ => 48,
+    }
+}
+
+// A line that shares no bit with those.
+pub const OTHER_LINE: u64 = 7;
+
+// The board on which the filter is damaged. No two of three such lines and the one that shares no bit
+// have the same of its slots.
+pub const SHARED_SLOTS: u64 = 8;
+
+pub fn shared_bits() -> Plan {
+    plan(282, ENTRIES, SHARED_SLOTS, SHARED_SLOTS, evicting(), 0)
+}
+
+pub fn sharing(n: u64, seed: u64) -> Plan {
+    match n {
+        0 => seeded(plan(282, 8, 8, 3, evicting(), 4000), seed),
+        1 => seeded(plan(247, 25, 4, 9, evicting(), 4000), seed),
+        _ => seeded(plan(234, 32, 6, 16, evicting(), 4000), seed),
+    }
+}
+
+pub fn cut_sharing(seed: u64) -> Plan {
+    seeded(plan(234, 32, 8, 4, evicting(), 1500), seed)
 }
 
 // The largest boards of the traces, and the fewest and the most records.

@@ -39,7 +39,7 @@ fn group_name(group: u64) {
         );
     } else {
         name_at(
-            b"cuts;cuts at a full buffer;one bit;one field;registers;random words;random fields;log ends;records written;records read;traces;",
+            b"cuts;cuts at a full buffer;shared bits;cuts with shared bits;one bit;one field;registers;random words;random fields;log ends;filters;records written;records read;traces;",
             group - LAST_GROUPS,
         );
     }
@@ -55,6 +55,7 @@ fn call_name(kind: Kind) {
         Kind::Commit => text(b"commit"),
         Kind::Scan => text(b"scan"),
         Kind::Tally => text(b"tally"),
+        Kind::FilterBits => text(b"status question"),
     }
 }
 
@@ -158,6 +159,7 @@ pub fn group_line(score: Score) {
     named(b", most stores ", score.most_stores);
     named(b", persisted ", score.persisted);
     named(b", wrapped ", score.wrapped);
+    named(b", false hits ", score.false_hits);
     differences_of(score);
 }
 
@@ -184,10 +186,15 @@ fn turn_name(turn: u64) {
             b"total of loads;of stores;of evictions;of scans;went on after 5;after 8;after 9;after 11;stores before a bad record;sum past 2^64;",
             turn - LOADS,
         );
-    } else {
+    } else if turn < FILTERS {
         name_at(
             b"refused at P or before;before the next older;17 after P;later but near the next older;later;late and after the next newer;next newer refused;taken 16 after P;less but in the last epoch;less;past the ring's end;",
             turn - ENTRY_ENDS,
+        );
+    } else {
+        name_at(
+            b"false hit by load;by store;by evict;by scan;true hit;one bit of two;no bit;both bits and no entries;false hit of a damaged filter;of one whose every bit is set;14 by load;by store;by evict;by scan;by commit;before 8;before 9;before 10;before 11;before 12;7 before 14;no bits counted;some;all;",
+            turn - FILTERS,
         );
     }
 }

@@ -1,6 +1,9 @@
 // Pseudo-random calls. Every list has a fixed seed, so each run makes the same calls.
 use crate::calls::*;
 use crate::packing::WORK_ROOM;
+use crate::plans::MANY_LINES;
+use crate::plans::SHARED_LINES;
+use crate::plans::shared_line;
 
 // A step of Marsaglia's xorshift generator: from a word that is not 0 to the next.
 pub fn scrambled(x: u64) -> u64 {
@@ -22,8 +25,8 @@ pub fn below(word: u64, bound: u64) -> u64 {
     (word >> 16) % bound
 }
 
-// How many of 64 calls are of each kind; the rest are tallies. One call in `cut_every` gets a small
-// allowance.
+// How many of 64 calls are of each kind; the rest are tallies and status questions by turns. One call
+// in `cut_every` gets a small allowance.
 pub struct Mix {
     pub stores: u64,
     pub loads: u64,
@@ -46,7 +49,10 @@ fn quiet_kind(mix: Mix, n: u64) -> Kind {
     if n < sum(scans, mix.power_ups) {
         return Kind::PowerUp;
     }
-    Kind::Tally
+    if n % 2 == 0 {
+        return Kind::Tally;
+    }
+    Kind::FilterBits
 }
 
 fn kind_of(mix: Mix, n: u64) -> Kind {
@@ -88,13 +94,21 @@ fn allowance(word: u64, cut_every: u64) -> u32 {
     small_allowance(word >> 40)
 }
 
-// A call on a board of so many lines; one address in lines + 1 is out of range.
+// An address on a board of so many lines; one in lines + 1 is out of range. With many lines it is one
+// of those that share bits of the filter.
+fn address(word: u64, lines: u64) -> u64 {
+    if lines < MANY_LINES {
+        return below(word, sum(lines, 1));
+    }
+    shared_line(below(word, SHARED_LINES))
+}
+
 pub fn call(word: u64, mix: Mix, lines: u64, epoch: u64) -> Call {
     let second = scrambled(word);
     let third = scrambled(second);
     Call {
         kind: likely_kind(mix, word, epoch),
-        address: below(second, sum(lines, 1)),
+        address: address(second, lines),
         value: third,
         allowance: allowance(third, mix.cut_every),
     }

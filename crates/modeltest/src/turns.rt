@@ -1,4 +1,4 @@
-// The turns that the groups of recorded traces and of log ends take. Each is counted where it answers
+// The turns that the groups of recorded traces, of log ends and of filters take. Each is counted where it answers
 // the number that its plan says, is printed with its count, and is a difference where it never
 // occurs.
 use crate::calls::index;
@@ -6,7 +6,7 @@ use crate::calls::sum;
 use crate::compare::*;
 use crate::print;
 
-pub const TURNS: usize = 50;
+pub const TURNS: usize = 74;
 
 // The writer's: a kind and an address with no place in a record.
 pub const WRITER: u64 = 0;
@@ -139,6 +139,45 @@ pub const PAST_RING_END: u64 = 49;
 
 pub const ENTRY_ENDS_END: u64 = 50;
 
+// The filters': an accepted call writes a line out and flushes. No buffered entry is of its line,
+// and the filter is as calls left it: by load, store, evict, scan. One is.
+pub const FILTERS: u64 = 50;
+
+pub const FALSE_HIT: u64 = 50;
+
+pub const TRUE_HIT: u64 = 54;
+
+// It writes the line out and does not flush: one bit of its address is set; none is; both are, but
+// nothing is buffered.
+pub const ONE_BIT: u64 = 55;
+
+pub const NO_BIT: u64 = 56;
+
+pub const NO_ENTRIES: u64 = 57;
+
+// As a false hit, but the filter is damaged; or its every bit is set.
+pub const DAMAGED_HIT: u64 = 58;
+
+pub const EVERY_BIT: u64 = 59;
+
+// 14, by load, store, evict, scan, commit.
+pub const UNSET: u64 = 60;
+
+// 14, where without it the number were 8, 9, 10, 11 or 12.
+pub const UNSET_BEFORE: u64 = 65;
+
+// 7, where without it the number were 14.
+pub const UNSET_BEHIND: u64 = 70;
+
+// The status question counts no bits, some, all.
+pub const NONE_COUNTED: u64 = 71;
+
+pub const SOME_COUNTED: u64 = 72;
+
+pub const ALL_COUNTED: u64 = 73;
+
+pub const FILTERS_END: u64 = 74;
+
 // The paper's numbers.
 pub const OK: u64 = 0;
 
@@ -150,13 +189,19 @@ const ENTRY: u64 = 3;
 
 const ADDRESS: u64 = 5;
 
-const ROOM: u64 = 8;
+pub const BUFFER: u64 = 7;
+
+pub const ROOM: u64 = 8;
 
 const WAITING: u64 = 9;
 
 const NONE: u64 = 11;
 
+pub const CUT: u64 = 12;
+
 pub const TRACE: u64 = 13;
+
+pub const FILTER: u64 = 14;
 
 // The number that a turn is planned to answer; of a turn with no such plan the number answered.
 fn planned_number(turn: u64, number: u64) -> u64 {

@@ -1,0 +1,285 @@
+// Calls on a board some of whose lines share bits of the filter, by document 02's request 3/13: "A
+// write-out flushes exactly when b > 0 and both bits of its address are set." Lists of calls leave a
+// dirty line whose bits are set by none, by one or by both of two other lines; then the filter is
+// damaged, and the control word and the registers are set so that other numbers are due too. What a
+// write-out stores, and whether 14 is answered, are held to a plan.
+use crate::calls::*;
+use crate::compare::*;
+use crate::filter_words::*;
+use crate::history::*;
+use crate::packing::*;
+use crate::plans;
+use crate::plans::ENTRIES;
+use crate::plans::OTHER_LINE;
+use crate::plans::SHARED_SLOTS;
+use crate::plans::shared_line;
+use crate::random::advanced;
+use crate::random::below;
+use crate::register_words::*;
+use crate::turns::*;
+
+// A list for each of four lines, and with or without a store to each of the two lines that share its
+// bits and a second one to itself.
+const CHOICES: u64 = 8;
+
+const LISTS: u64 = 4 * CHOICES;
+
+const LENGTH: u64 = 13;
+
+// The line of a list, and the two that share its bits.
+fn line_of(list: u64, role: u64) -> u64 {
+    shared_line(sum(list / CHOICES * 3, role))
+}
+
+// A load that changes nothing, or a store.
+fn chosen(list: u64, choice: u64, role: u64) -> Call {
+    if choice % 2 == 0 {
+        return to_line(Kind::Load, line_of(list, 0), 0);
+    }
+    to_line(Kind::Store, line_of(list, role), sum(list, 100))
+}
+
+// The line is stored and, by the write-out of another, its entry flushed. The scan is brought to its
+// slot before the other lines are stored.
+fn list_call(list: u64, i: u64) -> Call {
+    let line = line_of(list, 0);
+    match i {
+        0 => to_line(Kind::Store, line, sum(list, 1)),
+        1 => to_line(Kind::Store, OTHER_LINE, 2),
+        2 => to_line(Kind::Evict, OTHER_LINE, 0),
+        3 => plain(Kind::Commit),
+        10 => chosen(list, list, 1),
+        11 => chosen(list, list / 2, 2),
+        12 => chosen(list, list / 4, 0),
+        _ => {
+            if i < line % SHARED_SLOTS + 4 {
+                plain(Kind::Scan)
+            } else {
+                to_line(Kind::Load, line, 0)
+            }
+        }
+    }
+}
+
+fn listed(list: u64, score: Score) -> History {
+    let mut next = opened(plans::shared_bits(), score);
+    for i in 0..LENGTH {
+        next = watched(next, list_call(list, i));
+    }
+    next
+}
+
+// What the control word and the registers are set to: as the list left them; no room in the log; 16
+// epochs ahead; the last epoch; no epoch that waits.
+const FRAMES: u64 = 5;
+
+fn framed(s: State, frame: u64) -> State {
+    let cursor = s.registers[CURSOR];
+    let persisted = match frame {
+        3 => LAST_EPOCH - 1,
+        4 => 1,
+        _ => 0,
+    };
+    let length = match frame {
+        1 => std::num::wrapping_sub_u64(ENTRIES, s.registers[BUFFERED]),
+        _ => 2,
+    };
+    let mut next = s;
+    next.board[CONTROL] = control_word(persisted, 0, length);
+    next.registers[EPOCH] = match frame {
+        2 => 16,
+        3 => LAST_EPOCH,
+        _ => 2,
+    };
+    next.registers[CURSOR] = if frame < 3 { cursor } else { 0 };
+    next
+}
+
+// Of the line and of a rival for its slot.
+const CALLS: u64 = 11;
+
+fn numbered_call(line: u64, n: u64) -> Call {
+    let rival = if line < SHARED_SLOTS {
+        line + SHARED_SLOTS
+    } else {
+        line - SHARED_SLOTS
+    };
+    match n {
+        0 => to_line(Kind::Load, rival, 0),
+        1 => to_line(Kind::Store, rival, 3),
+        2 => to_line(Kind::Evict, line, 0),
+        3 => plain(Kind::Scan),
+        4 => plain(Kind::Commit),
+        5 => to_line(Kind::Load, line, 0),
+        6 => to_line(Kind::Store, line, 4),
+        7 => to_line(Kind::Evict, rival, 0),
+        8 => plain(Kind::FilterBits),
+        9 => plain(Kind::Tally),
+        _ => plain(Kind::PowerUp),
+    }
+}
+
+// The calls that test the buffer, in the order of their turns; the status question; the others.
+const TESTING: u64 = 5;
+
+const QUESTION: u64 = 5;
+
+fn place_of(c: Call) -> u64 {
+    let kind = c.kind;
+    match kind {
+        Kind::Load => 0,
+        Kind::Store => 1,
+        Kind::Evict => 2,
+        Kind::Scan => 3,
+        Kind::Commit => 4,
+        Kind::FilterBits => QUESTION,
+        _ => 6,
+    }
+}
+
+fn counted_turn(bits: u64) -> u64 {
+    match bits {
+        0 => NONE_COUNTED,
+        4096 => ALL_COUNTED,
+        _ => SOME_COUNTED,
+    }
+}
+
+// The turn of a call that writes out the line of the slot that it visits.
+fn hit_turn(s: State, c: Call, damage: u64) -> u64 {
+    let line = visited_line(s, c);
+    if !has_both(s, line) {
+        let some = is_set(s, line, false) | is_set(s, line, true);
+        return if some { ONE_BIT } else { NO_BIT };
+    }
+    if s.registers[BUFFERED] == 0 {
+        return NO_ENTRIES;
+    }
+    if is_buffered(s, line) {
+        return TRUE_HIT;
+    }
+    match damage {
+        0 => sum(FALSE_HIT, place_of(c)),
+        ALL_SET => EVERY_BIT,
+        _ => DAMAGED_HIT,
+    }
+}
+
+// One store to the line; with a flush two for each entry and the control word more.
+fn planned_stores(turn: u64, buffered: u64) -> u64 {
+    match turn {
+        ONE_BIT | NO_BIT | NO_ENTRIES => 1,
+        _ => sum(sum(buffered, buffered), 2),
+    }
+}
+
+fn with_write_out(score: Score, s: State, c: Call, damage: u64, round: u64, stores: u64) -> Score {
+    if stores == 0 {
+        return score;
+    }
+    let turn = hit_turn(s, c, damage);
+    let wanted = planned_stores(turn, s.registers[BUFFERED]);
+    let next = with_turn(score, turn);
+    if stores == wanted {
+        return next;
+    }
+    noted_turn(
+        next,
+        turn,
+        round,
+        differing(Part::Stores, 0, stores, wanted),
+    )
+}
+
+// The numbers behind 14 are those that the call has with a filter that sets every bit.
+fn with_behind(score: Score, s: State, c: Call) -> Score {
+    let reply = model_reply(with_filter(s, ONES), c);
+    let number = reply.outcome.number;
+    match number {
+        ROOM..=CUT => with_turn(score, sum(UNSET_BEFORE - ROOM, number)),
+        _ => score,
+    }
+}
+
+// 14 is answered where a buffered entry has either bit unset, unless one of 4 to 7 is.
+fn with_number(score: Score, s: State, c: Call, round: u64, number: u64) -> Score {
+    let turn = sum(UNSET, place_of(c));
+    let unset = is_unset(s);
+    let wanted = if unset { FILTER } else { OK };
+    match number {
+        4 | 5 | 6 => return score,
+        BUFFER => return if unset {
+            with_turn(score, UNSET_BEHIND)
+        } else {
+            score
+        },
+        _ => {}
+    }
+    if unset != (number == FILTER) {
+        return noted_turn(
+            score,
+            turn,
+            round,
+            differing(Part::Planned, 0, number, wanted),
+        );
+    }
+    if unset {
+        with_behind(with_turn(score, turn), s, c)
+    } else {
+        score
+    }
+}
+
+fn judged(s: State, c: Call, damage: u64, round: u64, done: Step) -> Score {
+    let o = done.outcome;
+    let score = done.score;
+    let place = place_of(c);
+    if place == QUESTION {
+        return with_turn(score, counted_turn(o.value));
+    }
+    if place >= TESTING {
+        return score;
+    }
+    let next = with_number(score, s, c, round, o.number);
+    if o.number != OK {
+        return next;
+    }
+    with_write_out(next, s, c, damage, round, o.stores)
+}
+
+const CASES: u64 = 2 * DAMAGES * FRAMES * CALLS;
+
+fn tried(s: State, list: u64, n: u64, word: u64, score: Score) -> Score {
+    let line = line_of(list, 0);
+    let damage = n / 2 % DAMAGES;
+    let frame = n / 2 / DAMAGES % FRAMES;
+    let whole = numbered_call(line, n / 2 / DAMAGES / FRAMES);
+    let c = if n % 2 == 0 {
+        whole
+    } else {
+        allowed(whole, below(word, 8))
+    };
+    let given = damaged_filter(framed(s, frame), damage, line, word);
+    let round = sum(list % LISTS * CASES, n);
+    judged(given, c, damage, round, compared(given, c, score))
+}
+
+fn list_tried(list: u64, seed: u64, score: Score) -> Score {
+    let h = listed(list, score);
+    let state = h.state;
+    let mut next = h.score;
+    let mut word = seed;
+    for n in 0..CASES {
+        word = advanced(word);
+        next = tried(state, list, n, word, next);
+    }
+    next
+}
+
+pub fn calls(seed: u64, score: Score) -> Score {
+    let mut next = score;
+    for list in 0..LISTS {
+        next = list_tried(list, sum(seed, list), next);
+    }
+    all_occurred(next, FILTERS, FILTERS_END)
+}
