@@ -16,6 +16,7 @@ pub enum Call {
     Commit { allowance: u32 },
     Scan { allowance: u32 },
     Tally,
+    FilterBits,
 }
 
 #[derive(Clone, Copy, Debug, PartialEq, Eq)]
@@ -28,10 +29,11 @@ pub enum Kind {
     Commit,
     Scan,
     Tally,
+    FilterBits,
 }
 
 impl Kind {
-    pub const ALL: [Kind; 8] = [
+    pub const ALL: [Kind; 9] = [
         Kind::Format,
         Kind::PowerUp,
         Kind::Load,
@@ -40,6 +42,7 @@ impl Kind {
         Kind::Commit,
         Kind::Scan,
         Kind::Tally,
+        Kind::FilterBits,
     ];
 
     pub fn name(self) -> &'static str {
@@ -52,6 +55,7 @@ impl Kind {
             Kind::Commit => "commit",
             Kind::Scan => "scan",
             Kind::Tally => "tally",
+            Kind::FilterBits => "filter-bits",
         }
     }
 }
@@ -96,6 +100,7 @@ impl Call {
             Call::Commit { .. } => Kind::Commit,
             Call::Scan { .. } => Kind::Scan,
             Call::Tally => Kind::Tally,
+            Call::FilterBits => Kind::FilterBits,
         }
     }
 
@@ -114,6 +119,7 @@ impl Call {
             Call::Commit { allowance } => C::commit(board, work, registers, allowance),
             Call::Scan { allowance } => C::scan(board, work, registers, allowance),
             Call::Tally => C::tally(work),
+            Call::FilterBits => C::filter_bits(work),
         }
     }
 }
@@ -134,7 +140,7 @@ impl fmt::Display for Call {
                 data,
                 allowance,
             } => write!(out, ", address {address}, data {data:#018x}, allowance {allowance}"),
-            Call::Tally => Ok(()),
+            Call::Tally | Call::FilterBits => Ok(()),
         }
     }
 }

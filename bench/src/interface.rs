@@ -1,4 +1,4 @@
-//! What both sides have in common: the eight calls and the writer of records, as one loop can have them on either side.
+//! What both sides have in common: the nine calls and the writer of records, as one loop can have them on either side.
 
 /// What a call answers: the paper's number, the value and the board stores made.
 #[derive(Clone, Copy, Debug, PartialEq, Eq)]
@@ -9,7 +9,7 @@ pub struct Answer {
 }
 
 /// The paper's numbers and their names.
-pub const NAMES: [(u64, &str); 14] = [
+pub const NAMES: [(u64, &str); 15] = [
     (OK, "ok"),
     (SHAPE, "shape"),
     (2, "work"),
@@ -24,6 +24,7 @@ pub const NAMES: [(u64, &str); 14] = [
     (11, "none"),
     (12, "cut"),
     (TRACE, "trace"),
+    (FILTER, "filter"),
 ];
 
 pub const OK: u64 = 0;
@@ -32,6 +33,8 @@ pub const SHAPE: u64 = 1;
 pub const ENTRY: u64 = 3;
 /// A record of a trace that breaks its layout or ends early, or what has no place in one.
 pub const TRACE: u64 = 13;
+/// A buffered entry has a bit in the filter that is not set.
+pub const FILTER: u64 = 14;
 
 pub fn name_of(number: u64) -> &'static str {
     NAMES
@@ -54,7 +57,7 @@ pub const ANSWER_WORDS: usize = 2;
 pub type RecordBytes = [u8; RECORD_BYTES];
 pub const RECORD_BYTES: usize = size_of::<u128>();
 
-/// One implementation of the eight calls and of the writer of records.
+/// One implementation of the nine calls and of the writer of records.
 ///
 /// The registers have a type for each side, so that each is called as it wants to be: the library with an array of
 /// words, the hand-written Rust with a struct.
@@ -95,6 +98,8 @@ pub trait CacheLog {
     fn scan(board: &mut [u64], work: &mut [u64], registers: &mut Self::Registers, allowance: u32) -> Answer;
 
     fn tally(work: &[u64]) -> Answer;
+
+    fn filter_bits(work: &[u64]) -> Answer;
 
     fn trace_write(bytes: &mut RecordBytes, kind: u64, address: u64, value: u64) -> Answer;
 }

@@ -50,7 +50,7 @@ impl State {
     }
 }
 
-/// Any call but format, which is not protected against a cut, and tally, which stores nothing.
+/// Any call but format, which is not protected against a cut, and those that store nothing: tally and the status question.
 fn any_call(random: &mut Random, allowance: u32) -> Call {
     let address = random.below(SIZES.lines);
     match random.below(40) {

@@ -5,7 +5,7 @@ use super::sides::Lent;
 use super::{power_up_turns, record_turns};
 use crate::call::Kind;
 use crate::handwritten::layout::Control;
-use crate::interface::{name_of, NAMES, OK};
+use crate::interface::{name_of, FILTER, NAMES, OK};
 use crate::library::TOO_SHORT;
 use crate::record::Record;
 
@@ -30,11 +30,11 @@ fn possible(function: Function) -> &'static [u64] {
     match function {
         Function::Call(Kind::Format) => &[0, 1, TOO_SHORT],
         Function::Call(Kind::PowerUp) => &[0, 1, 2, 3, 12, TOO_SHORT],
-        Function::Call(Kind::Load | Kind::Evict) => &[0, 1, 2, 4, 5, 6, 7, 12, TOO_SHORT],
-        Function::Call(Kind::Store) => &[0, 1, 2, 4, 5, 6, 7, 8, 12, TOO_SHORT],
-        Function::Call(Kind::Commit) => &[0, 1, 2, 4, 7, 9, 10, TOO_SHORT],
-        Function::Call(Kind::Scan) => &[0, 1, 2, 4, 6, 7, 11, 12, TOO_SHORT],
-        Function::Call(Kind::Tally) => &[0, 2, TOO_SHORT],
+        Function::Call(Kind::Load | Kind::Evict) => &[0, 1, 2, 4, 5, 6, 7, 12, FILTER, TOO_SHORT],
+        Function::Call(Kind::Store) => &[0, 1, 2, 4, 5, 6, 7, 8, 12, FILTER, TOO_SHORT],
+        Function::Call(Kind::Commit) => &[0, 1, 2, 4, 7, 9, 10, FILTER, TOO_SHORT],
+        Function::Call(Kind::Scan) => &[0, 1, 2, 4, 6, 7, 11, 12, FILTER, TOO_SHORT],
+        Function::Call(Kind::Tally | Kind::FilterBits) => &[0, 2, TOO_SHORT],
         Function::TraceWrite => &[0, 13, TOO_SHORT],
     }
 }
@@ -106,7 +106,7 @@ impl Occurrences {
     }
 
     fn count_call_turns(&mut self, kind: Kind, number: u64, before: &Lent, after: &Lent) {
-        if number == OK && !matches!(kind, Kind::Format | Kind::Commit | Kind::Tally) {
+        if number == OK && !matches!(kind, Kind::Format | Kind::Commit | Kind::Tally | Kind::FilterBits) {
             self.count_accepted_turns(kind, before, after);
         }
         if kind == Kind::PowerUp {

@@ -61,6 +61,7 @@ fn make_on_library(call: Call, lent: &mut Lent) -> u64 {
         Call::Commit { allowance } => library::commit(board, work, registers, allowance, answer),
         Call::Scan { allowance } => library::scan(board, work, registers, allowance, answer),
         Call::Tally => library::tally(work, answer),
+        Call::FilterBits => library::filter_bits(work, answer),
     }
 }
 
@@ -90,7 +91,7 @@ pub fn on_handwritten(asked: Asked, lent: &mut Lent) -> u64 {
 
 /// None where the call takes registers and there are too few words.
 fn make_on_handwritten(call: Call, lent: &mut Lent) -> Option<Answer> {
-    if matches!(call, Call::Format { .. } | Call::Tally) {
+    if matches!(call, Call::Format { .. } | Call::Tally | Call::FilterBits) {
         return Some(call.make::<HandWritten>(&mut lent.board, &mut lent.work, &mut Registers::default()));
     }
     if !lent.has_registers() {

@@ -1,6 +1,6 @@
 //! The tests that a call makes before it changes anything.
 
-use super::layout::{self, Control, Entry, Range, Shape, SlotWord, BUFFER_ENTRIES, LAST_EPOCH, MOST_AHEAD};
+use super::layout::{self, Control, Entry, Filter, Range, Shape, SlotWord, BUFFER_ENTRIES, LAST_EPOCH, MOST_AHEAD};
 use super::Registers;
 
 /// The refusals, by the paper's numbers. `Entry` is the one that comes with a value.
@@ -18,6 +18,7 @@ pub enum Refusal {
     Waiting = 9,
     Last = 10,
     None = 11,
+    Filter = 14,
 }
 
 /// The board's first two words, once they agree with each other and with its length.
@@ -84,16 +85,23 @@ pub fn slot_is_proper(word: SlotWord, place: usize, slots: usize, lines: usize, 
         && (address % slots as u32) as usize == place
 }
 
+/// Tests every buffered entry, and then the filter's bits of each. One pass is enough: it notes whether a bit is unset, and
+/// says so at its end, since any entry that is not proper comes before.
 #[inline]
-pub fn buffer(buffered: &[Entry], lines: u64, epoch: u64) -> Result<(), Refusal> {
-    let proper = buffered.iter().all(|&[packed, _]| {
+pub fn buffer(buffered: &[Entry], filter: &Filter, lines: u64, epoch: u64) -> Result<(), Refusal> {
+    let mut all_marked = true;
+    for &[packed, _] in buffered {
         let range = Range::unpack(packed);
-        range.address < lines && range.valid_from < range.valid_till && range.valid_till <= epoch
-    });
-    if proper {
+        let proper = range.address < lines && range.valid_from < range.valid_till && range.valid_till <= epoch;
+        if !proper {
+            return Err(Refusal::Buffer);
+        }
+        all_marked &= layout::is_marked(filter, range.address);
+    }
+    if all_marked {
         Ok(())
     } else {
-        Err(Refusal::Buffer)
+        Err(Refusal::Filter)
     }
 }
 

@@ -18,6 +18,9 @@ const fn ones(bits: u32) -> u64 {
     (1 << bits) - 1
 }
 
+/// A word's first bit is its most significant one.
+const FIRST_BIT: u64 = 1 << (u64::BITS - 1);
+
 /// A board: control word, shape word, log entries, lines.
 pub const CONTROL_PLACE: usize = 0;
 pub const SHAPE_PLACE: usize = 1;
@@ -37,7 +40,7 @@ pub const fn entry_place(ring_place: usize) -> usize {
     HEAD_WORDS + ENTRY_WORDS * ring_place
 }
 
-/// Where a slot word stands in a work memory: slots, then the buffer.
+/// Where a slot word stands in a work memory: slots, then the buffer, then the filter.
 #[inline]
 pub const fn slot_place(slot: usize) -> usize {
     SLOT_WORDS * slot
@@ -49,10 +52,16 @@ pub const fn buffer_place(slots: usize, place: usize) -> usize {
     slot_place(slots) + ENTRY_WORDS * place
 }
 
+/// Where the filter's first word stands in a work memory with so many slots.
+#[inline]
+pub const fn filter_place(slots: usize) -> usize {
+    buffer_place(slots, BUFFER_ENTRIES)
+}
+
 /// The words of a work memory with so many slots.
 #[inline]
 pub const fn work_words(slots: usize) -> usize {
-    buffer_place(slots, BUFFER_ENTRIES)
+    filter_place(slots) + FILTER_WORDS
 }
 
 /// How many slots there is room for in a work memory of so many words.
@@ -76,17 +85,19 @@ pub fn slots_of(work: &[u64], slots: usize) -> &[Slot] {
     work[..slot_place(slots)].as_chunks().0
 }
 
-/// The buffer of a work memory with so many slots.
+/// The buffer and the filter of a work memory with so many slots.
 #[inline]
-pub fn buffer_of(work: &[u64], slots: usize) -> &[Entry] {
-    work[slot_place(slots)..].as_chunks().0
+pub fn buffer_and_filter_of(work: &[u64], slots: usize) -> Option<(&[Entry], &Filter)> {
+    let (buffer, filter) = work[slot_place(slots)..].split_last_chunk()?;
+    Some((buffer.as_chunks().0, filter))
 }
 
-/// The slots of a work memory that has so many, and the buffer.
+/// The slots of a work memory that has so many, the buffer, and the filter.
 #[inline]
-pub fn work_parts_mut(work: &mut [u64], slots: usize) -> (&mut [Slot], &mut [Entry]) {
-    let (slots, buffer) = work.split_at_mut(slot_place(slots));
-    (slots.as_chunks_mut().0, buffer.as_chunks_mut().0)
+pub fn work_parts_mut(work: &mut [u64], slots: usize) -> Option<(&mut [Slot], &mut [Entry], &mut Filter)> {
+    let (slots, rest) = work.split_at_mut(slot_place(slots));
+    let (buffer, filter) = rest.split_last_chunk_mut()?;
+    Some((slots.as_chunks_mut().0, buffer.as_chunks_mut().0, filter))
 }
 
 /// What a board's control word and its shape word say.
@@ -208,6 +219,63 @@ impl Range {
     #[inline]
     pub fn covers(self, epoch: u64) -> bool {
         self.valid_from <= epoch && epoch < self.valid_till
+    }
+}
+
+/// The filter: bits for the addresses of the buffered entries. Bit 0 is the first bit of the first word.
+pub type Filter = [u64; FILTER_WORDS];
+pub const FILTER_WORDS: usize = FILTER_BITS / u64::BITS as usize;
+pub const FILTER_BITS: usize = 4_096;
+
+/// The place of a bit in the filter.
+#[derive(Clone, Copy, Debug, PartialEq, Eq)]
+pub struct FilterBit(pub usize);
+
+impl FilterBit {
+    const FACTOR: u16 = 40_503;
+    const DIVISOR: u16 = 16;
+
+    /// The two bits of an address. They may be one.
+    #[inline]
+    pub fn both_of(address: u64) -> [FilterBit; 2] {
+        let scattered = (address as u16).wrapping_mul(Self::FACTOR);
+        [
+            FilterBit(address as usize % FILTER_BITS),
+            FilterBit(usize::from(scattered / Self::DIVISOR)),
+        ]
+    }
+
+    /// Its word in the filter.
+    #[inline]
+    pub fn word(self) -> usize {
+        self.0 / u64::BITS as usize
+    }
+
+    /// How far its word has to be shifted to the left for it to be the first bit.
+    #[inline]
+    fn shift(self) -> usize {
+        self.0 % u64::BITS as usize
+    }
+
+    /// The word that has this bit alone.
+    #[inline]
+    pub fn mask(self) -> u64 {
+        FIRST_BIT >> self.shift()
+    }
+}
+
+/// Whether both bits of an address are set.
+#[inline]
+pub fn is_marked(filter: &Filter, address: u64) -> bool {
+    let [first, second] = FilterBit::both_of(address).map(|bit| filter[bit.word()] << bit.shift());
+    first & second & FIRST_BIT != 0
+}
+
+/// Sets both bits of an address.
+#[inline]
+pub fn mark(filter: &mut Filter, address: u64) {
+    for bit in FilterBit::both_of(address) {
+        filter[bit.word()] |= bit.mask();
     }
 }
 

@@ -1,7 +1,9 @@
 //! Board and work memory of a call once shape, work and registers are tested, and the steps that calls are made of.
 
 use super::checks::{self, Refusal};
-use super::layout::{board_parts_mut, work_parts_mut, Control, Entry, Range, Slot, SlotWord, BUFFER_ENTRIES};
+use super::layout::{
+    board_parts_mut, is_marked, mark, work_parts_mut, Control, Entry, Filter, Range, Slot, SlotWord, BUFFER_ENTRIES,
+};
 use super::Registers;
 
 /// Why a call ends early.
@@ -56,6 +58,7 @@ pub struct Machine<'a> {
     pub lines: &'a mut [u64],
     pub slots: &'a mut [Slot],
     pub buffer: &'a mut [Entry],
+    pub filter: &'a mut Filter,
     pub registers: &'a mut Registers,
     pub mains: &'a mut Mains,
 }
@@ -73,7 +76,7 @@ impl<'a> Machine<'a> {
         let slot_count = checks::slot_count(work.len())?;
         checks::registers(registers, control, shape, slot_count)?;
         let (control_word, log, lines) = board_parts_mut(board, shape).ok_or(Refusal::Shape)?;
-        let (slots, buffer) = work_parts_mut(work, slot_count);
+        let (slots, buffer, filter) = work_parts_mut(work, slot_count).ok_or(Refusal::Work)?;
         Ok(Machine {
             control,
             control_word,
@@ -81,6 +84,7 @@ impl<'a> Machine<'a> {
             lines,
             slots,
             buffer,
+            filter,
             registers,
             mains,
         })
@@ -114,14 +118,11 @@ impl<'a> Machine<'a> {
         }
     }
 
+    /// Tests the buffered entries, and then the filter.
     #[inline]
     pub fn check_buffer(&self) -> Result<(), Refusal> {
-        checks::buffer(self.buffered(), self.lines.len() as u64, self.registers.epoch)
-    }
-
-    #[inline]
-    fn buffered(&self) -> &[Entry] {
-        &self.buffer[..self.registers.buffered as usize]
+        let buffered = &self.buffer[..self.registers.buffered as usize];
+        checks::buffer(buffered, self.filter, self.lines.len() as u64, self.registers.epoch)
     }
 
     #[inline]
@@ -129,7 +130,8 @@ impl<'a> Machine<'a> {
         SlotWord(self.slots[place][0])
     }
 
-    /// Stores the buffered entries at the ring's end, then the control word that counts them.
+    /// Stores the buffered entries at the ring's end, then the control word that counts them. Buffer and filter are empty
+    /// then.
     #[inline(always)]
     pub fn flush(&mut self) -> Result<(), Stop> {
         let buffered = self.registers.buffered as usize;
@@ -153,15 +155,16 @@ impl<'a> Machine<'a> {
         self.mains.store(self.control_word, self.control.pack())?;
         self.registers.buffered = 0;
         self.buffer.fill([0, 0]);
+        self.filter.fill(0);
         Ok(())
     }
 
-    /// Stores a slot's line to the board, after the buffer if that has an entry of the line.
+    /// Stores a slot's line to the board, after the buffer if that may have an entry of the line. The filter alone says so,
+    /// and a flush of an empty buffer does nothing.
     #[inline(always)]
     pub fn write_out(&mut self, place: usize) -> Result<(), Stop> {
         let address = self.word_of(place).address();
-        let has_entry = |&[packed, _]: &Entry| Range::unpack(packed).address == address;
-        if self.buffered().iter().any(has_entry) {
+        if is_marked(self.filter, address) {
             self.flush()?;
         }
         self.mains
@@ -186,11 +189,12 @@ impl<'a> Machine<'a> {
         Ok(())
     }
 
-    /// Puts an undo entry at the buffer's end, and flushes a full buffer.
+    /// Puts an undo entry at the buffer's end and its address in the filter, and flushes a full buffer.
     #[inline(always)]
     pub fn record(&mut self, range: Range, old_data: u64) -> Result<(), Stop> {
         let buffered = self.registers.buffered as usize;
         self.buffer[buffered] = [range.pack(), old_data];
+        mark(self.filter, range.address);
         self.registers.buffered += 1;
         if buffered + 1 == BUFFER_ENTRIES {
             self.flush()?;

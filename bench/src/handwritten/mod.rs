@@ -1,4 +1,4 @@
-//! The eight calls in ordinary Rust, written from the paper alone: the yardstick for what the library answers and for
+//! The nine calls in ordinary Rust, written from the paper alone: the yardstick for what the library answers and for
 //! how fast it does so.
 
 mod checks;
@@ -13,7 +13,8 @@ mod tests;
 use crate::interface::{Answer, OK};
 use checks::Refusal;
 use layout::{
-    board_parts_mut, buffer_of, slots_of, Control, Range, Shape, Slot, SlotWord, LAST_EPOCH, MOST_AHEAD, SHAPE_PLACE,
+    board_parts_mut, buffer_and_filter_of, slots_of, Control, Range, Shape, Slot, SlotWord, LAST_EPOCH, MOST_AHEAD,
+    SHAPE_PLACE,
 };
 use machine::{Machine, Mains, Stop};
 pub use registers::Registers;
@@ -155,8 +156,9 @@ fn next_epoch(board: &[u64], work: &[u64], registers: &Registers) -> Result<u64,
     let (control, shape) = checks::head(board)?;
     let slot_count = checks::slot_count(work.len())?;
     checks::registers(registers, control, shape, slot_count)?;
-    let buffered = &buffer_of(work, slot_count)[..registers.buffered as usize];
-    checks::buffer(buffered, shape.lines, registers.epoch)?;
+    let (buffer, filter) = buffer_and_filter_of(work, slot_count).ok_or(Refusal::Work)?;
+    let buffered = &buffer[..registers.buffered as usize];
+    checks::buffer(buffered, filter, shape.lines, registers.epoch)?;
     if registers.epoch - control.persisted == MOST_AHEAD {
         return Err(Refusal::Waiting);
     }
@@ -222,6 +224,22 @@ pub fn tally(work: &[u64]) -> Answer {
         }
         Err(refusal) => refused(refusal, 0),
     }
+}
+
+/// The status question: how many bits of the filter are set.
+#[inline(never)]
+pub fn filter_bits(work: &[u64]) -> Answer {
+    match count_filter_bits(work) {
+        Ok(bits) => accepted(bits, 0),
+        Err(refusal) => refused(refusal, 0),
+    }
+}
+
+#[inline]
+fn count_filter_bits(work: &[u64]) -> Result<u64, Refusal> {
+    let slots = checks::slot_count(work.len())?;
+    let (_, filter) = buffer_and_filter_of(work, slots).ok_or(Refusal::Work)?;
+    Ok(filter.iter().map(|word| u64::from(word.count_ones())).sum())
 }
 
 /// Makes a call on memories and registers once they are tested.

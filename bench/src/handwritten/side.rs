@@ -56,6 +56,11 @@ impl CacheLog for HandWritten {
     }
 
     #[inline]
+    fn filter_bits(work: &[u64]) -> Answer {
+        super::filter_bits(work)
+    }
+
+    #[inline]
     fn trace_write(bytes: &mut RecordBytes, kind: u64, address: u64, value: u64) -> Answer {
         record::trace_write(bytes, kind, address, value)
     }

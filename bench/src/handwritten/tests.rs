@@ -1,4 +1,7 @@
-//! The paper's own examples: W1 to W12, its replay, its traps, and the latest log entry that is proper.
+//! The paper's own examples: W1 to W12, its replay, its traps, and the latest log entry that is proper. filter.rs has those of
+//! the filter.
+
+mod filter;
 
 use super::layout::{buffer_place, entry_place, Control, Range, Shape, SlotWord, CONTROL_PLACE, LAST_EPOCH};
 use super::{HandWritten, Registers};
@@ -174,6 +177,7 @@ fn w7_to_w9_undo_entries() {
 #[test]
 fn w10_and_w11_eviction_with_its_entry_buffered() {
     let mut loom = Loom::new(4, 8, 2);
+    assert_eq!(loom.work.len(), 2 * 2 + 128);
     loom.store(1, 7);
     assert_eq!(loom.evict(1, 4), answer(0, 1, 4));
     assert_eq!(loom.line(1), 7);
@@ -236,7 +240,7 @@ fn clean_line_is_undone_from_the_persisted_epoch() {
 }
 
 #[test]
-fn the_lowest_number_wins_and_names_the_entry() {
+fn power_up_refuses_in_the_papers_order_and_names_the_entry() {
     let mut loom = Loom::new(4, 8, 2);
     loom.put_log(1, &[(range(3, 0, 3), 4), (range(3, 0, 2), 6)]);
     assert_eq!(loom.power_up(), answer(3, 1, 0));

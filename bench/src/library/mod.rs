@@ -88,6 +88,7 @@ mod c {
             answer_words: usize,
         ) -> u64;
         pub fn picl_tally(work: *const u64, work_words: usize, answer: *mut u64, answer_words: usize) -> u64;
+        pub fn picl_filter_bits(work: *const u64, work_words: usize, answer: *mut u64, answer_words: usize) -> u64;
         pub fn picl_trace_write(
             bytes: *mut u8,
             byte_count: usize,
@@ -248,6 +249,11 @@ pub fn scan(board: &mut [u64], work: &mut [u64], registers: &mut [u64], allowanc
 #[inline]
 pub fn tally(work: &[u64], answer: &mut [u64]) -> u64 {
     unsafe { c::picl_tally(work.as_ptr(), work.len(), answer.as_mut_ptr(), answer.len()) }
+}
+
+#[inline]
+pub fn filter_bits(work: &[u64], answer: &mut [u64]) -> u64 {
+    unsafe { c::picl_filter_bits(work.as_ptr(), work.len(), answer.as_mut_ptr(), answer.len()) }
 }
 
 #[inline]

@@ -76,6 +76,11 @@ impl CacheLog for Library {
     }
 
     #[inline]
+    fn filter_bits(work: &[u64]) -> Answer {
+        answered(|answer| super::filter_bits(work, answer))
+    }
+
+    #[inline]
     fn trace_write(bytes: &mut RecordBytes, kind: u64, address: u64, value: u64) -> Answer {
         answered(|answer| super::trace_write(bytes, kind, address, value, answer))
     }
