@@ -2,14 +2,14 @@
 
 use super::sides::Lent;
 use crate::handwritten::layout::{
-    Range, Shape, SlotWord, BUFFER_ENTRIES, ENTRY_WORDS, LAST_ADDRESS, LAST_EPOCH, MOST_AHEAD,
+    FilterBit, Range, Shape, SlotWord, BUFFER_ENTRIES, ENTRY_WORDS, FILTER_BITS, LAST_ADDRESS, LAST_EPOCH, MOST_AHEAD,
 };
 use crate::interface::REGISTER_WORDS;
 use crate::random::Random;
 
 /// Does one thing to a state with a board of at least two words.
 pub fn damage(random: &mut Random, state: &mut Lent) {
-    let kinds: [fn(&mut Random, &mut Lent); 10] = [
+    let kinds: [fn(&mut Random, &mut Lent); 12] = [
         flip_a_bit,
         damage_control,
         damage_shape,
@@ -18,6 +18,8 @@ pub fn damage(random: &mut Random, state: &mut Lent) {
         damage_slot,
         damage_buffer,
         damage_buffer,
+        damage_filter,
+        damage_filter,
         damage_registers,
         change_length,
     ];
@@ -84,6 +86,50 @@ fn damage_buffer(random: &mut Random, state: &mut Lent) {
     let place = random.below(buffered + 1) as usize;
     let range = damaged_range(random, state, state.buffered(place));
     state.set_buffered(place, range);
+    // An entry with another address is refused for its bits, most times, unless they are set too.
+    if random.one_in(2) {
+        state.mark(range.address);
+    }
+}
+
+/// A filter with a bit less or more than it had, without those of a buffered entry, with those of a line that a slot holds,
+/// full, empty, or of any words.
+pub fn damage_filter(random: &mut Random, state: &mut Lent) {
+    if !state.has_buffer() {
+        return flip_a_bit(random, state);
+    }
+    let any_bit = FilterBit(random.below(FILTER_BITS as u64) as usize);
+    match random.below(8) {
+        0 => state.set_bit(any_bit),
+        1 => state.filter_mut().fill(u64::MAX),
+        2 => state.filter_mut().fill(0),
+        3 => {
+            let words = random.words(state.filter().len());
+            state.filter_mut().copy_from_slice(&words);
+        }
+        4 => {
+            let slot = random.below(state.slots() as u64) as usize;
+            if slot < state.slots() {
+                state.mark(state.slot(slot).address());
+            }
+        }
+        _ => clear_bits_of_an_entry(random, state, any_bit),
+    }
+}
+
+/// Clears one bit of a buffered entry, or both; where none is buffered, any bit.
+fn clear_bits_of_an_entry(random: &mut Random, state: &mut Lent, any_bit: FilterBit) {
+    let buffered = state.buffered_ranges().count() as u64;
+    if buffered == 0 {
+        return state.clear_bit(any_bit);
+    }
+    let place = random.below(buffered) as usize;
+    let bits = FilterBit::both_of(state.buffered(place).address);
+    match random.below(3) {
+        0 => state.clear_bit(bits[0]),
+        1 => state.clear_bit(bits[1]),
+        _ => bits.into_iter().for_each(|bit| state.clear_bit(bit)),
+    }
 }
 
 /// A range with one field at the edge of what is proper.

@@ -2,7 +2,7 @@
 
 use super::player::{Outcome, Player};
 use crate::call::{Call, NO_CUT};
-use crate::handwritten::layout::{ENTRY_WORDS, MOST_LINES};
+use crate::handwritten::layout::{FilterBit, ENTRY_WORDS, FILTER_BITS, MOST_LINES};
 use crate::random::Random;
 use crate::sizes::Sizes;
 
@@ -53,15 +53,16 @@ impl Sizes {
     }
 }
 
-/// How often each call is made, in parts of their sum: load, store, evict, commit, scan, tally, power-up, format.
-type Weights = [u64; 8];
+/// How often each call is made, in parts of their sum: load, store, evict, commit, scan, tally, power-up, format, the status
+/// question.
+type Weights = [u64; 9];
 
-const BALANCED: Weights = [200, 400, 50, 30, 300, 10, 9, 1];
-const STORES: Weights = [60, 800, 10, 12, 100, 5, 3, 0];
-const EPOCHS: Weights = [50, 300, 40, 250, 350, 5, 5, 0];
-const SCANS: Weights = [100, 250, 30, 60, 550, 5, 5, 0];
-const COMMITS: Weights = [50, 500, 30, 300, 100, 5, 15, 0];
-const READS: Weights = [700, 200, 50, 10, 30, 10, 0, 0];
+const BALANCED: Weights = [200, 400, 50, 30, 300, 10, 9, 1, 20];
+const STORES: Weights = [60, 800, 10, 12, 100, 5, 3, 0, 10];
+const EPOCHS: Weights = [50, 300, 40, 250, 350, 5, 5, 0, 10];
+const SCANS: Weights = [100, 250, 30, 60, 550, 5, 5, 0, 10];
+const COMMITS: Weights = [50, 500, 30, 300, 100, 5, 15, 0, 10];
+const READS: Weights = [700, 200, 50, 10, 30, 10, 0, 0, 20];
 
 pub struct Habit {
     sizes: Sizes,
@@ -108,7 +109,8 @@ impl Habit {
             4 => Call::Scan { allowance },
             5 => Call::Tally,
             6 => Call::PowerUp { allowance },
-            _ => self.draw_format(random),
+            7 => self.draw_format(random),
+            _ => Call::FilterBits,
         }
     }
 
@@ -158,10 +160,10 @@ impl Habit {
     }
 }
 
-/// None, some anywhere, some that meet in one or two slots, or a row of which no two meet.
+/// None, some anywhere, some that meet in one or two slots, a row of which no two meet, or some that meet in the filter.
 fn hot_addresses(random: &mut Random, sizes: Sizes) -> Vec<u64> {
     let count = random.between(1, 24);
-    match random.below(4) {
+    match random.below(5) {
         0 => Vec::new(),
         1 => (0..count).map(|_| random.below(sizes.lines)).collect(),
         2 => {
@@ -171,8 +173,45 @@ fn hot_addresses(random: &mut Random, sizes: Sizes) -> Vec<u64> {
                 .map(|address| address % sizes.lines)
                 .collect()
         }
+        3 => meeting_in_the_filter(random, sizes),
         _ => (0..sizes.slots.min(sizes.lines)).collect(),
     }
+}
+
+/// A line, lines with its bits, so that it may be a false hit, and another line for its slot. Lines on a small board may
+/// have no bits in common: then just the line and the other.
+fn meeting_in_the_filter(random: &mut Random, sizes: Sizes) -> Vec<u64> {
+    let Sizes { lines, slots, .. } = sizes;
+    let address = *meeting_lines(lines)
+        .get(random.below(8) as usize)
+        .unwrap_or(&random.below(lines));
+    let [first, second] = FilterBit::both_of(address).map(|bit| others_with(bit, address, lines));
+    let mut hot = vec![address, (address + slots) % lines];
+    for others in [first, second] {
+        if !others.is_empty() {
+            hot.push(random.pick(&others));
+        }
+    }
+    hot
+}
+
+/// Lines, the lowest few, both of whose bits other lines have.
+fn meeting_lines(lines: u64) -> Vec<u64> {
+    let mut owners = vec![0; FILTER_BITS];
+    let bits_of = |address| FilterBit::both_of(address).map(|FilterBit(bit)| bit);
+    for address in 0..lines {
+        let [first, second] = bits_of(address);
+        owners[first] += 1;
+        owners[second] += u64::from(second != first);
+    }
+    let meets = |address: &u64| bits_of(*address).iter().all(|&bit| owners[bit] > 1);
+    (0..lines).filter(meets).take(8).collect()
+}
+
+/// The lines that have a bit, but for one of them.
+pub fn others_with(bit: FilterBit, address: u64, lines: u64) -> Vec<u64> {
+    let has_bit = |other: &u64| *other != address && FilterBit::both_of(*other).contains(&bit);
+    (0..lines).filter(has_bit).collect()
 }
 
 /// Lends a board and a work memory of any words, formats the board and powers up.

@@ -4,8 +4,8 @@
 use super::sides::Lent;
 use crate::call::Call;
 use crate::handwritten::layout::{
-    buffer_place, entry_place, slot_place, slots_in, work_words, Control, Range, Shape, SlotWord, CONTROL_PLACE,
-    SHAPE_PLACE,
+    buffer_place, entry_place, filter_place, mark, slot_place, slots_in, work_words, Control, Filter, FilterBit, Range,
+    Shape, SlotWord, BUFFER_ENTRIES, CONTROL_PLACE, SHAPE_PLACE,
 };
 use crate::handwritten::{record, Registers};
 use crate::interface::{RegisterWords, REGISTER_WORDS, TRACE};
@@ -79,6 +79,7 @@ impl Lent {
         self.work[slot_place(place)] = word.0;
     }
 
+    /// There is room for a buffer and a filter.
     pub fn has_buffer(&self) -> bool {
         self.work.len() >= work_words(0)
     }
@@ -91,6 +92,47 @@ impl Lent {
     pub fn set_buffered(&mut self, place: usize, range: Range) {
         let word = buffer_place(self.slots(), place);
         self.work[word] = range.pack();
+    }
+
+    /// The first b buffered entries' ranges, where there are that many.
+    pub fn buffered_ranges(&self) -> impl Iterator<Item = Range> + '_ {
+        let count = self.registers().buffered.min(BUFFER_ENTRIES as u64) as usize;
+        (0..count).map(|place| self.buffered(place))
+    }
+
+    /// The filter of a work memory that has room for one.
+    pub fn filter(&self) -> &Filter {
+        let from = filter_place(self.slots());
+        self.work[from..].first_chunk().expect("a work memory with a filter")
+    }
+
+    pub fn filter_mut(&mut self) -> &mut Filter {
+        let from = filter_place(self.slots());
+        self.work[from..]
+            .first_chunk_mut()
+            .expect("a work memory with a filter")
+    }
+
+    pub fn set_bit(&mut self, bit: FilterBit) {
+        self.filter_mut()[bit.word()] |= bit.mask();
+    }
+
+    pub fn clear_bit(&mut self, bit: FilterBit) {
+        self.filter_mut()[bit.word()] &= !bit.mask();
+    }
+
+    /// Sets both bits of an address.
+    pub fn mark(&mut self, address: u64) {
+        mark(self.filter_mut(), address);
+    }
+
+    /// A filter with the bits of the first b buffered entries and no others.
+    pub fn set_exact_filter(&mut self) {
+        self.filter_mut().fill(0);
+        let ranges: Vec<Range> = self.buffered_ranges().collect();
+        for range in ranges {
+            self.mark(range.address);
+        }
     }
 
     pub fn has_registers(&self) -> bool {

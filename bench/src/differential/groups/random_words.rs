@@ -1,7 +1,9 @@
 //! Memories and arguments that no history leads to.
 
 use crate::call::{Call, NO_CUT};
+use crate::differential::damage::damage_filter;
 use crate::differential::player::{Outcome, Player};
+use crate::differential::sides::Lent;
 use crate::handwritten::layout::{
     entry_place, work_words, Control, Range, Shape, SlotWord, BUFFER_ENTRIES, COUNT_BITS, ENTRY_WORDS, LAST_EPOCH,
     MOST_AHEAD, MOST_ENTRIES, MOST_LINES, MOST_SLOTS,
@@ -139,6 +141,7 @@ fn right_shape_wild_words(player: &mut Player) -> Outcome {
         let range = wild_range(random, lines, control.persisted, epoch);
         player.state.set_buffered(place, range);
     }
+    wild_filter(random, &mut player.state);
     for _ in 0..player.random.between(1, 8) {
         let call = any_call(&mut player.random, lines + 1);
         player.make(call)?;
@@ -162,6 +165,25 @@ fn wild_range(random: &mut Random, lines: u64, persisted: u64, epoch: u64) -> Ra
         range.valid_till = random.near(edge, 1) & LAST_EPOCH;
     }
     range
+}
+
+/// A filter of any words would hardly ever have the bits of many entries: most times it has them, and often others.
+fn wild_filter(random: &mut Random, state: &mut Lent) {
+    let words = random.words(state.filter().len());
+    match random.below(6) {
+        0 => return,
+        1 => state.filter_mut().fill(u64::MAX),
+        _ => state.set_exact_filter(),
+    }
+    match random.below(4) {
+        0 => state
+            .filter_mut()
+            .iter_mut()
+            .zip(words)
+            .for_each(|(word, more)| *word |= more),
+        1 => damage_filter(random, state),
+        _ => {}
+    }
 }
 
 fn wild_slot(random: &mut Random, sizes: Sizes, place: u64, control: Control, epoch: u64) -> SlotWord {
@@ -188,7 +210,7 @@ fn any_call(random: &mut Random, lines: u64) -> Call {
         2 => random.word() as u32,
         _ => NO_CUT,
     };
-    match random.below(16) {
+    match random.below(17) {
         0 => Call::PowerUp { allowance },
         1..=3 => Call::Load { address, allowance },
         4..=7 => Call::Store {
@@ -199,6 +221,7 @@ fn any_call(random: &mut Random, lines: u64) -> Call {
         8..=10 => Call::Evict { address, allowance },
         11 => Call::Commit { allowance },
         12..=14 => Call::Scan { allowance },
+        15 => Call::FilterBits,
         _ => Call::Tally,
     }
 }
