@@ -15,6 +15,7 @@ mod replay;
 mod repository;
 mod sizes;
 mod trace;
+mod write_out;
 
 use std::process::ExitCode;
 

@@ -39,6 +39,12 @@ impl Loom {
         call.make::<HandWritten>(&mut self.board, &mut self.work, &mut self.registers)
     }
 
+    /// What a call writes out, if it is accepted.
+    #[cfg(test)]
+    pub fn write_out(&self, call: Call) -> Option<crate::write_out::WriteOut> {
+        crate::write_out::WriteOut::of(call, &self.board, &self.work, self.registers)
+    }
+
     pub fn registers(&self) -> Registers {
         self.registers
     }

@@ -4,6 +4,7 @@
 mod asked;
 mod damage;
 mod difference;
+mod filter_turns;
 mod groups;
 mod habit;
 mod occurrences;

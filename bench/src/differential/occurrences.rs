@@ -2,8 +2,8 @@
 
 use super::asked::{Asked, Function};
 use super::sides::Lent;
-use super::{power_up_turns, record_turns};
-use crate::call::Kind;
+use super::{filter_turns, power_up_turns, record_turns};
+use crate::call::{Call, Kind};
 use crate::handwritten::layout::Control;
 use crate::interface::{name_of, FILTER, NAMES, OK};
 use crate::library::TOO_SHORT;
@@ -85,12 +85,25 @@ struct Seen {
     entries: usize,
 }
 
-#[derive(Clone, Default)]
+#[derive(Clone)]
 pub struct Occurrences {
     numbers: [[u64; COLUMNS]; Function::COUNT],
     turns: [u64; TURNS.len()],
     power_up_turns: [u64; power_up_turns::TURNS.len()],
+    filter_turns: [u64; filter_turns::TURNS.len()],
     record_turns: [u64; record_turns::TURNS.len()],
+}
+
+impl Default for Occurrences {
+    fn default() -> Self {
+        Occurrences {
+            numbers: [[0; COLUMNS]; Function::COUNT],
+            turns: [0; TURNS.len()],
+            power_up_turns: [0; power_up_turns::TURNS.len()],
+            filter_turns: [0; filter_turns::TURNS.len()],
+            record_turns: [0; record_turns::TURNS.len()],
+        }
+    }
 }
 
 impl Occurrences {
@@ -100,12 +113,13 @@ impl Occurrences {
             .expect("the hand-written side answers no other number");
         self.numbers[asked.function().place()][column] += 1;
         match asked {
-            Asked::Call(call) => self.count_call_turns(call.kind(), number, before, after),
+            Asked::Call(call) => self.count_call_turns(call, number, before, after),
             Asked::TraceWrite(record) => self.count_record_turns(record, number, before),
         }
     }
 
-    fn count_call_turns(&mut self, kind: Kind, number: u64, before: &Lent, after: &Lent) {
+    fn count_call_turns(&mut self, call: Call, number: u64, before: &Lent, after: &Lent) {
+        let kind = call.kind();
         if number == OK && !matches!(kind, Kind::Format | Kind::Commit | Kind::Tally | Kind::FilterBits) {
             self.count_accepted_turns(kind, before, after);
         }
@@ -113,6 +127,10 @@ impl Occurrences {
             let seen = power_up_turns::Seen { before, after, number };
             let taken = power_up_turns::TURNS.map(|(_, turn)| turn(&seen));
             count_taken(&mut self.power_up_turns, taken);
+        }
+        if let Some(seen) = filter_turns::Seen::new(call, number, before, after) {
+            let taken = filter_turns::TURNS.map(|(_, turn)| turn(&seen));
+            count_taken(&mut self.filter_turns, taken);
         }
     }
 
@@ -143,10 +161,10 @@ impl Occurrences {
     pub fn add(&mut self, other: &Occurrences) {
         let more = other.numbers.iter().flatten();
         let more = more.chain(&other.turns).chain(&other.power_up_turns);
-        let more = more.chain(&other.record_turns);
+        let more = more.chain(&other.filter_turns).chain(&other.record_turns);
         let counts = self.numbers.iter_mut().flatten();
         let counts = counts.chain(&mut self.turns).chain(&mut self.power_up_turns);
-        let counts = counts.chain(&mut self.record_turns);
+        let counts = counts.chain(&mut self.filter_turns).chain(&mut self.record_turns);
         for (count, more) in counts.zip(more) {
             *count += more;
         }
@@ -156,8 +174,9 @@ impl Occurrences {
     fn turns(&self) -> impl Iterator<Item = (&'static str, u64)> {
         let of_calls = named(TURNS, self.turns);
         let of_power_ups = named(power_up_turns::TURNS, self.power_up_turns);
+        let of_filters = named(filter_turns::TURNS, self.filter_turns);
         let of_records = named(record_turns::TURNS, self.record_turns);
-        of_calls.chain(of_power_ups).chain(of_records)
+        of_calls.chain(of_power_ups).chain(of_filters).chain(of_records)
     }
 
     pub fn calls(&self) -> u64 {

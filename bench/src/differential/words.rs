@@ -113,6 +113,10 @@ impl Lent {
             .expect("a work memory with a filter")
     }
 
+    pub fn has_bit(&self, bit: FilterBit) -> bool {
+        self.filter()[bit.word()] & bit.mask() != 0
+    }
+
     pub fn set_bit(&mut self, bit: FilterBit) {
         self.filter_mut()[bit.word()] |= bit.mask();
     }

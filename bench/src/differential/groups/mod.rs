@@ -2,6 +2,7 @@
 
 mod arrays;
 mod damaged;
+mod filter;
 mod histories;
 mod large;
 mod last_epochs;
@@ -18,10 +19,10 @@ pub struct Group {
     pub history: fn(&mut Player) -> Outcome,
 }
 
-pub const GROUPS: [Group; 8] = [
+pub const GROUPS: [Group; 9] = [
     Group {
         name: "histories",
-        share: 430,
+        share: 370,
         history: histories::history,
     },
     Group {
@@ -38,6 +39,11 @@ pub const GROUPS: [Group; 8] = [
         name: "log-edges",
         share: 100,
         history: log_edges::history,
+    },
+    Group {
+        name: "filter",
+        share: 60,
+        history: filter::history,
     },
     Group {
         name: "last-epochs",

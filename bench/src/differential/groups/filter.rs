@@ -1,0 +1,173 @@
+//! States in which the filter decides: a dirty line in its slot, entries buffered for lines that have its bits or one of them,
+//! and a filter that has just their bits, or more, or less.
+
+use crate::call::{Call, NO_CUT};
+use crate::differential::damage::damage_filter;
+use crate::differential::habit::others_with;
+use crate::differential::player::{Outcome, Player};
+use crate::handwritten::layout::{
+    Control, FilterBit, Range, SlotWord, BUFFER_ENTRIES, FILTER_BITS, LAST_EPOCH, MOST_AHEAD,
+};
+use crate::handwritten::Registers;
+use crate::random::Random;
+use crate::sizes::Sizes;
+
+/// On boards of more lines than the filter has bits, lines meet in their first bits too.
+const MANY_LINES: (u64, u64) = (FILTER_BITS as u64 + 2, FILTER_BITS as u64 + 300);
+
+/// Lines with the bits 0, 63, 64 and 4,095: four that have them as first ones, four as second ones.
+const CORNERS: [u64; 8] = [0, 63, 64, 4_095, 233, 2_597, 2_830, 4_338];
+
+pub fn history(player: &mut Player) -> Outcome {
+    let sizes = draw_sizes(&mut player.random);
+    for _ in 0..16 {
+        let line = lend(player, sizes);
+        for _ in 0..player.random.between(1, 3) {
+            let call = draw_call(&mut player.random, sizes, line);
+            player.make(call)?;
+        }
+    }
+    Ok(())
+}
+
+fn draw_sizes(random: &mut Random) -> Sizes {
+    let (fewest, most) = random.pick(&[(2, 40), (200, 600), (200, 600), MANY_LINES]);
+    Sizes {
+        lines: random.between(fewest, most),
+        entries: random.between(1, 80),
+        slots: random.between(1, 40),
+    }
+}
+
+fn draw_line(random: &mut Random, lines: u64) -> u64 {
+    let corner = random.pick(&CORNERS);
+    if corner < lines && random.one_in(2) {
+        return corner;
+    }
+    random.below(lines)
+}
+
+/// Lends a board, registers and a work memory whose one line is dirty, and gives that line.
+fn lend(player: &mut Player, sizes: Sizes) -> u64 {
+    let random = &mut player.random;
+    let state = &mut player.state;
+    let line = draw_line(random, sizes.lines);
+    let slot = line % sizes.slots;
+    let addresses = draw_addresses(random, sizes, line);
+    let buffered = addresses.len() as u64;
+    let room = sizes.entries - buffered;
+    let some_of_room = random.below(room + 1);
+    let control = Control {
+        persisted: random.pick(&[0, 5, 1_000, LAST_EPOCH - MOST_AHEAD, LAST_EPOCH - 2, LAST_EPOCH - 1]),
+        start: random.below(sizes.entries) as usize,
+        length: random.pick(&[0, room, some_of_room]) as usize,
+    };
+    let any_ahead = random.between(1, MOST_AHEAD);
+    let ahead = random.pick(&[1, 2, 3, MOST_AHEAD, any_ahead]);
+    let epoch = LAST_EPOCH.min(control.persisted + ahead);
+    let target = control.persisted + 1;
+    let any_cursor = random.between(0, sizes.slots);
+    let cursor = if epoch == target {
+        0
+    } else {
+        random.pick(&[slot, slot, slot, sizes.slots, any_cursor])
+    };
+    state.board = random.words(sizes.board_words());
+    state.work = random.words(sizes.work_words());
+    state.set_control(control);
+    state.set_shape(sizes.shape());
+    state.set_registers(Registers {
+        epoch,
+        buffered,
+        cursor,
+    });
+    for place in 0..sizes.slots as usize {
+        state.set_slot(place, SlotWord::EMPTY);
+    }
+    let any_tag = random.between(target, epoch);
+    let tag = random.pick(&[target, target, epoch, any_tag]);
+    state.set_slot(slot as usize, SlotWord::dirty(line, tag));
+    for (place, &address) in addresses.iter().enumerate() {
+        state.set_buffered(place, draw_range(random, address, target, epoch));
+    }
+    if buffered > 0 && random.one_in(12) {
+        let place = random.below(buffered) as usize;
+        let range = state.buffered(place);
+        state.set_buffered(place, improper(random, range, sizes.lines, epoch));
+    }
+    state.set_exact_filter();
+    for _ in 0..random.pick(&[0, 0, 1, 1, 2]) {
+        damage_filter(random, state);
+    }
+    line
+}
+
+/// The addresses of the buffered entries: of any other lines, and among them one with the line's first bit, one with its
+/// second, both of these, or the line's own.
+fn draw_addresses(random: &mut Random, sizes: Sizes, line: u64) -> Vec<u64> {
+    let most = sizes.entries.min(BUFFER_ENTRIES as u64 - 1);
+    let any_count = random.below(most + 1);
+    let count = random.pick(&[0, 1, 2, 2, most, any_count]).min(most);
+    let other = |random: &mut Random| (line + 1 + random.below(sizes.lines - 1)) % sizes.lines;
+    let mut addresses: Vec<u64> = (0..count).map(|_| other(random)).collect();
+    let [first, second] = FilterBit::both_of(line).map(|bit| others_with(bit, line, sizes.lines));
+    let company: &[&[u64]] = match random.below(8) {
+        0 => &[],
+        1 => &[&first],
+        2 => &[&second],
+        3 => &[&[line]],
+        _ => &[&first, &second],
+    };
+    // The last place that one of them takes is any; the others come before it.
+    let mut place = random.below(count + 1) as usize;
+    for lines in company.iter().rev().filter(|lines| !lines.is_empty()) {
+        if place > 0 {
+            place -= 1;
+            addresses[place] = random.pick(lines);
+        }
+    }
+    addresses
+}
+
+fn draw_range(random: &mut Random, address: u64, target: u64, epoch: u64) -> Range {
+    let valid_till = random.between(target, epoch);
+    Range {
+        address,
+        valid_from: random.between(valid_till.saturating_sub(MOST_AHEAD), valid_till - 1),
+        valid_till,
+    }
+}
+
+/// A range with one field just beyond what is proper, where the field has room for that.
+fn improper(random: &mut Random, mut range: Range, lines: u64, epoch: u64) -> Range {
+    match random.below(3) {
+        0 => range.address = lines,
+        1 => range.valid_from = range.valid_till,
+        _ => range.valid_till = LAST_EPOCH.min(epoch + 1),
+    }
+    range
+}
+
+fn draw_call(random: &mut Random, sizes: Sizes, line: u64) -> Call {
+    let Sizes { lines, slots, .. } = sizes;
+    let of_the_same_slot = line % slots + slots * random.below(lines.div_ceil(slots));
+    let any = draw_line(random, lines);
+    let address = random.pick(&[line, of_the_same_slot, of_the_same_slot, any]);
+    let some = random.below(70) as u32;
+    let allowance = random.pick(&[NO_CUT, NO_CUT, NO_CUT, NO_CUT, 0, 1, some]);
+    match random.below(17) {
+        0..3 => Call::Load { address, allowance },
+        3..8 => Call::Store {
+            address,
+            data: random.word(),
+            allowance,
+        },
+        8..11 => Call::Evict {
+            address: random.pick(&[line, address]),
+            allowance,
+        },
+        11..13 => Call::Commit { allowance },
+        13..16 => Call::Scan { allowance },
+        _ => Call::FilterBits,
+    }
+}

@@ -1,0 +1,97 @@
+//! The write-out of a call, as the memories before the call show it, and whether the filter alone had it flush.
+
+use crate::call::Call;
+use crate::handwritten::layout::{
+    buffer_and_filter_of, head_of, slot_count, slots_of, Range, SlotWord, ENTRY_WORDS, MOST_LINES,
+};
+use crate::handwritten::Registers;
+
+/// What a call writes out, if it is accepted.
+#[derive(Clone, Copy, Debug, PartialEq, Eq)]
+pub struct WriteOut {
+    /// The line.
+    pub address: u64,
+    /// The entries buffered before the call, b.
+    pub buffered: u64,
+    /// One of them has the line's address.
+    pub has_entry: bool,
+}
+
+impl WriteOut {
+    /// The write-out of a call that passes its tests, where it has one.
+    pub fn of(call: Call, board: &[u64], work: &[u64], registers: Registers) -> Option<Self> {
+        let slots = slot_count(work.len())?;
+        let (control, _) = head_of(board)?;
+        let word_of = |place: u64| slots_of(work, slots).get(place as usize).map(|slot| SlotWord(slot[0]));
+        let word_for = |address: u64| word_of(address % slots as u64).filter(|_| address < MOST_LINES);
+        let word = match call {
+            Call::Load { address, .. } | Call::Store { address, .. } => {
+                word_for(address).filter(|word| !word.holds(address))
+            }
+            Call::Evict { address, .. } => word_for(address).filter(|word| word.holds(address)),
+            Call::Scan { .. } => word_of(registers.cursor).filter(|word| word.tag() == control.persisted + 1),
+            _ => None,
+        }?;
+        if !word.is_dirty() {
+            return None;
+        }
+        let (buffer, _) = buffer_and_filter_of(work, slots)?;
+        let buffered = buffer.get(..registers.buffered as usize)?;
+        let address = word.address();
+        Some(WriteOut {
+            address,
+            buffered: registers.buffered,
+            has_entry: buffered
+                .iter()
+                .any(|&[packed, _]| Range::unpack(packed).address == address),
+        })
+    }
+
+    /// Whether the buffer was flushed before the line, going by the board stores that the call has made: those of the flush
+    /// and the line's. A store with a 32nd entry to flush behind the line makes more.
+    pub fn flushed(self, stores: u64) -> bool {
+        self.buffered > 0 && stores == ENTRY_WORDS as u64 * self.buffered + 2
+    }
+
+    /// A flush although no buffered entry has the line's address.
+    pub fn is_false_hit(self, stores: u64) -> bool {
+        self.flushed(stores) && !self.has_entry
+    }
+}
+
+#[cfg(test)]
+mod tests {
+    use super::*;
+    use crate::memories::Loom;
+    use crate::sizes::Sizes;
+
+    /// Line 0 has bit 0 alone, which is the second of 233.
+    #[test]
+    fn false_hits_are_told_from_others() {
+        let sizes = Sizes {
+            lines: 234,
+            entries: 8,
+            slots: 3,
+        };
+        let (mut loom, _) = Loom::wake(sizes);
+        let mut seen = |call| {
+            let write_out = loom.write_out(call);
+            let stores = loom.make(call).stores;
+            write_out.map(|out| (out.address, out.flushed(stores), out.is_false_hit(stores)))
+        };
+        assert_eq!(seen(Call::store(0, 7)), None);
+        assert_eq!(seen(Call::store(1, 7)), None);
+        assert_eq!(seen(Call::load(1)), None);
+        assert_eq!(seen(Call::evict(4)), None);
+        assert_eq!(seen(Call::load(4)), Some((1, true, false)));
+        assert_eq!(seen(Call::evict(4)), None);
+        assert_eq!(seen(Call::store(2, 7)), None);
+        assert_eq!(seen(Call::store(233, 7)), Some((2, true, false)));
+        assert_eq!(seen(Call::COMMIT), None);
+        assert_eq!(seen(Call::SCAN), Some((0, true, true)));
+        assert_eq!(seen(Call::store(1, 7)), None);
+        assert_eq!(seen(Call::SCAN), None);
+        assert_eq!(seen(Call::SCAN), Some((233, false, false)));
+        assert_eq!(seen(Call::SCAN), None);
+    }
+}
