@@ -8,6 +8,7 @@ use crate::interface::{Answer, RegisterWords, NO_REGISTERS, OK};
 use crate::library::Library;
 use crate::random::Random;
 use crate::sizes::Sizes;
+use crate::write_out::WriteOut;
 
 const ROOM: u64 = 8;
 const NONE: u64 = 11;
@@ -36,6 +37,10 @@ pub struct Figures {
     pub entry_stores: u64,
     pub control_stores: u64,
     pub line_stores: u64,
+    /// Flushes that the filter alone has asked for: no buffered entry was of the line to be written out.
+    pub false_hits: u64,
+    /// Write-outs with entries buffered.
+    pub write_outs_beside_entries: u64,
     pub refused_for_room: u64,
 }
 
@@ -125,9 +130,14 @@ impl Controller {
     /// each flush, and the others to lines.
     fn counted(&mut self, call: Call) -> Result<Answer, String> {
         let end_before = self.ring_end();
+        let write_out = WriteOut::of(call, &self.board, &self.work, self.registers());
         let answer = self.make(call)?;
         if answer.number != OK {
             return Ok(answer);
+        }
+        if let Some(write_out) = write_out {
+            self.figures.false_hits += u64::from(write_out.is_false_hit(answer.stores));
+            self.figures.write_outs_beside_entries += u64::from(write_out.buffered > 0);
         }
         let flushed = (self.ring_end() + self.entries - end_before) % self.entries;
         let (entry_stores, control_stores) = (ENTRY_WORDS as u64 * flushed, u64::from(flushed > 0));

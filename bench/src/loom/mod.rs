@@ -1,5 +1,5 @@
-//! What the loom's work asks of a board: undo entries, waiting epochs and board stores, counted by replaying it on the
-//! library, and the log's size that follows, tried out.
+//! What the loom's work asks of a board: undo entries, waiting epochs, board stores and the filter's false hits, counted by
+//! replaying it on the library, and the log's size that follows, tried out.
 
 mod controller;
 pub mod workload;
@@ -20,12 +20,23 @@ pub fn print_figures() -> Result<(), String> {
          counted.\n"
     );
     println!(
-        "{:<10}{:>5}{:>7}{:>9}{:>9}{:>9}{:>9}{:>9}{:>9}{:>9}",
-        "order", "S", "scans", "entries", "waiting", "entries", "stores", "entry", "control", "line"
+        "{:<10}{:>5}{:>7}{:>9}{:>9}{:>9}{:>9}{:>9}{:>9}{:>9}{:>11}{:>9}",
+        "order",
+        "S",
+        "scans",
+        "entries",
+        "waiting",
+        "entries",
+        "stores",
+        "entry",
+        "control",
+        "line",
+        "write-outs",
+        "false"
     );
     println!(
-        "{:<10}{:>5}{:>7}{:>9}{:>9}{:>9}{:>9}{:>9}{:>9}{:>9}",
-        "", "", "/epoch", "/epoch", "at once", "at once", "/epoch", "words", "words", "words"
+        "{:<10}{:>5}{:>7}{:>9}{:>9}{:>9}{:>9}{:>9}{:>9}{:>9}{:>11}{:>9}",
+        "", "", "/epoch", "/epoch", "at once", "at once", "/epoch", "words", "words", "words", "with b > 0", "hits"
     );
     for order in Order::ALL {
         for slots in SLOTS {
@@ -48,7 +59,7 @@ fn print_row(order: Order, slots: usize, scans_per_epoch: usize) -> Result<(), S
     let [entry_words, control_words, line_words] =
         [figures.entry_stores, figures.control_stores, figures.line_stores].map(per_epoch);
     println!(
-        "{:<10}{:>5}{:>7}{:>9}{:>9}{:>9}{:>9}{:>9}{:>9}{:>9}",
+        "{:<10}{:>5}{:>7}{:>9}{:>9}{:>9}{:>9}{:>9}{:>9}{:>9}{:>11}{:>9.2}",
         order.name(),
         slots,
         scans_per_epoch,
@@ -58,7 +69,9 @@ fn print_row(order: Order, slots: usize, scans_per_epoch: usize) -> Result<(), S
         entry_words + control_words + line_words,
         entry_words,
         control_words,
-        line_words
+        line_words,
+        per_epoch(figures.write_outs_beside_entries),
+        figures.false_hits as f64 / EPOCHS_COUNTED as f64
     );
     try_log_size(plan, figures)
 }
