@@ -68,7 +68,7 @@ const fn row(name: &'static str, about: &'static str, only: Option<Kind>, build:
     }
 }
 
-pub static ROWS: [Row; 15] = [
+pub static ROWS: [Row; 16] = [
     row(
         "loom-64",
         "a loom's epoch, S = 64: 2,600 stores, 2,600 loads, 65 scans, 1 commit",
@@ -106,6 +106,12 @@ pub static ROWS: [Row; 15] = [
         "evictions in the place of loads in a loom's epoch, S = 256",
         Some(Kind::Evict),
         || traces::loom_with_evictions(256),
+    ),
+    row(
+        "write-out-31",
+        "evictions of 224 dirty lines, 31 entries of other lines buffered, S = 256: no flush",
+        None,
+        || traces::write_outs(256),
     ),
     row("commit", "15 commits in a row, 16 entries buffered", None, || {
         traces::commits(256)

@@ -2,9 +2,11 @@
 
 use super::region::{Memories, Start};
 use crate::call::Call;
-use crate::handwritten::layout::{entry_place, Control, Range, CONTROL_PLACE, MOST_AHEAD, MOST_ENTRIES, MOST_LINES};
+use crate::handwritten::layout::{
+    entry_place, Control, Range, BUFFER_ENTRIES, CONTROL_PLACE, MOST_AHEAD, MOST_ENTRIES, MOST_LINES,
+};
 use crate::handwritten::HandWritten;
-use crate::interface::NO_REGISTERS;
+use crate::interface::{Answer, NO_REGISTERS, OK};
 use crate::loom::workload::{Order, Work, STORES_PER_EPOCH};
 use crate::random::Random;
 use crate::sizes::Sizes;
@@ -78,6 +80,25 @@ pub fn conflict(slots: usize) -> (Start, Vec<Call>) {
         .map(|address| Call::store(address, random.word()))
         .collect();
     (after(fresh_board(slots), &stores), stores)
+}
+
+/// Evictions of dirty lines whose entries are in the log, with 31 entries of other lines buffered: each makes one board store,
+/// and none flushes.
+pub fn write_outs(slots: usize) -> (Start, Vec<Call>) {
+    // Not line 0, which beside an entry for 233 is a false hit.
+    let first = slots as u64;
+    // A line for each slot but one: the 32nd entry of each 32 has flushed them, and the newest 31 stay buffered.
+    let lines: Vec<u64> = (first..).take(slots - 1).collect();
+    let stores: Vec<Call> = lines.iter().map(|&line| Call::store(line, line)).collect();
+    let start = after(fresh_board(slots), &stores);
+    let logged = &lines[..slots - BUFFER_ENTRIES];
+    let evictions: Vec<Call> = logged.iter().copied().map(Call::evict).collect();
+    let mut memories = Memories::<HandWritten>::new(&start);
+    for &call in &evictions {
+        let Answer { number, value, stores } = memories.make(call);
+        assert_eq!((number, value, stores), (OK, 1, 1), "{call}");
+    }
+    (start, evictions)
 }
 
 /// As many commits as may wait, with a half full buffer.
