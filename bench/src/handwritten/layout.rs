@@ -245,10 +245,10 @@ impl FilterBit {
         ]
     }
 
-    /// Its word in the filter.
+    /// Its word in the filter. Any number has one.
     #[inline]
     pub fn word(self) -> usize {
-        self.0 / u64::BITS as usize
+        self.0 / u64::BITS as usize % FILTER_WORDS
     }
 
     /// How far its word has to be shifted to the left for it to be the first bit.
