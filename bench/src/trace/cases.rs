@@ -44,6 +44,8 @@ fn good() -> Vec<Trace> {
         Trace::new("empty", (SMALL, Vec::new())),
         Trace::new("every_kind", (SMALL, records(&histories::every_kind()))),
         Trace::new("evictions", histories::evictions()),
+        Trace::new("false_hits", histories::false_hits()),
+        Trace::new("false_hit_of_two", histories::false_hit_of_two()),
         Trace::new("refused", histories::refused()),
         Trace::new(SMALLEST, histories::smallest()),
         Trace::new(LARGEST, histories::largest()),

@@ -77,6 +77,51 @@ pub fn evictions() -> (Sizes, Vec<u8>) {
     (sizes(8, 8, 4), records(&calls))
 }
 
+/// A write-out of line 0, whose entry is in the log, beside a buffered entry for 233, in a load, a store, an eviction and a scan.
+/// Line 0 has bit 0 of the filter alone, and 233 * 40503 mod 65,536 = 15, so 233 has it too: each flushes.
+pub fn false_hits() -> (Sizes, Vec<u8>) {
+    // Line 0 dirty and its entry in the log, and an entry for 233 buffered, whether that line is held or not.
+    let before_a_hit = [
+        Call::store(0, 7),
+        Call::store(1, 7),
+        Call::evict(1),
+        Call::evict(233),
+        Call::store(233, 7),
+    ];
+    let hits: [&[Call]; 4] = [
+        &[Call::load(3)],
+        &[Call::store(3, 7)],
+        &[Call::evict(0)],
+        &[Call::COMMIT, Call::SCAN, Call::SCAN, Call::SCAN, Call::SCAN],
+    ];
+    let calls: Vec<Call> = hits
+        .iter()
+        .flat_map(|hit| before_a_hit.iter().chain(*hit))
+        .copied()
+        .collect();
+    (sizes(234, 16, 3), records(&calls))
+}
+
+/// Evictions of line 123, whose entry is in the log. It has the bits 123 and 70 of the filter; 157 has 157 and 123, 70 has 70 and
+/// 1,072. So an entry for 157 alone does not have it flush, and one for 70 beside it does.
+pub fn false_hit_of_two() -> (Sizes, Vec<u8>) {
+    let calls = [
+        Call::store(123, 7),
+        Call::store(4, 7),
+        Call::evict(4),
+        Call::store(157, 7),
+        Call::evict(123),
+        Call::store(123, 8),
+        Call::store(4, 8),
+        Call::evict(4),
+        Call::store(70, 8),
+        Call::evict(157),
+        Call::store(157, 8),
+        Call::evict(123),
+    ];
+    (sizes(158, 8, 5), records(&calls))
+}
+
 /// Calls that are refused as address, room, waiting and none, and accepted ones after them.
 pub fn refused() -> (Sizes, Vec<u8>) {
     let mut calls = vec![

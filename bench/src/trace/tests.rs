@@ -51,6 +51,19 @@ fn lines_worked_by_hand() {
 }
 
 #[test]
+fn lines_with_false_hits_worked_by_hand() {
+    // Each hit makes 4 stores: the entry for 233, the control word, line 0. To come to it, line 1 is evicted with its entry and
+    // that of line 0 (6), and from the second time on line 233, whose entry is in the log (1). Line 3, stored to for the second
+    // hit, gives way to line 0 with its entry (4). Behind the last hit, the scans store line 233 and the control word.
+    assert_eq!(
+        line("false_hits"),
+        format!("ok 4 {} {} {}", 4 + 4, 4 * 6 + 3 + 4, 4 + 2)
+    );
+    // Line 4 with two entries, 123 alone, 4 with three, 157 alone; then 123 with the entries for 70 and 157.
+    assert_eq!(line("false_hit_of_two"), format!("ok 0 0 {} 0", 6 + 1 + 8 + 1 + 6));
+}
+
+#[test]
 fn refused_calls_occur_and_end_nothing() {
     assert_eq!(outcome("refused").answered, BTreeSet::from([OK, 5, 8, 9, 11]));
     assert_eq!(outcome("largest").answered, BTreeSet::from([OK, 5, 8]));
