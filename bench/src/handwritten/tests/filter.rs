@@ -64,7 +64,7 @@ impl Loom {
     }
 
     /// Makes the call, which has to leave all as it was.
-    fn refused(&mut self, call: Call) -> Answer {
+    fn without_change(&mut self, call: Call) -> Answer {
         let before = (self.board.clone(), self.work.clone(), self.registers);
         let answer = self.make(call);
         assert!(before == (self.board.clone(), self.work.clone(), self.registers));
@@ -212,6 +212,21 @@ fn lines_123_157_and_70() {
     assert_eq!(loom(&[70]).evict(123, NO_CUT), answer(0, 1, 1));
 }
 
+#[test]
+fn a_store_with_31_entries_buffered_makes_66_stores_or_64() {
+    // Line 0 is in the way of line 64. It is stored, then the entry for 64 is the 32nd: 1 + 2 * 32 + 1.
+    let mut loom = with_buffered(Loom::new(234, 64, 64), 0, 1, &Vec::from_iter(2..33));
+    assert_eq!(loom.store(64, 7), answer(0, 0, 66));
+    assert_eq!(loom.registers.buffered, 0);
+    assert_eq!(loom.filter_bits(), answer(0, 0, 0));
+
+    // With an entry for 233 among the 31, line 0 is a false hit: 2 * 31 + 1 and the line, and the entry for 64 is the first.
+    let mut loom = with_buffered(Loom::new(234, 64, 64), 0, 1, &Vec::from_iter((2..32).chain([233])));
+    assert_eq!(loom.store(64, 7), answer(0, 0, 64));
+    assert_eq!(loom.registers.buffered, 1);
+    assert_eq!(loom.filter_bits(), answer(0, 2, 0));
+}
+
 /// Each call that looks at the buffer, on a loom with slot 0 empty.
 const CALLS: [Call; 5] = [
     Call::load(0),
@@ -237,11 +252,11 @@ fn an_unset_bit_of_a_buffered_entry_is_refused() {
         for bit in [1, 2_531, 2, 966] {
             let mut loom = two_buffered();
             loom.clear_bit(bit);
-            assert_eq!(loom.refused(call), answer(14, 0, 0), "{call}, bit {bit}");
+            assert_eq!(loom.without_change(call), answer(14, 0, 0), "{call}, bit {bit}");
         }
         let mut loom = two_buffered();
         loom.filter_mut().fill(0);
-        assert_eq!(loom.refused(call), answer(14, 0, 0), "{call}");
+        assert_eq!(loom.without_change(call), answer(14, 0, 0), "{call}");
     }
 }
 
@@ -267,7 +282,7 @@ fn every_improper_entry_comes_before_any_unset_bit() {
         loom.clear_bit(1);
         let till = loom.registers.epoch + 1;
         loom.work[buffer_place(4, 1)] = range(2, 0, till).pack();
-        assert_eq!(loom.refused(call), answer(7, 0, 0), "{call}");
+        assert_eq!(loom.without_change(call), answer(7, 0, 0), "{call}");
     }
 }
 
@@ -278,16 +293,16 @@ fn the_tests_before_7_come_before_14() {
         loom.filter_mut().fill(0);
         loom
     };
-    assert_eq!(loom().refused(Call::load(4)), answer(5, 0, 0));
+    assert_eq!(loom().without_change(Call::load(4)), answer(5, 0, 0));
     for call in CALLS {
         let mut loom = loom();
         loom.registers.buffered = 32;
-        assert_eq!(loom.refused(call), answer(4, 0, 0), "{call}");
+        assert_eq!(loom.without_change(call), answer(4, 0, 0), "{call}");
     }
     for call in [Call::load(0), Call::store(0, 7), Call::evict(0), Call::SCAN] {
         let mut loom = loom();
         loom.work[0] = 1;
-        assert_eq!(loom.refused(call), answer(6, 0, 0), "{call}");
+        assert_eq!(loom.without_change(call), answer(6, 0, 0), "{call}");
     }
 }
 
@@ -295,9 +310,9 @@ fn the_tests_before_7_come_before_14() {
 fn filter_comes_before_room() {
     let mut loom = Loom::new(4, 1, 4);
     loom.store(1, 7);
-    assert_eq!(loom.refused(Call::store(0, 7)), answer(8, 0, 0));
+    assert_eq!(loom.without_change(Call::store(0, 7)), answer(8, 0, 0));
     loom.filter_mut().fill(0);
-    assert_eq!(loom.refused(Call::store(0, 7)), answer(14, 0, 0));
+    assert_eq!(loom.without_change(Call::store(0, 7)), answer(14, 0, 0));
 }
 
 #[test]
@@ -307,9 +322,9 @@ fn filter_comes_before_waiting() {
     for _ in 1..16 {
         assert_eq!(loom.commit(), answer(0, 0, 0));
     }
-    assert_eq!(loom.refused(Call::COMMIT), answer(9, 0, 0));
+    assert_eq!(loom.without_change(Call::COMMIT), answer(9, 0, 0));
     loom.filter_mut().fill(0);
-    assert_eq!(loom.refused(Call::COMMIT), answer(14, 0, 0));
+    assert_eq!(loom.without_change(Call::COMMIT), answer(14, 0, 0));
 }
 
 #[test]
@@ -323,18 +338,18 @@ fn filter_comes_before_last() {
     .pack();
     loom.power_up();
     loom.store(1, 7);
-    assert_eq!(loom.refused(Call::COMMIT), answer(10, 0, 0));
+    assert_eq!(loom.without_change(Call::COMMIT), answer(10, 0, 0));
     loom.filter_mut().fill(0);
-    assert_eq!(loom.refused(Call::COMMIT), answer(14, 0, 0));
+    assert_eq!(loom.without_change(Call::COMMIT), answer(14, 0, 0));
 }
 
 #[test]
 fn filter_comes_before_none() {
     let mut loom = Loom::new(4, 8, 4);
     loom.store(1, 7);
-    assert_eq!(loom.refused(Call::SCAN), answer(11, 0, 0));
+    assert_eq!(loom.without_change(Call::SCAN), answer(11, 0, 0));
     loom.filter_mut().fill(0);
-    assert_eq!(loom.refused(Call::SCAN), answer(14, 0, 0));
+    assert_eq!(loom.without_change(Call::SCAN), answer(14, 0, 0));
 }
 
 #[test]
@@ -348,7 +363,7 @@ fn filter_comes_before_a_cut() {
         },
         Call::Scan { allowance: 0 },
     ] {
-        assert_eq!(loom.refused(call), answer(14, 0, 0), "{call}");
+        assert_eq!(loom.without_change(call), answer(14, 0, 0), "{call}");
     }
 }
 
@@ -421,17 +436,17 @@ fn power_up_and_a_cut_clear_the_filter() {
 fn the_status_question_counts_the_filters_words_alone() {
     let mut loom = Loom::new(4, 8, 2);
     loom.work.fill(u64::MAX);
-    assert_eq!(loom.refused(Call::FilterBits), answer(0, 4_096, 0));
+    assert_eq!(loom.without_change(Call::FilterBits), answer(0, 4_096, 0));
     loom.filter_mut().fill(0);
-    assert_eq!(loom.refused(Call::FilterBits), answer(0, 0, 0));
+    assert_eq!(loom.without_change(Call::FilterBits), answer(0, 0, 0));
     loom.filter_mut()[0] = 0x8000_0000_0000_0001;
     loom.filter_mut()[31] = 0xF0;
     loom.filter_mut()[63] = 0x5555_5555_5555_5555;
-    assert_eq!(loom.refused(Call::FilterBits), answer(0, 2 + 4 + 32, 0));
+    assert_eq!(loom.without_change(Call::FilterBits), answer(0, 2 + 4 + 32, 0));
     // Board and registers are nothing to it.
     loom.board.fill(u64::MAX);
     loom.registers.buffered = u64::MAX;
-    assert_eq!(loom.refused(Call::FilterBits), answer(0, 38, 0));
+    assert_eq!(loom.without_change(Call::FilterBits), answer(0, 38, 0));
 }
 
 #[test]
@@ -450,8 +465,12 @@ fn the_status_question_refuses_by_the_work_memorys_length() {
         (642, 2),
     ] {
         loom.work = vec![0; words];
-        assert_eq!(loom.refused(Call::FilterBits), answer(number, 0, 0), "{words} words");
-        assert_eq!(loom.refused(Call::Tally), answer(number, 0, 0), "{words} words");
+        assert_eq!(
+            loom.without_change(Call::FilterBits),
+            answer(number, 0, 0),
+            "{words} words"
+        );
+        assert_eq!(loom.without_change(Call::Tally), answer(number, 0, 0), "{words} words");
     }
 }
 
@@ -464,7 +483,7 @@ fn an_old_work_memory_is_one_of_fewer_slots() {
     assert_eq!(loom.load(2), answer(0, 0, 4));
     // And 2 * 32 + 64 have none.
     loom.work = vec![0; 2 * 32 + 64];
-    assert_eq!(loom.refused(Call::load(1)), answer(2, 0, 0));
+    assert_eq!(loom.without_change(Call::load(1)), answer(2, 0, 0));
 }
 
 #[test]
