@@ -23,6 +23,8 @@ pub struct Seen {
     write_out: Option<WriteOut>,
     /// The bits of the filter that are set, before and after.
     bits: [usize; 2],
+    /// Before, they are those of the buffered entries and no others; looked at where a line is written out.
+    is_exact: bool,
     /// The corner bits that the call has set.
     new_corners: [bool; CORNERS.len()],
     unset: Unset,
@@ -54,7 +56,7 @@ const CORNERS: [usize; 4] = [0, 63, 64, FILTER_BITS - 1];
 
 pub type Turn = fn(&Seen) -> bool;
 
-pub const TURNS: [(&str, Turn); 42] = [
+pub const TURNS: [(&str, Turn); 43] = [
     ("a load's write-out flushes for a false hit", |seen| {
         seen.is_false_hit(Kind::Load)
     }),
@@ -67,6 +69,10 @@ pub const TURNS: [(&str, Turn); 42] = [
     ("a scan's write-out flushes for a false hit", |seen| {
         seen.is_false_hit(Kind::Scan)
     }),
+    (
+        "a false hit of a filter that has the entries' bits and no others",
+        |seen| seen.is_exact && seen.is_any_false_hit(),
+    ),
     ("a false hit of one buffered entry", |seen| {
         seen.buffered == 1 && seen.is_any_false_hit()
     }),
@@ -179,6 +185,7 @@ impl Seen {
             has_one_more: false,
             write_out: None,
             bits: [bits_of(before), bits_of(after)],
+            is_exact: false,
             new_corners: CORNERS.map(|bit| !before.has_bit(FilterBit(bit)) && after.has_bit(FilterBit(bit))),
             unset: Unset::default(),
             would_be: WouldBe::default(),
@@ -195,6 +202,8 @@ impl Seen {
         self.write_out = WriteOut::of(call, &before.board, &before.work, before.registers());
         if self.number != OK {
             self.unset = Unset::of(before);
+        } else if self.write_out.is_some() {
+            self.is_exact = *before.filter() == before.exact_filter();
         }
         if self.number == FILTER {
             self.would_be = WouldBe::of(call, before, self.write_out);

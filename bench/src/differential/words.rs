@@ -5,7 +5,7 @@ use super::sides::Lent;
 use crate::call::Call;
 use crate::handwritten::layout::{
     buffer_place, entry_place, filter_place, mark, slot_place, slots_in, work_words, Control, Filter, FilterBit, Range,
-    Shape, SlotWord, BUFFER_ENTRIES, CONTROL_PLACE, SHAPE_PLACE,
+    Shape, SlotWord, BUFFER_ENTRIES, CONTROL_PLACE, FILTER_WORDS, SHAPE_PLACE,
 };
 use crate::handwritten::{record, Registers};
 use crate::interface::{RegisterWords, REGISTER_WORDS, TRACE};
@@ -131,12 +131,12 @@ impl Lent {
     }
 
     /// A filter with the bits of the first b buffered entries and no others.
-    pub fn set_exact_filter(&mut self) {
-        self.filter_mut().fill(0);
-        let ranges: Vec<Range> = self.buffered_ranges().collect();
-        for range in ranges {
-            self.mark(range.address);
+    pub fn exact_filter(&self) -> Filter {
+        let mut filter = [0; FILTER_WORDS];
+        for range in self.buffered_ranges() {
+            mark(&mut filter, range.address);
         }
+        filter
     }
 
     pub fn has_registers(&self) -> bool {

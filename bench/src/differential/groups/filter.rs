@@ -95,7 +95,7 @@ fn lend(player: &mut Player, sizes: Sizes) -> u64 {
         let range = state.buffered(place);
         state.set_buffered(place, improper(random, range, sizes.lines, epoch));
     }
-    state.set_exact_filter();
+    *state.filter_mut() = state.exact_filter();
     for _ in 0..random.pick(&[0, 0, 1, 1, 2]) {
         damage_filter(random, state);
     }

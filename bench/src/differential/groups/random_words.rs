@@ -173,7 +173,7 @@ fn wild_filter(random: &mut Random, state: &mut Lent) {
     match random.below(6) {
         0 => return,
         1 => state.filter_mut().fill(u64::MAX),
-        _ => state.set_exact_filter(),
+        _ => *state.filter_mut() = state.exact_filter(),
     }
     match random.below(4) {
         0 => state
