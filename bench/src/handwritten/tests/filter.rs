@@ -427,9 +427,12 @@ fn power_up_and_a_cut_clear_the_filter() {
     loom.power_up();
     assert_eq!(loom.filter_words(), []);
 
-    let mut loom = two_buffered();
-    assert_eq!(loom.evict(1, 5), answer(12, 0, 5));
-    assert_eq!(loom.filter_words(), []);
+    // In the midst of the flush, and behind it.
+    for allowance in [4, 5] {
+        let mut loom = two_buffered();
+        assert_eq!(loom.evict(1, allowance), answer(12, 0, allowance.into()));
+        assert_eq!(loom.filter_words(), []);
+    }
 }
 
 #[test]
