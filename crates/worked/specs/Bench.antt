@@ -3,12 +3,12 @@
 use Prim.Native.Nat.{ℕ, _-_, _*_}
 use mathlib.Core.Bool.{Bool, true, false}
 use mathlib.Core.List.{List, [], _∷_, _++_}
-use lib.ListN.{length, replicate}
+use lib.ListN.{length, replicate, set}
 use Rattle.layout.specs.declared.Control.{Control}
 use Rattle.layout.specs.declared.Entry.{Entry}
 use Rattle.layout.specs.declared.Slot.{Slot}
 use Rattle.layout.specs.Limits.{lastEpoch}
-use Rattle.layout.specs.Memory.{shapeFor, bufferWords}
+use Rattle.layout.specs.Memory.{shapeFor}
 use Rattle.layout.specs.Words.{encodeControl, encodeShape, encodeEntry, encodeSlot}
 use Rattle.status.specs.declared.Status.the-variants as status
 use Rattle.checks.specs.declared.Registers.{Registers}
@@ -50,15 +50,34 @@ endingLast = undo 3 0 lastEpoch 4
 abbrev pub twice : List ℕ
 twice = undo 3 0 2 4 ++ undo 3 0 2 6
 
--- the memories: a board with a control word, the log's first words and line 3; a work memory with slot 1 and the buffer's first words
-abbrev padded : ℕ → List ℕ → List ℕ
+-- the filter's 64 words: zero, but for one
+abbrev pub unmarked : List ℕ
+unmarked = replicate 64 0
+
+abbrev pub filter : (at word : ℕ) → List ℕ
+filter at word = set unmarked at word
+
+-- Line 3 has bit 3, and (3 × 40503 = 121509 = 65536 + 55973, and 55973 / 16 = 3498 and a rest) bit 3498 = 54 × 64 + 42. Line 1 has bit 1, and
+-- (40503 / 16 = 2531 and a rest) bit 2531 = 39 × 64 + 35. Line 0 has bit 0 alone.
+abbrev pub marked3 : List ℕ
+marked3 = set (filter 0 0x1000000000000000) 54 0x200000
+
+abbrev pub marked1 : List ℕ
+marked1 = set (filter 0 0x4000000000000000) 39 0x10000000
+
+abbrev pub marked13 : List ℕ
+marked13 = set (set (filter 0 0x5000000000000000) 39 0x10000000) 54 0x200000
+
+-- the memories: a board with a control word, the log's first words and line 3; a work memory with slot 1, the undo places' first words and the
+-- filter
+abbrev pub padded : ℕ → List ℕ → List ℕ
 padded size words = words ++ replicate (size - length words) 0
 
 abbrev pub board : Control → (log : List ℕ) → (line : ℕ) → List ℕ
 board c log line = encodeControl c ∷ encodeShape (shapeFor 4 8) ∷ padded (2 * 8) log ++ 0 ∷ 0 ∷ 0 ∷ line ∷ []
 
-abbrev pub work : Slot → (line : ℕ) → (buffer : List ℕ) → List ℕ
-work s line buffer = 0 ∷ 0 ∷ encodeSlot s ∷ line ∷ padded bufferWords buffer
+abbrev pub work : Slot → (line : ℕ) → (places filter : List ℕ) → List ℕ
+work s line places filter = 0 ∷ 0 ∷ encodeSlot s ∷ line ∷ padded (2 * 32) places ++ filter
 
 -- a board with an empty log
 abbrev pub quiet : (persisted : ℕ) → List ℕ
@@ -66,23 +85,23 @@ quiet persisted = board (control persisted 0 0) [] 7
 
 -- power-up
 abbrev pub wake : Control → (log : List ℕ) → Verdict
-wake c log = powerUpVerdict (board c log 7) (work clean 7 [])
+wake c log = powerUpVerdict (board c log 7) (work clean 7 [] unmarked)
 
 -- a store to line 3, as slot 1 holds it
 abbrev pub store : (persisted epoch : ℕ) → Slot → Verdict
-store persisted epoch held = storeVerdict (quiet persisted) (work held 7 []) (given epoch 0 0) 3 9
+store persisted epoch held = storeVerdict (quiet persisted) (work held 7 [] unmarked) (given epoch 0 0) 3 9
 
 -- an eviction of line 3, stored to in the running epoch 2, with one entry buffered
-abbrev pub evict : (buffer : List ℕ) → Verdict
-evict buffer = evictVerdict (quiet 0) (work (dirty 2) 9 buffer) (given 2 1 0) 3
+abbrev pub evict : (places filter : List ℕ) → Verdict
+evict places filter = evictVerdict (quiet 0) (work (dirty 2) 9 places filter) (given 2 1 0) 3
 
 -- a commit
 abbrev pub commit : (persisted epoch : ℕ) → Verdict
-commit persisted epoch = commitVerdict (quiet persisted) (work clean 7 []) (given epoch 0 0)
+commit persisted epoch = commitVerdict (quiet persisted) (work clean 7 [] unmarked) (given epoch 0 0)
 
 -- a scan's visit of slot 1, its target 1, with line 3 stored to in epoch 1 or 2 and its entry buffered
 abbrev pub scan : (tag : ℕ) → Verdict
-scan tag = scanVerdict (quiet 0) (work (dirty tag) 9 (undo 3 0 tag 7)) (given 2 1 1)
+scan tag = scanVerdict (quiet 0) (work (dirty tag) 9 (undo 3 0 tag 7) marked3) (given 2 1 1)
 
 -- what calls come to: a verdict with no store due, an answer of number 0, and one of number 3
 abbrev pub still : Registers → (work : List ℕ) → Verdict

@@ -1,3 +1,4 @@
 pub mod Bench
 pub mod Recorded
+pub mod Filtered
 pub mod Table

@@ -1,8 +1,10 @@
 -- "Checked by proof, W1 to W12": the paper's worked examples, as rows of one table, and behind them a row for each of its traps.
-use Prim.Native.Nat.{_-_, _^_}
+use Prim.Native.Nat.{ℕ, _+_, _-_, _*_, _^_}
 use mathlib.Core.Path.{_≡_, refl}
 use mathlib.Core.Bool.{true, false}
 use mathlib.Core.List.{[], _∷_, _++_}
+use lib.Count.{ones, onesIn, ones-ones}
+use lib.ListN.{replicate, set}
 use Rattle.base.specs.Walk.{firstFrom}
 use Rattle.board.specs.Stores.{applied, each, shifted}
 use Rattle.layout.specs.Fields.{width, pack, unpack, encode, decode}
@@ -12,18 +14,19 @@ use Rattle.status.specs.Numbers.{numberOf}
 use Rattle.undo.specs.Entries.{covers, properEntry, properBuffered}
 use Rattle.undo.specs.Log.{placeOf, entryIn, oldIn, olderTill, properAt, firstImproper, bufferedIn, bufferedProper, bufferProper}
 use Rattle.undo.specs.Log.{expired, dropped, advanceStores}
-use Rattle.undo.specs.Log.{elsewhere, buffers, pushed, entryStores, flushed, flushStores, flushedBuffer, restoreStores, restoreTurn, recoverStores}
+use Rattle.undo.specs.Filter.{firstBit, secondBit, isSet, withBit, marking, marks, hits, onesOf}
+use Rattle.undo.specs.Log.{bufferedMarked, bufferMarked, pushed, entryStores, flushed, flushStores, flushedBuffer, restoreStores, restoreTurn, recoverStores}
 use Rattle.slots.specs.Slots as slots
 use Rattle.layout.specs.Memory.{withBuffer, shapeFor, formatted}
 use Rattle.steps.specs.Effects.{flushingIf, writingOut, writingBack, emptying, entryFor, logged, storingHeld}
 use Rattle.slots.specs.Slots.{entryDue, undoDue}
 use Rattle.steps.specs.Effects.{bringing, loading, storing, evicting, cleaning, visiting, persisting}
 use Rattle.checks.specs.Registers.{zero, given}
-use Rattle.checks.specs.View.{viewOf, goodSizes, goodControl, goodShape, goodWork, properEpoch, properCounts, properRegisters, goodBuffer}
+use Rattle.checks.specs.View.{viewOf, goodSizes, goodControl, goodShape, goodWork, properEpoch, properCounts, properRegisters, goodBuffer, goodFilter}
 use Rattle.checks.specs.Refusals.{boardChecked, memoriesChecked, runningChecked, lineChecked, storeChecked, commitChecked, scanChecked}
 use Rattle.picl.specs.Answers.{cutOff, answerOf}
-use Rattle.board.specs.Verdict.{boardAfter, workAfter}
-use Rattle.picl.specs.Calls.{formatReport, formatAfter, loadAt, loadOutcome, loadVerdict}
+use Rattle.board.specs.Verdict.{refused, boardAfter, workAfter}
+use Rattle.picl.specs.Calls.{report, filterBitsVerdict, filterBitsReport, formatReport, formatAfter, loadAt, loadOutcome, loadVerdict}
 use Rattle.picl.specs.Calls.{storeAt, storeOutcome, storeVerdict, evictAt, evictOutcome, evictVerdict, commitOutcome, commitVerdict}
 use Rattle.picl.specs.Calls.{scanOutcome, scanVerdict, wakeAt, wakeVerdict, powerUpVerdict}
 use Rattle.layout.specs.Bytes.{bytesOf, wordOf}
@@ -37,8 +40,9 @@ use Rattle.records.specs.Records.{loadKind, storeKind, commitKind, scanKind, ev
 use Rattle.text.specs.Text.{placesOf, decimalOf, numbersText, nameText}
 use Rattle.trace.specs.Run.{plus, begun, called, taken, turn, after, ran, lineText, printed}
 use Rattle.worked.specs.Recorded.{zeros, wrote, bad, listing, broken}
-use Rattle.worked.specs.Bench.{control, entry, slot, clean, dirty, undo, twice, board, work, quiet}
+use Rattle.worked.specs.Bench.{control, entry, slot, clean, dirty, undo, twice, board, work, quiet, unmarked, filter, marked1, marked3, marked13}
 use Rattle.worked.specs.Bench.{ending, endingLast, wake, store, evict, commit, scan, still, ok, improper}
+use Rattle.worked.specs.Filtered.{buffer, full, store14, commit14, scan14, wide, evictShared}
 
 pub record Worked : Type 0 where
   -- "W1 entry 5, 1, 2: hexadecimal 0005000001000002."
@@ -56,35 +60,75 @@ pub record Worked : Type 0 where
   pub w6-ok : answerOf 3 zero (wake (control 1 0 2) twice) ≡ ok 0 3 (given 2 0 0)
   pub w6-board : boardAfter 3 (board (control 1 0 2) twice 7) (wake (control 1 0 2) twice) ≡ board (control 1 0 0) twice 4
   -- "W7 clean store at P 0, s 2 gives 0, 2."
-  pub w7 : store 0 2 clean ≡ still (given 2 1 0) (work (dirty 2) 9 (undo 3 0 2 7))
+  pub w7 : store 0 2 clean ≡ still (given 2 1 0) (work (dirty 2) 9 (undo 3 0 2 7) marked3)
   -- "W8 tag 1 at s 3 gives 1, 3."
-  pub w8 : store 0 3 (dirty 1) ≡ still (given 3 1 0) (work (dirty 3) 9 (undo 3 1 3 7))
+  pub w8 : store 0 3 (dirty 1) ≡ still (given 3 1 0) (work (dirty 3) 9 (undo 3 1 3 7) marked3)
   -- "W9 tag 3 at s 3: none."
-  pub w9 : store 0 3 (dirty 3) ≡ still (given 3 0 0) (work (dirty 3) 9 [])
+  pub w9 : store 0 3 (dirty 3) ≡ still (given 3 0 0) (work (dirty 3) 9 [] unmarked)
   -- "W10 eviction of a dirty line with b = 1 and its own entry buffered: 4 stores; allowance 4 ok."
-  pub w10-ok : answerOf 4 (given 2 1 0) (evict (undo 3 0 2 7)) ≡ ok 1 4 (given 2 0 0)
-  pub w10-board : boardAfter 4 (quiet 0) (evict (undo 3 0 2 7)) ≡ board (control 0 0 1) (undo 3 0 2 7) 9
+  pub w10-ok : answerOf 4 (given 2 1 0) (evict (undo 3 0 2 7) marked3) ≡ ok 1 4 (given 2 0 0)
+  pub w10-board : boardAfter 4 (quiet 0) (evict (undo 3 0 2 7) marked3) ≡ board (control 0 0 1) (undo 3 0 2 7) 9
   -- "W11 allowance 3: cut, log length up by one, line unchanged."
-  pub w11-cut : answerOf 3 (given 2 1 0) (evict (undo 3 0 2 7)) ≡ cutOff 3
-  pub w11-board : boardAfter 3 (quiet 0) (evict (undo 3 0 2 7)) ≡ board (control 0 0 1) (undo 3 0 2 7) 7
+  pub w11-cut : answerOf 3 (given 2 1 0) (evict (undo 3 0 2 7) marked3) ≡ cutOff 3
+  pub w11-board : boardAfter 3 (quiet 0) (evict (undo 3 0 2 7) marked3) ≡ board (control 0 0 1) (undo 3 0 2 7) 7
   -- "W12 s − P = 15 commits; 16 answers 9."
-  pub w12-ok : commit 1 16 ≡ still (given 17 0 0) (work clean 7 [])
+  pub w12-ok : commit 1 16 ≡ still (given 17 0 0) (work clean 7 [] unmarked)
   pub w12-waits : numberOf (answerOf 0 (given 17 0 0) (commit 1 17) .status) ≡ 9
   -- "A scan's write-out is an in-place store too: it must flush a matching buffer first."
   pub scan-flushes : answerOf 4 (given 2 1 1) (scan 1) ≡ ok 0 4 (given 2 0 2)
   pub scan-flushes-first : boardAfter 3 (quiet 0) (scan 1) ≡ board (control 0 0 1) (undo 3 0 1 7) 7
   -- "The control word stored before the entries it counts."
-  pub entries-first : boardAfter 2 (quiet 0) (evict (undo 3 0 2 7)) ≡ board (control 0 0 0) (undo 3 0 2 7) 7
+  pub entries-first : boardAfter 2 (quiet 0) (evict (undo 3 0 2 7) marked3) ≡ board (control 0 0 0) (undo 3 0 2 7) 7
   -- "Clearing the log before the last line is restored, or not at all"
   pub lines-first : boardAfter 2 (board (control 1 0 2) twice 7) (wake (control 1 0 2) twice) ≡ board (control 1 0 2) twice 4
   -- "ValidFrom 0 for a clean line instead of P."
-  pub valid-from : store 1 2 clean ≡ still (given 2 1 0) (work (dirty 2) 9 (undo 3 1 2 7))
+  pub valid-from : store 1 2 clean ≡ still (given 2 1 0) (work (dirty 2) 9 (undo 3 1 2 7) marked3)
   -- "Then the control word: same P, start 0, length 0, always stored."
   pub always-stored : answerOf 1 zero (wake (control 1 0 0) []) ≡ ok 0 1 (given 2 0 0)
   -- "if dirty and tagged with the target": a line of another tag is left alone
-  pub other-tag : scan 2 ≡ still (given 2 1 2) (work (dirty 2) 9 (undo 3 0 2 7))
-  -- "if any buffered entry has its address, flush first": where none has, one store
-  pub no-flush : answerOf 1 (given 2 1 0) (evict (undo 1 0 2 7)) ≡ ok 1 1 (given 2 1 0)
+  pub other-tag : scan 2 ≡ still (given 2 1 2) (work (dirty 2) 9 (undo 3 0 2 7) marked3)
+  -- 3/13: "bit a mod 4,096 and bit (a × 40503 mod 65,536) divided by 16, rounded down": 4,095 × 40503 = 2,530 × 65,536 + 53,705, and
+  -- 65,535 × 40503 = 40,502 × 65,536 + 25,033
+  pub bits-3 : (firstBit 3 ≡ 3) × (secondBit 3 ≡ 3498)
+  pub bits-4095 : (firstBit 4095 ≡ 4095) × (secondBit 4095 ≡ 3356)
+  pub bits-65535 : (firstBit 65535 ≡ 4095) × (secondBit 65535 ≡ 1564)
+  -- an address whose two bits are one, and two that share it, by their second and by their first
+  pub bits-one : (firstBit 0 ≡ 0) × (secondBit 0 ≡ 0)
+  pub bits-shared : (secondBit 233 ≡ 0) × (firstBit 4096 ≡ 0)
+  -- "Bit 0 is the most significant bit of the first word": the corners of words and of the filter
+  pub corner-0 : withBit (buffer 0 0) 0 ≡ buffer 0 0x8000000000000000
+  pub corner-63 : withBit (buffer 0 0) 63 ≡ buffer 0 1
+  pub corner-64 : withBit (buffer 0 0) 64 ≡ buffer 1 0x8000000000000000
+  pub corner-4095 : withBit (buffer 0 0) 4095 ≡ buffer 63 1
+  pub corner-read : (isSet (buffer 63 1) 4095 ≡ true) × (isSet (buffer 63 1) 4094 ≡ false)
+  -- "A write-out flushes exactly when b > 0 and both bits of its address are set": not where line 1 alone is buffered ..
+  pub no-flush : answerOf 1 (given 2 1 0) (evict (undo 1 0 2 7) marked1) ≡ ok 1 1 (given 2 1 0)
+  -- .. nor with one bit, nor where b is 0 ..
+  pub one-bit : answerOf 1 (given 2 1 0) (evict (undo 1 0 2 7) (set marked13 54 0)) ≡ ok 1 1 (given 2 1 0)
+  pub none-buffered : answerOf 1 (given 2 0 0) (evictVerdict (quiet 0) (work (dirty 2) 9 [] full) (given 2 0 0) 3) ≡ ok 1 1 (given 2 0 0)
+  -- .. but also where other lines have set them: a false hit
+  pub false-hit : answerOf 4 (given 2 1 0) (evict (undo 1 0 2 7) marked13) ≡ ok 1 4 (given 2 0 0)
+  pub false-hit-board : boardAfter 4 (quiet 0) (evict (undo 1 0 2 7) marked13) ≡ board (control 0 0 1) (undo 1 0 2 7) 9
+  pub false-hit-shared : boardAfter 4 (wide 0 [] 7) evictShared ≡ wide 1 (undo 233 0 2 5) 9
+  -- "The filter is cleared at each flush with b > 0."
+  pub flush-clears : workAfter 4 (work (dirty 2) 9 (undo 3 0 2 7) marked3) (evict (undo 3 0 2 7) marked3) ≡ replicate (2 * 2 + 128) 0
+  pub flush-keeps : workAfter 1 (work (dirty 2) 9 [] full) (evictVerdict (quiet 0) (work (dirty 2) 9 [] full) (given 2 0 0) 3)
+      ≡ replicate (2 * 2 + 64) 0 ++ full
+  -- "14 filter, a buffered entry with either bit unset"
+  pub lacks-first : evict (undo 3 0 2 7) (filter 54 0x200000) ≡ refused status.Filter 0
+  pub lacks-second : evict (undo 3 0 2 7) (filter 0 0x1000000000000000) ≡ refused status.Filter 0
+  -- "tested right after 7": all of 7 precedes any of 14; and 14 precedes 8, 9, 10 and 11
+  pub seven-first : evictVerdict (quiet 0) (work (dirty 2) 9 (undo 3 0 2 7 ++ undo 3 2 2 7) unmarked) (given 2 2 0) 3 ≡ refused status.Buffer 0
+  pub before-room : store14 ≡ refused status.Filter 0
+  pub before-waiting : commit14 0 16 ≡ refused status.Filter 0
+  pub before-last : commit14 (lastEpoch - 1) lastEpoch ≡ refused status.Filter 0
+  pub before-none : scan14 ≡ refused status.Filter 0
+  -- "A status question gives the number of filter bits set, and refuses only by number 2"
+  pub bits-of-three : filterBitsReport (work clean 7 [] (set (filter 0 1) 63 3)) ≡ report status.Ok 3
+  pub bits-of-all : filterBitsReport (work clean 7 [] full) ≡ report status.Ok 4096
+  pub bits-refused : filterBitsReport (replicate 129 0) ≡ report status.Work 0
+  -- a work memory of 2S + 64 words, made for 33 slots before, is one of 1 slot
+  pub bits-of-old : filterBitsReport (replicate (2 * 33 + 64) 0) ≡ report status.Ok 0
   -- 2/13: "A log entry is now proper only if ValidTill ≤ P + 16 as well." P is 1: 17 is taken, and the line wakes as the oldest has it ..
   pub till-16 : answerOf 3 zero (wake (control 1 0 2) (ending 2 17)) ≡ ok 0 3 (given 2 0 0)
   pub till-16-board : boardAfter 3 (board (control 1 0 2) (ending 2 17) 7) (wake (control 1 0 2) (ending 2 17)) ≡ board (control 1 0 0) (ending 2 17) 4
@@ -122,18 +166,23 @@ pub record Worked : Type 0 where
   -- "tested before its call and ending the run": the calls before it are counted, the one behind it is not made
   pub trace-line : printed 4 8 2 (broken listing) ≡ bytes "trace 0 0 0 0\n"
 
+-- a filter of which every word has all its bits
+all-counted : (word : ℕ) → ones word ≡ 64 → filterBitsReport (work clean 7 [] (replicate 64 word)) ≡ report status.Ok 4096
+unfolding filterBitsReport filterBitsVerdict goodWork answerOf onesOf
+all-counted word e = rw e
+
 pub worked : Worked
 unfolding width pack unpack encode decode
     firstFrom applied each shifted covers properEntry properBuffered placeOf entryIn oldIn olderTill properAt firstImproper bufferedIn
-    bufferedProper bufferProper elsewhere buffers pushed entryStores flushed flushStores flushedBuffer restoreStores restoreTurn recoverStores
+    bufferedProper bufferProper firstBit secondBit isSet withBit marking marks hits onesOf ones onesIn bufferedMarked bufferMarked pushed entryStores flushed flushStores flushedBuffer restoreStores restoreTurn recoverStores
     slots.homeOf slots.properTag slots.properFull slots.properSlot slots.properAt slots.properFor slots.holds slots.spotOf slots.zeroed
     slots.dirtied slots.cleaned withBuffer flushingIf writingOut writingBack emptying slots.entryDue slots.undoDue entryFor logged storingHeld
     loading storing evicting cleaning visiting viewOf goodSizes goodControl goodShape goodWork properEpoch properCounts
-    properRegisters goodBuffer boardChecked memoriesChecked runningChecked lineChecked storeChecked commitChecked scanChecked answerOf boardAfter
+    properRegisters goodBuffer goodFilter boardChecked memoriesChecked runningChecked lineChecked storeChecked commitChecked scanChecked answerOf boardAfter
     storeAt storeOutcome storeVerdict evictAt evictOutcome evictVerdict commitOutcome commitVerdict scanOutcome scanVerdict
     wakeAt wakeVerdict powerUpVerdict
     bytesOf wordOf hasPlace callOf firstWord written wordsReading reading
-    formatReport formatAfter loadAt loadOutcome loadVerdict workAfter bringing slots.filled persisting expired dropped advanceStores
+    filterBitsVerdict filterBitsReport formatReport formatAfter loadAt loadOutcome loadVerdict workAfter bringing slots.filled persisting expired dropped advanceStores
     benchSized formatted woken begun called taken turn after ran lineText nameText numbersText decimalOf placesOf
 worked =
     record {
@@ -161,7 +210,35 @@ worked =
       valid-from = refl;
       always-stored = refl;
       other-tag = refl;
+      bits-3 = (refl, refl);
+      bits-4095 = (refl, refl);
+      bits-65535 = (refl, refl);
+      bits-one = (refl, refl);
+      bits-shared = (refl, refl);
+      corner-0 = refl;
+      corner-63 = refl;
+      corner-64 = refl;
+      corner-4095 = refl;
+      corner-read = (refl, refl);
       no-flush = refl;
+      one-bit = refl;
+      none-buffered = refl;
+      false-hit = refl;
+      false-hit-board = refl;
+      false-hit-shared = refl;
+      flush-clears = refl;
+      flush-keeps = refl;
+      lacks-first = refl;
+      lacks-second = refl;
+      seven-first = refl;
+      before-room = refl;
+      before-waiting = refl;
+      before-last = refl;
+      before-none = refl;
+      bits-of-three = refl;
+      bits-of-all = all-counted 0xFFFFFFFFFFFFFFFF (ones-ones 64);
+      bits-refused = refl;
+      bits-of-old = refl;
       till-16 = refl;
       till-16-board = refl;
       till-17 = refl;
