@@ -10,8 +10,8 @@
  * and all lent memory afterwards are fixed by what went in, and proved to be what the definitions in
  * crates/picl/specs/Calls.antt and crates/capi/specs/Crossing.antt give.
  *
- * A refusal (1 to 11, and 13) leaves board and work memory, or the record's bytes, as they were. The registers too stay as
- * they were, but a refused power-up leaves them zero. The answer is filled, refused or not. Only PICL_TOO_SHORT (255)
+ * A refusal (1 to 11, 13 and 14) leaves board and work memory, or the record's bytes, as they were. The registers too stay
+ * as they were, but a refused power-up leaves them zero. The answer is filled, refused or not. Only PICL_TOO_SHORT (255)
  * touches nothing at all.
  *
  *
@@ -30,9 +30,16 @@
  * THE WORK MEMORY is lost with the current. PICL_WORK_WORDS(S) words; S, from 1 to 256, is read from its length:
  *
  *     word 0 to 2S - 1      slots     S slots of two words: valid 1, dirty 1, address 16, tag 24, zero 22; then the data
- *     word 2S on            buffer    32 undo entries of two words, packed as in the log
+ *     word 2S to 2S + 63    buffer    32 undo entries of two words, packed as in the log
+ *     word 2S + 64 on       filter    64 words, 4,096 bits; bit 0 is the most significant bit of the first word
  *
- * Line a belongs in slot a mod S.
+ * Line a belongs in slot a mod S. A buffered entry for line a has set bit a mod 4,096 of the filter and bit
+ * (a * 40503 mod 65,536) / 16, rounded down. A line that is written out flushes the buffer first where b > 0 and both its
+ * bits are set: always where the buffer has an entry for it, and now and then where the entries of other lines have set
+ * them (a false hit, which costs the stores of a flush and nothing else). A flush clears the filter.
+ *
+ * A program that was built with a header in which PICL_WORK_WORDS(S) was 2S + 64 has to be built anew. Its work memory is
+ * refused (PICL_WORK) where S is at most 32; where S is larger nothing can refuse it: its length is that of S - 32 slots.
  *
  * THE REGISTERS are PICL_REGISTER_WORDS words, lost with the current too. Power-up fills them. Each later call that takes
  * them reads them, and leaves the new ones in their place:
@@ -112,12 +119,13 @@ extern "C" {
 #define PICL_MOST_ENTRIES 65536
 #define PICL_MOST_SLOTS 256
 #define PICL_BUFFER_ENTRIES 32
+#define PICL_FILTER_WORDS 64
 #define PICL_MOST_WAITING 15
 #define PICL_LAST_EPOCH 0xFFFFFF
 
 /* The words of each lent memory. */
 #define PICL_BOARD_WORDS(lines, entries) (2 + 2 * (size_t)(entries) + (size_t)(lines))
-#define PICL_WORK_WORDS(slots) (2 * (size_t)(slots) + 2 * PICL_BUFFER_ENTRIES)
+#define PICL_WORK_WORDS(slots) (2 * (size_t)(slots) + 2 * PICL_BUFFER_ENTRIES + PICL_FILTER_WORDS)
 #define PICL_REGISTER_WORDS 3
 #define PICL_ANSWER_WORDS 2
 
@@ -134,7 +142,19 @@ extern "C" {
 /* The allowance of a call that the current is not to leave. */
 #define PICL_NO_CUT UINT32_MAX
 
-/* The numbers that a call returns. PICL_TOO_SHORT comes before all others; of those, the lowest that applies is returned. */
+/*
+ * The numbers that a call returns. PICL_TOO_SHORT comes before all others. Of those, the first that applies is returned, in
+ * this order of tests, which is not everywhere that of the numbers:
+ *
+ *     format                1
+ *     power-up              1 2 3 12
+ *     load, evict           1 2 4 5 6 7 14 12
+ *     store                 1 2 4 5 6 7 14 8 12
+ *     commit                1 2 4 7 14 9 10
+ *     scan                  1 2 4 6 7 14 11 12
+ *     tally, filter_bits    2
+ *     trace_write           13
+ */
 enum {
     PICL_OK = 0,
     PICL_SHAPE = 1,      /* the board's first two words or its length are not those of a board; format: N, L or the length */
@@ -150,6 +170,7 @@ enum {
     PICL_NONE = 11,      /* scan: no epoch waits to be persisted */
     PICL_CUT = 12,       /* more stores were due than the allowance: the first of them are on the board */
     PICL_TRACE = 13,     /* trace_write: a kind, an address or a value that has no place in a record */
+    PICL_FILTER = 14,    /* a buffered undo entry lacks a bit in the filter */
     PICL_TOO_SHORT = 255 /* the registers or the answer have too few words, or a record too few bytes; no memory was touched */
 };
 
@@ -163,9 +184,9 @@ enum {
 };
 
 /*
- * All but format, tally and trace_write take an allowance: the number of board stores that the call may make. It stands in
- * for the mains switch on a test bench; a controller passes PICL_NO_CUT. At a cut the first stores, as many as allowed, are
- * on the board, and the work memory and the registers are zero.
+ * All but format, tally, filter_bits and trace_write take an allowance: the number of board stores that the call may make.
+ * It stands in for the mains switch on a test bench; a controller passes PICL_NO_CUT. At a cut the first stores, as many as
+ * allowed, are on the board, and the work memory and the registers are zero.
  *
  * No call but format and power-up makes more than 66 board stores; power-up makes at most one more than the log's length.
  */
@@ -205,6 +226,10 @@ uint64_t picl_scan(uint64_t *board, size_t board_words, uint64_t *work, size_t w
 
 /* The number of dirty lines that the cache holds, as value. */
 uint64_t picl_tally(const uint64_t *work, size_t work_words, uint64_t *answer, size_t answer_words);
+
+/* How many bits of the filter are set, 0 to 4,096, as value. Many set bits mean many false hits: with b entries there are at
+ * most 2b of a controller's own. */
+uint64_t picl_filter_bits(const uint64_t *work, size_t work_words, uint64_t *answer, size_t answer_words);
 
 /* A call as a record, in the first PICL_RECORD_BYTES bytes; those behind are not touched, and a refusal (PICL_TRACE) touches
  * none. Value and stores are 0. It makes no call and needs no board: a controller that records itself writes the record of each

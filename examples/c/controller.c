@@ -60,6 +60,8 @@ enum {
     TENSION_STEP = 7,
     TENSION_SPAN = 50,
 
+    BITS_AN_ENTRY = 2,
+
     PICKS_AN_EPOCH = 20,
     EPOCHS = 40,
     MOST_CUTS = 1000 /* with fewer stores between two cuts than an epoch takes, the loom never gets on */
@@ -252,11 +254,23 @@ static uint64_t picks_an_epoch(uint64_t halvings)
     return (uint64_t)PICKS_AN_EPOCH >> halvings;
 }
 
+/* The filter has the bits of the buffered entries and no others: at most two for each, and none after a wake. */
+static void check_filter(void)
+{
+    uint64_t bits[PICL_ANSWER_WORDS];
+    uint64_t number = picl_filter_bits(LENT_WORK, bits, PICL_ANSWER_WORDS);
+    if (number != PICL_OK)
+        fail("filter-bits answered", number);
+    if (bits[PICL_VALUE] > BITS_AN_ENTRY * registers[PICL_BUFFERED])
+        fail("the filter has more bits than the buffered entries", bits[PICL_VALUE]);
+}
+
 /* Commits the running epoch, in which so many picks were woven. */
 static uint64_t end_epoch(uint64_t picks, uint64_t halvings)
 {
     uint64_t number = commit();
     if (number == PICL_OK) {
+        check_filter();
         uint64_t committed = registers[PICL_EPOCH] - 1;
         noted[committed].picks = noted[committed - 1].picks + picks;
         noted[committed].halvings = halvings;
@@ -298,6 +312,7 @@ static uint64_t line_of(uint64_t epoch, uint64_t address)
 static uint64_t check_lines(void)
 {
     uint64_t number = PICL_OK, persisted = registers[PICL_EPOCH] - 1;
+    check_filter();
     for (uint64_t address = 0; number == PICL_OK && address < LINES; address++) {
         uint64_t value;
         number = load(address, &value);

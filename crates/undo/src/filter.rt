@@ -70,8 +70,10 @@ pub fn mark(buffer: &mut [u64], address: u64)
     requires { ⌜ address < 2 ^ addressBits ⌝ }
     ensures { λ _. ⌜ now (buffer .exit) ≡ marking (now (buffer .entry)) address ⌝ }
 {
-    set(buffer, first_bit(address));
-    set(buffer, second_bit(address));
+    let first = first_bit(address);
+    let second = second_bit(address);
+    set(buffer, first);
+    set(buffer, second);
 }
 
 // Whether one of the buffered entries, count of them, may be of the address.

@@ -6,11 +6,11 @@ use Rattle.undo.proofs.filter.mark.Tie as tie
 first-bit-requires : tie.Need-first-bit-requires
 first-bit-requires c κs = search needs
 
-set-requires : tie.Need-set-requires
-set-requires c κs = search needs
-
 second-bit-requires : tie.Need-second-bit-requires
 second-bit-requires c κs = search needs
+
+set-requires : tie.Need-set-requires
+set-requires c κs = search needs
 
 set-requires-2 : tie.Need-set-requires-2
 set-requires-2 c κs = search needs
@@ -26,8 +26,8 @@ mark-spec =
     tie.close
     (tie.spec
     first-bit-requires
-    set-requires
     second-bit-requires
+    set-requires
     set-requires-2
     same-length
     returns)
