@@ -1,8 +1,9 @@
 -- The first place at which a test fails: what a loop finds that tests the places in order and stops by `break`.
 -- The loop's invariant is `Walked`, its turn `walk-next`, its ways out `walk-end` and `walk-found`.
 use Prim.Native.Nat.{ℕ, zero, suc, _+_, _-_, _<_, _≤_}
-use mathlib.Core.Path.{_≡_, refl, sym, _∙_}
+use mathlib.Core.Path.{_≡_, refl, sym, ap₂, _∙_}
 use mathlib.Core.Bool.{Bool, true, false, cond, not, _&&_}
+use native.Mathlib.Nat.{suc-add}
 use native.Mathlib.Omega.{arith}
 use native.Mathlib.Numerals.{add-one}
 use native.Mathlib.Decide.{ℕ-discrete}
@@ -90,6 +91,55 @@ module _ (f : ℕ → Bool) (n : ℕ) (all : (i : ℕ) → i < n → f i ≡ tru
 
   pub all-first : leb n (first f n) ≡ true
   all-first = sym (walk-all (walked n (omega arith)) (omega arith))
+
+-- only the places that are walked count
+from-same : (f g : ℕ → Bool) (k i : ℕ) → ((j : ℕ) → i ≤ j → j < i + k → f j ≡ g j) → firstFrom f i k ≡ firstFrom g i k
+unfolding firstFrom
+from-same f g zero i same = refl
+from-same f g (suc k) i same =
+    ap₂ (λ (t : Bool) (n : ℕ). cond t n i) (same i (omega arith) (omega arith)) (from-same f g k (suc i) (λ j h g. same j (omega arith) (omega arith)))
+
+pub first-same : (f g : ℕ → Bool) (n : ℕ) → ((i : ℕ) → i < n → f i ≡ g i) → first f n ≡ first g n
+first-same f g n same = from-same f g n 0 (λ j h below. same j (omega arith))
+
+-- a walk in two parts: the second is walked where the first comes to its end
+from-parts : (f : ℕ → Bool) (m n i : ℕ) → firstFrom f i (m + n) ≡ cond (ltb (firstFrom f i m) (i + m)) (firstFrom f i m) (firstFrom f (i + m) n)
+unfolding firstFrom
+from-parts f zero n i =
+    let e : i + 0 ≡ i = omega arith in
+    let z : 0 + n ≡ n = omega arith in
+    rw (e, z, le-ltb i i (omega arith))
+from-parts f (suc m) n i = go (f i) refl (from-parts f m n (suc i))
+  where
+    next : suc i + m ≡ i + suc m
+    next = omega arith
+
+    go : (t : Bool) → f i ≡ t
+        → firstFrom f (suc i) (m + n) ≡ cond (ltb (firstFrom f (suc i) m) (suc i + m)) (firstFrom f (suc i) m) (firstFrom f (suc i + m) n)
+        → firstFrom f i (suc m + n)
+        ≡ cond (ltb (cond (f i) (firstFrom f (suc i) m) i) (i + suc m)) (cond (f i) (firstFrom f (suc i) m) i) (firstFrom f (i + suc m) n)
+    go true e rest = rw (suc-add, e) (rw next at rest)
+    go false e rest = rw (suc-add, e, lt-ltb i (i + suc m) (omega arith))
+
+from-behind : (f : ℕ → Bool) (m n i : ℕ) → firstFrom f (m + i) n ≡ m + firstFrom (λ (k : ℕ). f (m + k)) i n
+unfolding firstFrom
+from-behind f m zero i = refl
+from-behind f m (suc n) i =
+    let e : suc (m + i) ≡ m + suc i = omega arith in
+    rw (e, from-behind f m n (suc i)) (same (f (m + i)))
+  where
+    same : (t : Bool) → cond t (m + firstFrom (λ (k : ℕ). f (m + k)) (suc i) n) (m + i) ≡ m + cond t (firstFrom (λ (k : ℕ). f (m + k)) (suc i) n) i
+    same true = refl
+    same false = refl
+
+module _ (f : ℕ → Bool) (m n : ℕ) where
+  pub first-early : first f m < m → first f (m + n) ≡ first f m
+  first-early h = from-parts f m n 0 ∙ rw (lt-ltb (first f m) (0 + m) (omega arith))
+
+  pub first-late : m ≤ first f m → first f (m + n) ≡ m + first (λ (k : ℕ). f (m + k)) n
+  first-late h =
+      let e : 0 + m ≡ m + 0 = omega arith in
+      from-parts f m n 0 ∙ rw (le-ltb (first f m) (0 + m) (omega arith), e) (from-behind f m n 0)
 
 -- two tests at once pass at every place exactly if each does
 pub both-first : (f g : ℕ → Bool) (n : ℕ) → leb n (first (λ (i : ℕ). f i && g i) n) ≡ leb n (first f n) && leb n (first g n)

@@ -7,7 +7,6 @@ use native.Mathlib.Omega.{arith}
 use lib.ListN.{length}
 use Rattle.board.specs.Stores.{applied}
 use Rattle.board.specs.Verdict.{refused, due}
-use Rattle.layout.specs.Memory.{slotsOf}
 use Rattle.status.specs.declared.Status.the-variants as status
 use Rattle.checks.specs.declared.Checked.{Checked}
 use Rattle.checks.specs.declared.Checked.the-variants.{Refused, Passed}

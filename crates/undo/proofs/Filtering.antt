@@ -1,16 +1,17 @@
 -- The filter's functions, one law for each way out.
 use Prim.Native.Nat.{ℕ, _+_, _-_, _*_, _/_, _%_, _^_, _<_, _≤_}
 use mathlib.Core.Path.{_≡_, refl, ap₂, _∙_}
-use mathlib.Core.Bool.{Bool, false, _&&_}
+use mathlib.Core.Bool.{Bool, true, false, not, _&&_, and-true, and-false}
 use mathlib.Core.List.{List}
 use mir.Syntax.{w64}
 use mir.Val.{Fits}
 use native.Mathlib.Nat.{mod-lt}
 use native.Mathlib.Numerals.{add-one}
 use native.Mathlib.Omega.{arith}
-use borrow.Author.Tests.{lt-ltb}
+use borrow.Author.Tests.{not-true, not-false}
 use lib.Bits.{bitAnd, bitOr}
 use lib.Count.{ones, ones-le}
+use lib.Dec.{ltb}
 use lib.ListN.{getD, set}
 use lib.Pow.{pow-pos}
 use Rattle.layout.specs.Limits.{wordBits}
@@ -47,14 +48,14 @@ pub both-set : (buffer buffer′ buffer″ : List ℕ) (a first second : ℕ) �
 unfolding marking
 both-set buffer buffer′ buffer″ a first second f s x y = rw (← f .is, ← s .is, ← x) y
 
-module _ (buffer : List ℕ) (count a : ℕ) where
-  pub hit-none : count ≡ 0 → false ≡ hits buffer count a
+module _ (buffer : List ℕ) (count a : ℕ) (t : Bool) (marked : t ≡ marks buffer a) where
+  pub hit-unmarked : not t ≡ true → false ≡ hits buffer count a
   unfolding hits
-  hit-none e = rw e
+  hit-unmarked x = rw (← marked, not-true t x, and-false)
 
-  pub hit-some : (t : Bool) → (count ≡ 0 → ⊥) → t ≡ marks buffer a → t ≡ hits buffer count a
+  pub hit-marked : not t ≡ false → ltb 0 count ≡ hits buffer count a
   unfolding hits
-  hit-some t n e = rw (lt-ltb 0 count (omega arith), ← e)
+  hit-marked x = rw (← marked, not-false t x, and-true)
 
 -- ---- the number of bits that are set
 

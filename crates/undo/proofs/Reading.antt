@@ -1,32 +1,29 @@
--- Reading the log: an entry at its place, the run that an advance drops, and the search for the first improper entry.
-use Prim.Native.Nat.{ℕ, _+_, _-_, _*_, _<_, _≤_}
+-- Reading the log and the buffer: the search for the first improper entry, the test of the buffered entries and of their bits, and the run that an
+-- advance drops.
+use Prim.Native.Nat.{ℕ, _+_, _-_, _*_, _%_, _<_, _≤_}
 use mathlib.Core.Path.{_≡_, refl, sym, ap, _∙_}
 use mathlib.Core.Bool.{Bool, true, false, not, _&&_, and-true, and-false, and-assoc}
 use mathlib.Core.List.{List}
 use native.Mathlib.Numerals.{add-one}
+use native.Mathlib.Nat.{mod-eq-of-lt, add-mod-right}
 use native.Mathlib.Omega.{arith}
 use borrow.Author.Tests.{lt-ltb, le-ltb, le-leb, lt-leb, ltb-true, ltb-false, leb-true, not-true, not-false}
 use lib.Dec.{ltb, leb}
 use lib.ListN.{getD}
-use Rattle.base.specs.Walk.{first, Walked, walk-start, walk-end, walk-stop, walk-pass, walk-found, walk-next, walk-all, walk-not-all, both-first}
+use Rattle.base.specs.Walk.{first, Walked, walk-start, walk-end, walk-stop, walk-pass, walk-found, walk-next, walk-all, walk-not-all, first-same, first-early, first-late, both-first}
 use Rattle.layout.specs.declared.Entry.{Entry}
 use Rattle.layout.specs.Limits.{mostAhead}
 use Rattle.layout.specs.Memory.{logAt}
 use Rattle.layout.specs.Words.{Decoded, EntryFits, decodeEntry}
 use Rattle.undo.specs.declared.LogState.{LogState}
 use Rattle.undo.specs.Entries.{properEntry, properBuffered}
-use Rattle.undo.specs.Log.{Sound, Placed, entryIn, olderTill, properAt, firstImproper}
+use Rattle.undo.specs.Log.{Sound, Placed, placeOf, entryIn, olderTill, properAt, firstImproper}
 use Rattle.undo.specs.Filter.{marks}
 use Rattle.undo.specs.Log.{bufferedIn, bufferedProper, bufferProper, bufferedMarked, bufferMarked, expired, dropped, KeptBy}
-use Rattle.undo.specs.Contracts.{properBetween}
+use Rattle.undo.specs.Contracts.{properBetween, expiredFrom, KeptFrom}
 use Rattle.undo.specs.Laws.{proper-till}
-use Rattle.undo.specs.Ring.{nextPlace}
+use Rattle.undo.specs.Ring.{nextPlace, entryAt}
 use Rattle.undo.proofs.Ring.{placed-next}
-
-pub entry-read : (board : List ℕ) (u : LogState) (i at : ℕ) (e : Entry) → Placed u i at
-    → Decoded EntryFits (decodeEntry (getD board (logAt + at) 0)) e → Decoded EntryFits (entryIn board u i) e
-unfolding entryIn
-entry-read board u i at e p d = rw (← p .is) d
 
 -- the test of an epoch, one law for each way out
 module _ (epoch least most : ℕ) where
@@ -178,45 +175,124 @@ module _ (buffer : List ℕ) (count lines epoch i : ℕ) (w : Walked (soundAt bu
       pub sound-next : not s ≡ false → Walked (soundAt buffer lines epoch) count (i + 1)
       sound-next x = walk-next w s tested-both h x
 
--- the run that an advance drops: the walk counts down what is left of the log, and carries the place of the next entry
-pub record Dropping (board : List ℕ) (u : LogState) (target at left : ℕ) : Type 0 where
-  pub within : left ≤ u .control .length
-  pub walked : Walked (expired board u target) (u .control .length) (u .control .length - left)
-  pub placed : Placed u (u .control .length - left) at
+-- the run that an advance drops: a walk over entries that stand one behind the other counts down what is left of them, and carries the place
+pub record Dropping (board : List ℕ) (target at left least place rest : ℕ) : Type 0 where
+  pub fewer : least ≤ rest
+  pub within : rest ≤ left
+  pub here : place ≡ at + 2 * (left - rest)
+  pub walked : Walked (expiredFrom board target at) (left - least) (left - rest)
 
-pub drop-start : (board : List ℕ) (u : LogState) (target at : ℕ) → Placed u 0 at → Dropping board u target at (u .control .length)
-drop-start board u target at p =
-    let e : 0 ≡ u .control .length - u .control .length = omega arith in
-    record {
-      within = omega arith;
-      walked = rw e at (walk-start (expired board u target) (u .control .length));
-      placed = rw e at p;
-    }
+module _ (board : List ℕ) (target at left least : ℕ) where
+  pub drop-start : least ≤ left → Dropping board target at left least at left
+  drop-start h =
+      let none : left - left ≡ 0 = omega arith in
+      record { fewer = h; within = omega arith; here = omega arith; walked = rw none (walk-start (expiredFrom board target at) (left - least)) }
 
-module _ {board : List ℕ} {u : LogState} {target at left : ℕ} (s : Dropping board u target at left) where
-  pub drop-end : left ≡ 0 → KeptBy board u target left
+  module _ (place rest : ℕ) (s : Dropping board target at left least place rest) where
+    pub drop-end : rest ≡ least → KeptFrom board target at left least rest
+    drop-end h = record { within = s .within; fewer = s .fewer; rest = walk-end (s .walked) (omega arith) }
+
+    module _ (some : rest ≡ least → ⊥) (e : Entry) (d : Decoded EntryFits (decodeEntry (getD board (logAt + place) 0)) e) where
+      before : left - rest < left - least
+      before = omega (arith, s .within, s .fewer)
+
+      read : e ≡ entryAt board (at + 2 * (left - rest))
+      read = d .is ∙ rw (s .here)
+
+      pub drop-stop : target < e .till → KeptFrom board target at left least rest
+      unfolding expiredFrom
+      drop-stop h =
+          record {
+            within = s .within;
+            fewer = s .fewer;
+            rest = walk-stop (s .walked) before (rw (← read) (lt-leb (e .till) target h));
+          }
+
+      pub drop-next : e .till ≤ target → Dropping board target at left least (place + 2) (rest - 1)
+      unfolding expiredFrom
+      drop-next h =
+          let k : left - rest + 1 ≡ left - (rest - 1) = omega (arith, s .within, s .fewer) in
+          record {
+            fewer = omega (arith, s .fewer);
+            within = omega (arith, s .within);
+            here = omega (arith, s .here, s .within, s .fewer);
+            walked = rw k at (walk-pass (s .walked) before (rw (← read) (le-leb (e .till) target h)));
+          }
+
+-- the log's entries before the ring's end, and from its beginning on
+module _ (board : List ℕ) (u : LogState) (target : ℕ) (sound : Sound u) where
+  straight-place : (i : ℕ) → u .control .start + i < u .entries → placeOf u i ≡ 2 * u .control .start + 2 * i
+  unfolding placeOf
+  straight-place i h = rw (mod-eq-of-lt h) (omega arith)
+
+  turned-place : (i : ℕ) → i < u .entries → placeOf u (u .entries - u .control .start + i) ≡ 0 + 2 * i
+  unfolding placeOf
+  turned-place i h =
+      let round : u .control .start + (u .entries - u .control .start + i) ≡ i + u .entries = omega (arith, sound .begin) in
+      let e : (u .control .start + (u .entries - u .control .start + i)) % u .entries ≡ i =
+      ap (λ (n : ℕ). n % u .entries) round ∙ add-mod-right i (u .entries) ∙ mod-eq-of-lt h in
+      rw e (omega arith)
+
+  straight-same : (n : ℕ) → u .control .start + n ≤ u .entries
+      → first (expired board u target) n ≡ first (expiredFrom board target (2 * u .control .start)) n
+  unfolding expired expiredFrom entryIn
+  straight-same n h =
+      first-same (expired board u target) (expiredFrom board target (2 * u .control .start)) n
+      (λ i below. ap (λ (p : ℕ). leb (decodeEntry (getD board (logAt + p) 0) .till) target) (straight-place i (omega arith)))
+
+  pub kept-straight : (r : ℕ) → u .control .length ≤ u .entries - u .control .start
+      → KeptFrom board target (2 * u .control .start) (u .control .length) 0 r → KeptBy board u target r
   unfolding dropped
-  drop-end h =
-      let e : u .control .length - left ≡ u .control .length = omega arith in
-      record { within = s .within; rest = walk-end (s .walked) (omega arith) }
+  kept-straight r h k =
+      let all : u .control .length - 0 ≡ u .control .length = omega arith in
+      record { within = k .within; rest = k .rest ∙ rw all (sym (straight-same (u .control .length) (omega (arith, sound .begin)))) }
 
-  module _ (e : Entry) (d : Decoded EntryFits (decodeEntry (getD board (logAt + at) 0)) e) (some : left ≡ 0 → ⊥) where
-    read : Decoded EntryFits (entryIn board u (u .control .length - left)) e
-    read = entry-read board u (u .control .length - left) at e (s .placed) d
+  module _ (turns : u .entries - u .control .start < u .control .length) where
+    abbrev straight : ℕ
+    straight = u .entries - u .control .start
 
-    before : u .control .length - left < u .control .length
-    before = omega (arith, s .within)
+    abbrev turned : ℕ
+    turned = u .control .length - straight
 
-    pub drop-stop : target < e .till → KeptBy board u target left
-    unfolding dropped expired
-    drop-stop h = record { within = s .within; rest = walk-stop (s .walked) before (rw (← read .is) (lt-leb (e .till) target h)) }
+    whole : u .control .length ≡ straight + turned
+    whole = omega arith
 
-    pub drop-next : (r : ℕ) → Sound u → e .till ≤ target → r ≡ nextPlace (2 * u .entries) at → Dropping board u target r (left - 1)
-    unfolding expired
-    drop-next r sound h x =
-        let k : u .control .length - left + 1 ≡ u .control .length - (left - 1) = omega (arith, s .within) in
-        record {
-          within = omega (arith, s .within);
-          walked = rw k at (walk-pass (s .walked) before (rw (← read .is) (le-leb (e .till) target h)));
-          placed = rw k at (placed-next u sound (u .control .length - left) at r (s .placed) x);
-        }
+    part : u .control .length - turned ≡ straight
+    part = omega arith
+
+    turned-same : (i : ℕ) → i < turned → expired board u target (straight + i) ≡ expiredFrom board target 0 i
+    unfolding expired expiredFrom entryIn
+    turned-same i below =
+        ap (λ (p : ℕ). leb (decodeEntry (getD board (logAt + p) 0) .till) target) (turned-place i (omega (arith, sound .room, sound .begin)))
+
+    module _ (r : ℕ) (k : KeptFrom board target (2 * u .control .start) (u .control .length) turned r) where
+      walked : u .control .length - r ≡ first (expired board u target) straight
+      walked = k .rest ∙ rw part (sym (straight-same straight (omega (arith, sound .begin))))
+
+      pub kept-early : turned < r → KeptBy board u target r
+      unfolding dropped
+      kept-early h =
+          record {
+            within = k .within;
+            rest =
+                walked ∙ sym (first-early (expired board u target) straight turned (omega (arith, walked, k .within)))
+                ∙ ap (first (expired board u target)) (sym whole);
+          }
+
+      pub kept-late : (q : ℕ) → r ≤ turned → KeptFrom board target 0 turned 0 q → KeptBy board u target q
+      unfolding dropped
+      kept-late q h l =
+          let all : turned - 0 ≡ turned = omega arith in
+          let same : first (λ (i : ℕ). expired board u target (straight + i)) turned ≡ first (expiredFrom board target 0) turned =
+          first-same (λ (i : ℕ). expired board u target (straight + i)) (expiredFrom board target 0) turned turned-same in
+          let second : turned - q ≡ first (expiredFrom board target 0) turned = l .rest ∙ rw all in
+          let late = first-late (expired board u target) straight turned (omega (arith, walked, k .fewer)) in
+          record {
+            within = omega (arith, l .within);
+            rest =
+                sum q (l .within) ∙ ap (λ (n : ℕ). straight + n) (second ∙ sym same) ∙ sym late
+                ∙ ap (first (expired board u target)) (sym whole);
+          }
+        where
+          sum : (q : ℕ) → q ≤ turned → u .control .length - q ≡ straight + (turned - q)
+          sum q h = omega arith

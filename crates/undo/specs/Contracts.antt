@@ -6,6 +6,7 @@ use mathlib.Core.List.{List}
 use lib.Count.{ones}
 use lib.Dec.{ltb, leb}
 use lib.ListN.{length}
+use Rattle.base.specs.Walk.{first}
 use Rattle.board.specs.declared.Meter.{Meter}
 use Rattle.board.specs.Stores.{Ran}
 use Rattle.layout.specs.declared.Entry.{Entry}
@@ -65,6 +66,16 @@ pub record PushReady (buffer : List ℕ) (u : LogState) (e : Entry) : Type 0 whe
   pub fits : EntryFits e
   pub place : u .buffered < bufferPlaces
   pub buffer-words : length buffer ≡ bufferWords
+
+-- entry i from a place on, counted from the log's first word, is useless once the target is persisted
+unfoldable pub expiredFrom : List ℕ → (target at : ℕ) → ℕ → Bool
+expiredFrom board target at i = leb (entryAt board (at + entryWords * i) .till) target
+
+-- what is left of so many entries, and least of them in any case, once the first run of useless ones is dropped
+pub record KeptFrom (board : List ℕ) (target at left least r : ℕ) : Type 0 where
+  pub within : r ≤ left
+  pub fewer : least ≤ r
+  pub rest : left - r ≡ first (expiredFrom board target at) (left - least)
 
 -- an advance of the persisted epoch
 pub record AdvanceReady (board : List ℕ) (u : LogState) (target : ℕ) : Type 0 where

@@ -1,11 +1,11 @@
 -- The binary digits of a word: what the operations of the filter's code do to each.
-use Prim.Native.Nat.{ℕ, zero, suc, _+_, _-_, _*_, _/_, _%_, _^_, _<_, _≤_}
+use Prim.Native.Nat.{ℕ, zero, suc, _+_, _-_, _*_, _/_, _%_, _^_, _<_}
 use mathlib.Core.Path.{_≡_, refl, sym, ap, ap₂, _∙_}
 use mathlib.Core.Logic.{_≢_}
 use mathlib.Core.Bool.{Bool, true, false, _&&_, _||_}
 use native.Mathlib.Nat.{mod-lt, mul-mod-left, mul-div-cancel, div-self, div-eq-of-lt, div-eq-of-lt-le, mul-le-mul-right, mul-lt-mul-of-pos-right, add-zero}
 use native.Mathlib.Omega.{arith}
-use borrow.Author.Tests.{eqb-true, eqb-false, eq-eqb, ne-eqb, le-leb, lt-leb}
+use borrow.Author.Tests.{eqb-true, eqb-false, le-leb, lt-leb}
 use lib.Bits.{bitAnd, bitOr, and-shr, and-mod, and-lt, or-shr, or-mod}
 use lib.Dec.{leb, eqb}
 use lib.Pow.{pow-pos, pow-lt, pow-add, mod-pow-add, field}

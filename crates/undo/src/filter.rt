@@ -82,10 +82,10 @@ pub fn is_hit(buffer: &[u64], count: u64, address: u64) -> bool
     requires { ⌜ address < 2 ^ addressBits ⌝ }
     ensures { λ r. ⌜ r ≡ hits (now (buffer .entry)) count address ⌝ }
 {
-    if count == 0 {
+    if !is_marked(buffer, address) {
         return false;
     }
-    is_marked(buffer, address)
+    count > 0
 }
 
 fn ones_in(word: u64) -> u64

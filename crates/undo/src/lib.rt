@@ -1,14 +1,14 @@
 // The undo log on the board, and the undo buffer before it.
 mod filter;
 
-ghost use Prim.Native.Nat.{_*_, _%_, _^_, _<_, _≤_};
+ghost use Prim.Native.Nat.{_+_, _-_, _*_, _%_, _^_, _<_, _≤_};
 ghost use lib.Dec.{leb};
 ghost use lib.ListN.{length};
 ghost use mathlib.Core.Bool.{_&&_};
 ghost use mathlib.Core.Path.{_≡_};
 ghost use Rattle.board.specs.Stores.{Ran, each};
 ghost use Rattle.layout.specs.Limits.{epochBits, mostLines, mostEntries, bufferPlaces};
-ghost use Rattle.layout.specs.Memory.{linesAt, bufferWords, entryWords};
+ghost use Rattle.layout.specs.Memory.{logAt, linesAt, bufferWords, entryWords};
 ghost use Rattle.layout.specs.Words.{decodeEntry};
 ghost use Rattle.undo.specs.Entries.{properBuffered};
 ghost use Rattle.undo.specs.Log.{Sound, Placed, firstImproper, bufferProper, bufferMarked};
@@ -16,6 +16,7 @@ ghost use Rattle.undo.specs.Log.{DroppedBy, KeptBy, entryStores, counted
 ghost use Rattle.undo.specs.Log.{restoreTurn, recoverStores};
 ghost use Rattle.undo.specs.Ring.{nextPlace, previousPlace, restoreAt};
 ghost use Rattle.undo.specs.Contracts.{properBetween, Flushes, FlushReady, Pushes, PushReady, AdvanceReady, RecoverReady, RestoreReady};
+ghost use Rattle.undo.specs.Contracts.{KeptFrom};
 use board::Meter;
 pub use filter::bits_set;
 pub use filter::is_hit;
@@ -163,27 +164,47 @@ pub fn first_improper(board: &[u64], undo: LogState, lines: u64) -> u64
     found
 }
 
-// How many of the log's entries are left once the oldest run is dropped that the target makes useless.
+// Of left entries that stand one behind the other from a place on, those are dropped that the target makes useless, up to the first that it does
+// not. It stops where least are left.
+fn kept_from(board: &[u64], target: u64, at: usize, left: u64, least: u64) -> u64
+    requires { ⌜ least ≤ left ⌝ }
+    requires { ⌜ logAt + at + entryWords * (left - least) ≤ length (now board) ⌝ }
+    ensures { λ r. ⌜ KeptFrom (now (board .entry)) target at left least r ⌝ }
+{
+    let mut place = at;
+    let mut rest = left;
+    let kept = loop {
+        if rest == least {
+            break rest;
+        }
+        let entry = Entry::decode(board[LOG_AT + place]);
+        if entry.till > target {
+            break rest;
+        }
+        place += ENTRY_WORDS;
+        rest -= 1;
+    };
+    kept
+}
+
+// How many of the log's entries are left once the oldest run is dropped that the target makes useless: first those before the ring's end, then
+// those from its beginning on.
 fn kept_by(board: &[u64], undo: LogState, target: u64) -> u64
     requires { ⌜ Sound undo ⌝ }
     requires { ⌜ linesAt (undo .entries) ≤ length (now board) ⌝ }
     ensures { λ r. ⌜ KeptBy (now (board .entry)) undo target r ⌝ }
 {
-    let mut at = place(undo, 0);
-    let mut left = undo.control.length;
-    let kept = loop {
-        if left == 0 {
-            break left;
-        }
-        let entry = Entry::decode(board[LOG_AT + at]);
-        if entry.till > target {
-            break left;
-        }
-        let end = ENTRY_WORDS * undo.entries as usize;
-        at = next(end, at);
-        left -= 1;
-    };
-    kept
+    let first = ENTRY_WORDS * undo.control.start as usize;
+    let straight = undo.entries - undo.control.start;
+    if undo.control.length <= straight {
+        return kept_from(board, target, first, undo.control.length, 0);
+    }
+    let turned = undo.control.length - straight;
+    let kept = kept_from(board, target, first, undo.control.length, turned);
+    if kept > turned {
+        return kept;
+    }
+    kept_from(board, target, 0, turned, 0)
 }
 
 // How many of the oldest entries no longer matter once the target is persisted.

@@ -8,7 +8,7 @@ use Rattle.layout.specs.Words.{encodeControl, encodeShape, encodeSlot}
 use Rattle.checks.specs.Registers.{given}
 use Rattle.picl.specs.Answers.{Verdict}
 use Rattle.picl.specs.Calls.{storeVerdict, evictVerdict, commitVerdict, scanVerdict}
-use Rattle.worked.specs.Bench.{control, slot, clean, dirty, undo, padded, board, work, quiet, unmarked, filter}
+use Rattle.worked.specs.Bench.{control, slot, clean, undo, padded, board, work, quiet, unmarked, filter}
 
 -- an undo buffer without entries, with one word of its filter
 abbrev pub buffer : (at word : ℕ) → List ℕ

@@ -1,69 +1,45 @@
+use Rattle.undo.proofs.Reading.{kept-straight, kept-early, kept-late}
 use borrow.Author.Needs.{needs}
-use Rattle.undo.proofs.Reading.{Dropping, drop-start, drop-end, drop-stop, drop-next}
 use Rattle.undo.proofs.kept_by.Statement.{statement}
 use Rattle.undo.proofs.kept_by.Tie as tie
 
-abbrev Inv-loop : tie.InvT-loop
-Inv-loop board undo target at₀ left₀ at left = Dropping board undo target at left
+mul-first : tie.Need-mul-first
+mul-first c = search needs
 
-abbrev μ-loop : tie.MeasureT-loop
-μ-loop board undo target at₀ left₀ at left = left
+sub-straight : tie.Need-sub-straight
+sub-straight c = search needs
 
-place-requires : tie.Need-place-requires Inv-loop μ-loop
-place-requires c κs = search needs
+kept-from-requires : tie.Need-kept-from-requires
+kept-from-requires c κs = search needs
 
-loop-holds : tie.Need-loop-holds Inv-loop μ-loop
-loop-holds c = search (drop-start)
+returns : tie.Need-returns
+returns c = search (kept-straight)
 
-add-decode : tie.Need-add-decode Inv-loop μ-loop
-add-decode c = search needs
+sub-turned : tie.Need-sub-turned
+sub-turned c = search needs
 
-mul-decode : tie.Need-mul-decode Inv-loop μ-loop
-mul-decode c = search needs
+kept-from-requires-2 : tie.Need-kept-from-requires-2
+kept-from-requires-2 c κs = search needs
 
-shared-slice-read-decode : tie.Need-shared-slice-read-decode Inv-loop μ-loop
-shared-slice-read-decode c = search needs
+returns-2 : tie.Need-returns-2
+returns-2 c = search (kept-early)
 
-decode-requires : tie.Need-decode-requires Inv-loop μ-loop
-decode-requires c κs = search needs
+kept-from-requires-3 : tie.Need-kept-from-requires-3
+kept-from-requires-3 c κs = search needs
 
-mul-end : tie.Need-mul-end Inv-loop μ-loop
-mul-end c = search needs
-
-next-requires : tie.Need-next-requires Inv-loop μ-loop
-next-requires c κs = search needs
-
-sub-left : tie.Need-sub-left Inv-loop μ-loop
-sub-left c = search needs
-
-loop-less : tie.Need-loop-less Inv-loop μ-loop
-loop-less c = search needs
-
-loop-again : tie.Need-loop-again Inv-loop μ-loop
-loop-again c = search (drop-next)
-
-returns : tie.Need-returns Inv-loop μ-loop
-returns c = search (drop-end)
-
-returns-2 : tie.Need-returns-2 Inv-loop μ-loop
-returns-2 c = search (drop-stop)
+returns-3 : tie.Need-returns-3
+returns-3 c = search (kept-late)
 
 pub kept-by-spec : {M : Type 1} → statement M
 kept-by-spec =
     tie.close
     (tie.spec
-    Inv-loop
-    μ-loop
-    place-requires
-    loop-holds
-    add-decode
-    mul-decode
-    shared-slice-read-decode
-    decode-requires
-    mul-end
-    next-requires
-    sub-left
-    loop-less
-    loop-again
+    mul-first
+    sub-straight
+    kept-from-requires
     returns
-    returns-2)
+    sub-turned
+    kept-from-requires-2
+    returns-2
+    kept-from-requires-3
+    returns-3)

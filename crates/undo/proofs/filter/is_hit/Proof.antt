@@ -1,16 +1,16 @@
-use Rattle.undo.proofs.Filtering.{hit-none, hit-some}
+use Rattle.undo.proofs.Filtering.{hit-unmarked, hit-marked}
 use borrow.Author.Needs.{needs}
 use Rattle.undo.proofs.filter.is_hit.Statement.{statement}
 use Rattle.undo.proofs.filter.is_hit.Tie as tie
 
-returns : tie.Need-returns
-returns c = search (hit-none)
-
 is-marked-requires : tie.Need-is-marked-requires
 is-marked-requires c κs = search needs
 
+returns : tie.Need-returns
+returns c = search (hit-unmarked)
+
 returns-2 : tie.Need-returns-2
-returns-2 c = search (hit-some)
+returns-2 c = search (hit-marked)
 
 pub is-hit-spec : {M : Type 1} → statement M
-is-hit-spec = tie.close (tie.spec returns is-marked-requires returns-2)
+is-hit-spec = tie.close (tie.spec is-marked-requires returns returns-2)
