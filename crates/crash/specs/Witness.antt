@@ -2,6 +2,7 @@
 -- and S + 1 scan calls persist epoch 1); then 9 is written in place, the current goes in mid-flush, and power-up restores 7. The other
 -- leaves a log entry that ends as late as one may.
 use Prim.Native.Nat.{ℕ, _+_, _*_}
+use mathlib.Core.Bool.{true, false}
 use mathlib.Core.Path.{_≡_, refl}
 use mathlib.Core.List.{List, [], _∷_, _++_}
 use native.Mathlib.Omega.{arith}
@@ -12,7 +13,7 @@ use Rattle.board.specs.Stores.{applied, each, shifted}
 use Rattle.board.specs.Verdict.{boardAfter, workAfter}
 use Rattle.layout.specs.Fields.{width, pack, unpack, encode, decode}
 use Rattle.layout.specs.Limits.{mostAhead}
-use Rattle.layout.specs.Memory.{logAt, entryWords, workWords, slotsOf, formatted, withBuffer, controlIn}
+use Rattle.layout.specs.Memory.{bufferIn, logAt, entryWords, workWords, slotsOf, formatted, withBuffer, controlIn}
 use Rattle.layout.specs.Words.{encodeEntry}
 use Rattle.status.specs.declared.Status.the-variants as status
 use Rattle.undo.specs.Entries.{covers, properEntry, properBuffered}
@@ -89,6 +90,11 @@ pub record Met : Type 0 where
   pub far-counted : controlIn (far .machine .board) .length ≡ 1
   pub far-till : entryIn (far .machine .board) (logOn entries (far .machine .board)) 0 .till ≡ persistedOn (far .machine .board) + mostAhead
 
+  -- the premise of `filter-exact`: awake, with entries of line 0 buffered; its one bit is set and no other, and the scan's flush clears it
+  pub awake : begun .machine .registers .epoch ≡ 3
+  pub marked : (isSet (bufferIn (begun .machine .work)) 0 ≡ true) × (isSet (bufferIn (begun .machine .work)) 1 ≡ false)
+  pub cleared : isSet (bufferIn (scanned .machine .work)) 0 ≡ false
+
 differ : _≡_ {A = ℕ} 0 1 → ⊥
 differ e = omega arith
 
@@ -120,4 +126,7 @@ met =
       copy = refl;
       far-counted = refl;
       far-till = refl;
+      awake = refl;
+      marked = (refl, refl);
+      cleared = refl;
     }
