@@ -89,7 +89,6 @@ pub record Met : Type 0 where
   -- the premise of `log-proper`, with an entry that ends as late as any may: 16 epochs after P
   pub far-counted : controlIn (far .machine .board) .length ≡ 1
   pub far-till : entryIn (far .machine .board) (logOn entries (far .machine .board)) 0 .till ≡ persistedOn (far .machine .board) + mostAhead
-
   -- the premise of `filter-exact`: awake, with entries of line 0 buffered; its one bit is set and no other, and the scan's flush clears it
   pub awake : begun .machine .registers .epoch ≡ 3
   pub marked : (isSet (bufferIn (begun .machine .work)) 0 ≡ true) × (isSet (bufferIn (begun .machine .work)) 1 ≡ false)
