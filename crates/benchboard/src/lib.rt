@@ -5,6 +5,8 @@ ghost use Rattle.benchboard.specs.Sizes.{benchSized};
 ghost use Rattle.benchboard.specs.Calls.{callOf, woken, Leaves};
 use benchcalls::Call;
 use checks::Registers;
+use layout::BUFFER_WORDS;
+use layout::SLOT_WORDS;
 use picl::Answer;
 
 // The largest sizes.
@@ -17,7 +19,7 @@ const MOST_SLOTS: u64 = 64;
 // The words of a bench's memories: as many as the largest sizes take.
 pub const BOARD_WORDS: usize = 4098;
 
-pub const WORK_WORDS: usize = 192;
+pub const WORK_WORDS: usize = SLOT_WORDS * MOST_SLOTS as usize + BUFFER_WORDS;
 
 // The allowance of a call that is given no other.
 pub const FULL_ALLOWANCE: u32 = 4294967295;

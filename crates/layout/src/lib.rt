@@ -102,7 +102,7 @@ pub const FILTER_AT: usize = ENTRY_WORDS * BUFFER_PLACES;
 
 pub const FILTER_WORDS: usize = FILTER_SIZE as usize / WORD_BITS as usize;
 
-const BUFFER_WORDS: usize = FILTER_AT + FILTER_WORDS;
+pub const BUFFER_WORDS: usize = FILTER_AT + FILTER_WORDS;
 
 // The words of a work memory with one slot, and with the most.
 pub const LEAST_WORK: usize = SLOT_WORDS + BUFFER_WORDS;
