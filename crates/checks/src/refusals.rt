@@ -1,5 +1,5 @@
-// The paper's table of refusals. A call makes its tests in stages, lowest number first: check_memories, then check_registers, then the
-// rows of its own. Each stage requires what the stages before it told.
+// The paper's table of refusals. A call makes its tests in stages, in the order of specs/Refusals: check_memories, then check_registers,
+// then the rows of its own. Each stage requires what the stages before it told.
 ghost use Prim.Native.Nat.{_<_};
 ghost use lib.ListN.{length};
 ghost use mathlib.Core.List.{_++_};

@@ -145,7 +145,7 @@ verdictOf board work r scan = scanVerdict board work r
 verdictOf board work r tally = tallyVerdict work r
 verdictOf board work r filterBits = filterBitsVerdict work r
 
--- ---- "format and tally do neither" take nor return registers, and so does the status question: they report
+-- ---- "format and tally do neither" take nor return registers, nor does the status question: they report
 
 abbrev pub report : Status → (value : ℕ) → Report
 report why value = record { status = why; value = value; stores = 0 }
