@@ -1,3 +1,4 @@
 pub mod Numbers
 pub mod Names
 pub mod Letters
+pub mod Laws

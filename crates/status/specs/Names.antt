@@ -1,11 +1,13 @@
--- The names of the numbers. "The names are held as thirteen rows of eight bytes, filled with spaces", and each
--- number that joins them has a row more.
+-- The names of the numbers. "The names are held as thirteen rows of eight bytes, filled with spaces", and each number that joins
+-- them has a row more. From 4/13 on they are held "unpadded, end to end" (`Letters`); the rows still say what each name is.
 use Prim.Native.Nat.{ℕ, _-_}
 use Prim.Native.Char.{code}
 use Prim.Native.String as text
+use mathlib.Core.Path.{_≡_}
+use mathlib.Core.Bool.{cond}
 use mathlib.Core.List.{List, [], _∷_, _++_}
-use lib.ListN.{length, getD, replicate}
-use Rattle.status.specs.declared.Name.{Name}
+use lib.Dec.{eqb, leb}
+use lib.ListN.{length, getD, drop, replicate}
 
 -- by number, from 0
 abbrev pub names : List text.String
@@ -30,6 +32,10 @@ names =
 abbrev pub rowBytes : ℕ
 rowBytes = 8
 
+-- so no name has more letters
+abbrev pub mostLetters : ℕ
+mostLetters = rowBytes
+
 abbrev pub space : ℕ
 space = 32
 
@@ -44,6 +50,19 @@ row name = bytes name ++ replicate (rowBytes - length (bytes name)) space
 unfoldable pub rowOf : ℕ → List ℕ
 rowOf number = row (getD names number "")
 
--- a number's row, and how many of its bytes are the name's
-unfoldable pub nameOf : ℕ → Name
-nameOf number = record { row = rowOf number; length = length (bytes (getD names number "")) }
+abbrev pub withoutSpaces : List ℕ → List ℕ
+withoutSpaces [] = []
+withoutSpaces (b ∷ bs) = cond (eqb b space) (withoutSpaces bs) (b ∷ withoutSpaces bs)
+
+-- "every number gives its old row without the spaces"
+unfoldable pub nameOf : ℕ → List ℕ
+nameOf number = withoutSpaces (rowOf number)
+
+-- a name at the start of a text; a text that is too short for it stays as it is
+unfoldable pub withName : (name text : List ℕ) → List ℕ
+withName name text = cond (leb (length name) (length text)) (name ++ drop (length name) text) text
+
+-- what putting a number's name into a text leaves and answers
+pub record PutsName (number : ℕ) (text text′ : List ℕ) (r : ℕ) : Type 0 where
+  pub letters : r ≡ length (nameOf number)
+  pub left : text′ ≡ withName (nameOf number) text

@@ -1,8 +1,9 @@
 // What an answer says: the numbers of the paper and their names.
+mod names;
+
+pub use names::put_name;
 ghost use mathlib.Core.Path.{_≡_};
 ghost use Rattle.status.specs.Numbers.{numberOf, isOk};
-ghost use Rattle.status.specs.Names.{nameOf, rowOf};
-ghost use Rattle.status.specs.Letters.{lettersIn};
 
 pub enum Status {
     Ok,
@@ -51,71 +52,5 @@ impl Status {
         ensures { λ r. ⌜ r ≡ isOk self ⌝ }
     {
         self.number() == OK
-    }
-}
-
-const NAMES: usize = 15;
-
-const ROW_BYTES: usize = 8;
-
-const SPACE: u8 = b' ';
-
-const ROWS: [[u8; ROW_BYTES]; NAMES] = [
-    *b"ok      ",
-    *b"shape   ",
-    *b"work    ",
-    *b"entry   ",
-    *b"regs    ",
-    *b"address ",
-    *b"slot    ",
-    *b"buffer  ",
-    *b"room    ",
-    *b"waiting ",
-    *b"last    ",
-    *b"none    ",
-    *b"cut     ",
-    *b"trace   ",
-    *b"filter  ",
-];
-
-// A name: the first bytes of its row, as many as length says, and spaces behind them.
-pub struct Name {
-    pub row: [u8; ROW_BYTES],
-    pub length: usize,
-}
-
-fn row_of(number: u64) -> [u8; ROW_BYTES]
-    ensures { λ r. ⌜ r ≡ rowOf number ⌝ }
-{
-    if number >= NAMES as u64 {
-        return [SPACE; ROW_BYTES];
-    }
-    ROWS[number as usize]
-}
-
-// How many bytes come before the first space of a row.
-fn letters_in(row: [u8; ROW_BYTES]) -> usize
-    ensures { λ r. ⌜ r ≡ lettersIn row ⌝ }
-{
-    let mut i: usize = 0;
-    let end = loop {
-        if i >= ROW_BYTES {
-            break i;
-        }
-        if row[i] == SPACE {
-            break i;
-        }
-        i += 1;
-    };
-    end
-}
-
-pub fn name_of(number: u64) -> Name
-    ensures { λ r. ⌜ r ≡ nameOf number ⌝ }
-{
-    let row = row_of(number);
-    Name {
-        row,
-        length: letters_in(row),
     }
 }
