@@ -1,6 +1,6 @@
 -- The names of the numbers. "The names are held as thirteen rows of eight bytes, filled with spaces", and each number that joins
 -- them has a row more. From 4/13 on they are held "unpadded, end to end" (`Letters`); the rows still say what each name is.
-use Prim.Native.Nat.{ℕ, _-_}
+use Prim.Native.Nat.{ℕ, _-_, _≤_}
 use Prim.Native.Char.{code}
 use Prim.Native.String as text
 use mathlib.Core.Path.{_≡_}
@@ -65,4 +65,5 @@ withName name text = cond (leb (length name) (length text)) (name ++ drop (lengt
 -- what putting a number's name into a text leaves and answers
 pub record PutsName (number : ℕ) (text text′ : List ℕ) (r : ℕ) : Type 0 where
   pub letters : r ≡ length (nameOf number)
+  pub short : r ≤ mostLetters
   pub left : text′ ≡ withName (nameOf number) text

@@ -1,7 +1,6 @@
 -- Printing into a buffer, and the laws of it that the proofs cite.
 use Prim.Native.Nat.{ℕ, zero, suc, _+_, _-_, _*_, _^_, _<_, _≤_}
-use Prim.Native.String as text
-use mathlib.Core.Path.{_≡_, refl, sym, ap, _∙_}
+use mathlib.Core.Path.{_≡_, refl, sym, ap, subst, _∙_}
 use mathlib.Core.Bool.{Bool, true, false, _&&_}
 use mathlib.Core.List.{List, [], _∷_, _++_, append-assoc, append-nil}
 use borrow.Author.Tests.{ltb-true, ltb-false, leb-true, le-leb, lt-leb}
@@ -9,14 +8,14 @@ use native.Mathlib.Nat.{pow-le-pow-right}
 use native.Mathlib.Numerals.{add-one}
 use native.Mathlib.Omega.{arith}
 use lib.Dec.{ltb, leb}
-use lib.ListN.{length, getD, set, take, length-append}
-use lib.Seq.{take-all, take-suc, take-suc-set, take-append-seam, length-take-le, paste, paste-suc, take-paste}
-use Rattle.base.specs.Tests.{and-left, and-right}
+use lib.ListN.{length, getD, set, take, drop, length-append, length-drop}
+use lib.Seq.{take-all, take-suc, take-suc-set, take-append-seam, take-append-add, length-take-le, paste, paste-suc, take-paste}
+use Rattle.base.specs.Parts.{rest-lent, rest-back}
 use Rattle.base.specs.Walk.{firstFrom}
 use Rattle.io.specs.Digits.{digits, Fewest}
-use Rattle.status.specs.declared.Name.{Name}
 use Rattle.status.specs.declared.Status.{Status}
-use Rattle.status.specs.Names.{names, bytes, rowBytes, rowOf, nameOf}
+use Rattle.status.specs.Names.{mostLetters, nameOf, PutsName}
+use Rattle.status.specs.Laws.{name-short, with-name}
 use Rattle.status.specs.Numbers.{numberOf}
 use Rattle.text.specs.Text.{spaceByte, mostDigits, numberBytes, placesOf, decimalOf, numbersText, nameText}
 
@@ -138,42 +137,22 @@ numbers-done out out′ numbers at i r p h g =
 
 -- ── a name ──
 
--- ── a name ──
+module _ (s : Status) (n k at : ℕ) (out part : List ℕ) (is : n ≡ numberOf s) (room : at + mostLetters ≤ length out)
+    (put : PutsName n (take (length out - at) (drop at out)) part k) where
+  part-is : part ≡ nameOf n ++ drop (length (nameOf n)) (drop at out)
+  part-is = put .left ∙ rw (rest-lent at out) (with-name (nameOf n) (drop at out) (rw (length-drop at out) (omega (arith, room, name-short n))))
 
--- every name fits into its row, by one test of the whole table
-abbrev allShort : List text.String → Bool
-allShort [] = true
-allShort (s ∷ ss) = leb (length (bytes s)) rowBytes && allShort ss
+  front : length (take at out) ≡ at
+  front = length-take-le at out (omega (arith, room))
 
-short-at : (ss : List text.String) (n : ℕ) → allShort ss ≡ true → length (bytes (getD ss n "")) ≤ rowBytes
-short-at [] n h = omega arith
-short-at (s ∷ ss) zero h = leb-true (length (bytes s)) rowBytes (and-left (leb (length (bytes s)) rowBytes) (allShort ss) h)
-short-at (s ∷ ss) (suc n) h = short-at ss n (and-right (leb (length (bytes s)) rowBytes) (allShort ss) h)
+  shown-is : take (at + k) (take at out ++ part) ≡ take at out ++ nameOf n
+  shown-is =
+      rw (put .letters, part-is)
+      (subst (λ (m : ℕ). take (m + length (nameOf n)) (take at out ++ (nameOf n ++ drop (length (nameOf n)) (drop at out))) ≡ take at out ++ nameOf n) front
+      (take-append-add (take at out) (nameOf n ++ drop (length (nameOf n)) (drop at out)) (length (nameOf n))
+      ∙ ap (λ (l : List ℕ). take at out ++ l) (take-append-seam (nameOf n) (drop (length (nameOf n)) (drop at out)))))
 
-module _ (s : Status) (n : ℕ) (m : Name) (e : n ≡ numberOf s) (g : m ≡ nameOf n) where
-  name-is : m ≡ nameOf (numberOf s)
-  name-is = rw (g, e)
-
-  pub name-part : m .length ≤ length (m .row)
-  unfolding nameOf rowOf
-  name-part = rw name-is (rw length-append (omega arith))
-
-  name-text : take (m .length) (m .row) ≡ nameText s
-  unfolding nameOf rowOf nameText
-  name-text = rw name-is (take-append-seam (bytes (getD names (numberOf s) "")) _)
-
-  name-short : m .length ≤ rowBytes
-  unfolding nameOf
-  name-short = rw name-is (short-at names (numberOf s) refl)
-
-  name-taken : length (take (m .length - 0) (m .row)) ≤ rowBytes
-  name-taken = omega (arith, length-take-le (m .length - 0) (m .row) (omega (arith, name-part)), name-short)
-
-  pub name-room : (at : ℕ) (out : List ℕ) → at + rowBytes ≤ length out → at + length (take (m .length - 0) (m .row)) ≤ length out
-  name-room at out h = omega (arith, name-taken, h)
-
-  pub name-printed : (at r : ℕ) (out out′ : List ℕ) → Prints (length (take (m .length - 0) (m .row))) out at (take (m .length - 0) (m .row)) out′ r
-      → Prints rowBytes out at (nameText s) out′ r
-  name-printed at r out out′ p =
-      let z : m .length - 0 ≡ m .length = omega arith in
-      prints-as (rw z name-text) name-taken p
+  pub name-printed : Prints mostLetters out at (nameText s) (take at out ++ (part ++ drop (length out - at) (drop at out))) (at + k)
+  unfolding nameText
+  name-printed =
+      rw (← is, rest-back at out part) (record { short = name-short n; end = ap (λ (m : ℕ). at + m) (put .letters); shown = shown-is })

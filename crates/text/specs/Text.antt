@@ -2,11 +2,10 @@
 use Prim.Native.Nat.{ℕ, _+_, _^_}
 use mathlib.Core.List.{List, [], _∷_, _++_}
 use lib.Dec.{leb}
-use lib.ListN.{getD}
 use Rattle.base.specs.Walk.{firstFrom}
 use Rattle.io.specs.Digits.{digits}
 use Rattle.status.specs.declared.Status.{Status}
-use Rattle.status.specs.Names.{names, bytes}
+use Rattle.status.specs.Names.{nameOf}
 use Rattle.status.specs.Numbers.{numberOf}
 
 abbrev pub spaceByte : ℕ
@@ -36,4 +35,4 @@ numbersText [] = []
 numbersText (n ∷ ns) = (spaceByte ∷ []) ++ (decimalOf n ++ numbersText ns)
 
 unfoldable pub nameText : Status → List ℕ
-nameText s = bytes (getD names (numberOf s) "")
+nameText s = nameOf (numberOf s)

@@ -3,7 +3,7 @@
 ghost use Prim.Native.Nat.{_+_, _*_, _≤_, _<_};
 ghost use mathlib.Core.List.{[], _∷_};
 ghost use lib.ListN.{length};
-ghost use Rattle.status.specs.Names.{rowBytes};
+ghost use Rattle.status.specs.Names.{mostLetters};
 ghost use Rattle.text.specs.Text.{mostDigits, numberBytes, decimalOf, numbersText, nameText};
 ghost use Rattle.text.specs.Printing.{Prints};
 use status::Status;
@@ -57,11 +57,8 @@ pub fn put_numbers(out: &mut [u8], at: usize, numbers: &[u64]) -> usize
 }
 
 pub fn put_name(out: &mut [u8], at: usize, status: Status) -> usize
-    requires { ⌜ at + rowBytes ≤ length (now out) ⌝ }
-    ensures { λ r. ⌜ Prints rowBytes (now (out .entry)) at (nameText status) (now (out .exit)) r ⌝ }
+    requires { ⌜ at + mostLetters ≤ length (now out) ⌝ }
+    ensures { λ r. ⌜ Prints mostLetters (now (out .entry)) at (nameText status) (now (out .exit)) r ⌝ }
 {
-    let name = status::name_of(status.number());
-    let row = name.row;
-    let count = name.length;
-    put(out, at, &row[0..count])
+    at + status::put_name(&mut out[at..], status.number())
 }
