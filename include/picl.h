@@ -129,8 +129,9 @@ extern "C" {
 #define PICL_REGISTER_WORDS 3
 #define PICL_ANSWER_WORDS 2
 
-/* The bytes of a record. */
+/* The bytes of a record, and of a text that has room for every name. */
 #define PICL_RECORD_BYTES 16
+#define PICL_NAME_BYTES 8
 
 /* Places in the registers and in the answer. */
 #define PICL_EPOCH 0
@@ -154,6 +155,7 @@ extern "C" {
  *     scan                  1 2 4 6 7 14 11 12
  *     tally, filter_bits    2
  *     trace_write           13
+ *     name                  none: it refuses no number
  */
 enum {
     PICL_OK = 0,
@@ -171,7 +173,7 @@ enum {
     PICL_CUT = 12,       /* more stores were due than the allowance: the first of them are on the board */
     PICL_TRACE = 13,     /* trace_write: a kind, an address or a value that has no place in a record */
     PICL_FILTER = 14,    /* a buffered undo entry lacks a bit in the filter */
-    PICL_TOO_SHORT = 255 /* the registers or the answer have too few words, or a record too few bytes; no memory was touched */
+    PICL_TOO_SHORT = 255 /* registers or answer have too few words, a record or a text too few bytes; nothing was touched */
 };
 
 /* The kinds of recorded calls. Load, store and evict take an address, and store alone a value. */
@@ -184,7 +186,7 @@ enum {
 };
 
 /*
- * All but format, tally, filter_bits and trace_write take an allowance: the number of board stores that the call may make.
+ * All but format, tally, filter_bits, trace_write and name take an allowance: the number of board stores that the call may make.
  * It stands in for the mains switch on a test bench; a controller passes PICL_NO_CUT. At a cut the first stores, as many as
  * allowed, are on the board, and the work memory and the registers are zero.
  *
@@ -236,6 +238,12 @@ uint64_t picl_filter_bits(const uint64_t *work, size_t work_words, uint64_t *ans
  * call that it makes, accepted or refused, in the order in which it makes them. */
 uint64_t picl_trace_write(uint8_t *bytes, size_t byte_count, uint64_t kind, uint64_t address, uint64_t value,
                           uint64_t *answer, size_t answer_words);
+
+/* The name of a number that a call has returned, for a display: its letters at the start of the text, and how many they are as
+ * value. It is no string: no zero byte is put behind it, and the bytes there are not touched. PICL_NAME_BYTES are enough for
+ * every name; a text with too few for this one is PICL_TOO_SHORT. A number that has no name, as PICL_TOO_SHORT itself, has
+ * no letters: value 0. Stores are 0. */
+uint64_t picl_name(uint8_t *text, size_t text_bytes, uint64_t number, uint64_t *answer, size_t answer_words);
 
 #ifdef __cplusplus
 }

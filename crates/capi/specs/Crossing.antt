@@ -1,10 +1,12 @@
 -- What C sees of each call: the number that the function returns, and every lent array afterwards. The call itself is the
 -- library's own definition; only the places of registers and answer are added here, and what is said where these are missing.
 use Prim.Native.Nat.{ℕ}
-use mathlib.Core.Bool.{cond}
+use mathlib.Core.Bool.{cond, _&&_}
 use mathlib.Core.List.{List, _++_}
-use lib.ListN.{drop}
+use lib.Dec.{leb}
+use lib.ListN.{length, drop}
 use Rattle.status.specs.Numbers.{numberOf, isOk}
+use Rattle.status.specs.Names.{nameOf, withName}
 use Rattle.checks.specs.declared.Registers.{Registers}
 use Rattle.checks.specs.Registers.{zero}
 use Rattle.picl.specs.declared.Report.{Report}
@@ -80,3 +82,11 @@ unfoldable pub recordCrossing : (bytes answer : List ℕ) → (kind address valu
 recordCrossing bytes answer kind address value =
     let w = written kind address value in
     cond (hasRecordPlaces bytes answer) (reported (numberOf (w .status)) (recordPut bytes w) (writeAnswer answer 0 0)) (reported tooShort bytes answer)
+
+-- The name of a number: at the start of the text, "the bytes behind not touched, and their count as value"; "a text with too few bytes for
+-- the name" is like an answer with too few words.
+unfoldable pub nameCrossing : (text answer : List ℕ) → (number : ℕ) → Reported
+nameCrossing text answer number =
+    let name = nameOf number in
+    cond (hasAnswer answer && leb (length name) (length text)) (reported 0 (withName name text) (writeAnswer answer (length name) 0))
+    (reported tooShort text answer)

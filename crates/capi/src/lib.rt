@@ -7,7 +7,7 @@ mod recording;
 ghost use mathlib.Core.Path.{_≡_};
 ghost use Rattle.picl.specs.Calls as call;
 ghost use Rattle.capi.specs.Crossing.{back, callCrossing};
-ghost use Rattle.capi.specs.Crossing.{powerUpCrossing, reported, formatCrossing, tallyCrossing, filterBitsCrossing, recordCrossing};
+ghost use Rattle.capi.specs.Crossing.{powerUpCrossing, reported, formatCrossing, tallyCrossing, filterBitsCrossing, recordCrossing, nameCrossing};
 use picl::Report;
 use places::TOO_SHORT;
 use places::give;
@@ -16,6 +16,7 @@ use places::has_places;
 use places::report;
 use recording::has_record_places;
 use recording::put_record;
+use status::Status;
 
 #[no_mangle]
 pub extern "C" fn picl_format(
@@ -188,6 +189,27 @@ pub extern "C" fn picl_trace_write(
         Report {
             status,
             value: 0,
+            stores: 0,
+        },
+    )
+}
+
+#[no_mangle]
+pub extern "C" fn picl_name(text: &mut [u8], number: u64, answer: &mut [u64]) -> u64
+    ensures { λ r. ⌜ reported r (now (text .exit)) (now (answer .exit)) ≡ nameCrossing (now (text .entry)) (now (answer .entry)) number ⌝ }
+{
+    if !has_answer(answer) {
+        return TOO_SHORT;
+    }
+    let letters = status::put_name(text, number);
+    if text.len() < letters {
+        return TOO_SHORT;
+    }
+    report(
+        answer,
+        Report {
+            status: Status::Ok,
+            value: letters as u64,
             stores: 0,
         },
     )
