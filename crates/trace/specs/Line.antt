@@ -3,7 +3,7 @@ use Prim.Native.Nat.{ℕ, _+_, _*_}
 use mathlib.Core.List.{List, [], _∷_}
 use lib.ListN.{length}
 use Rattle.status.specs.declared.Status.{Status}
-use Rattle.status.specs.Names.{rowBytes}
+use Rattle.status.specs.Names.{mostLetters}
 use Rattle.text.specs.Text.{lineFeed, numberBytes, numbersText, nameText}
 use Rattle.text.specs.Printing.{Prints, prints-then}
 use Rattle.trace.specs.declared.Totals.{Totals}
@@ -11,9 +11,9 @@ use Rattle.trace.specs.Run.{totalsIn, lineText}
 
 -- the most bytes of a line: a name, four numbers with a space before each, and the line feed
 abbrev pub longest : ℕ
-longest = rowBytes + (numberBytes * 4 + 1)
+longest = mostLetters + (numberBytes * 4 + 1)
 
-pub line-printed : (status : Status) (t : Totals) (out out′ out″ out‴ : List ℕ) (at p q r : ℕ) → Prints rowBytes out at (nameText status) out′ p
+pub line-printed : (status : Status) (t : Totals) (out out′ out″ out‴ : List ℕ) (at p q r : ℕ) → Prints mostLetters out at (nameText status) out′ p
     → Prints (numberBytes * length (totalsIn t)) out′ p (numbersText (totalsIn t)) out″ q → Prints 1 out″ q (lineFeed ∷ []) out‴ r
     → Prints longest out at (lineText status t) out‴ r
 unfolding lineText

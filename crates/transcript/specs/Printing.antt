@@ -10,7 +10,7 @@ use Rattle.replay.specs.declared.Reply.{Reply}
 use Rattle.replay.specs.declared.Reply.the-variants.{Quiet, Said, Last, Bad}
 use Rattle.text.specs.Text.{spaceByte, lineFeed, numberBytes, numbersText, nameText}
 use Rattle.text.specs.Printing.{Prints, prints-none, prints-as, prints-then}
-use Rattle.status.specs.Names.{rowBytes}
+use Rattle.status.specs.Names.{mostLetters}
 use Rattle.transcript.specs.Text.{headText, numbersIn, lineText, badText, replyText}
 
 -- the most bytes that a command prints: letter, space and name, six numbers with a space before each, and the line feed
@@ -19,7 +19,7 @@ longest = 137
 
 -- the letter, a space and the name
 pub head-printed : (letter at p q r : ℕ) (s : Status) (out out′ out″ out‴ : List ℕ) → Prints 1 out at (letter ∷ []) out′ p
-    → Prints 1 out′ p (spaceByte ∷ []) out″ q → Prints rowBytes out″ q (nameText s) out‴ r → Prints 10 out at (headText letter s) out‴ r
+    → Prints 1 out′ p (spaceByte ∷ []) out″ q → Prints mostLetters out″ q (nameText s) out‴ r → Prints 10 out at (headText letter s) out‴ r
 head-printed letter at p q r s out out′ out″ out‴ a b d = prints-then (prints-then a b) d
 
 -- ── a line ──

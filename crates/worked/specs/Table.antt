@@ -4,7 +4,7 @@ use mathlib.Core.Path.{_≡_, refl}
 use mathlib.Core.Bool.{true, false}
 use mathlib.Core.List.{[], _∷_, _++_}
 use lib.Count.{ones, onesIn, ones-ones}
-use lib.ListN.{replicate, set}
+use lib.ListN.{length, getD, replicate, set}
 use Rattle.base.specs.Walk.{firstFrom}
 use Rattle.board.specs.Stores.{applied, each, shifted}
 use Rattle.layout.specs.Fields.{width, pack, unpack, encode, decode}
@@ -31,7 +31,8 @@ use Rattle.picl.specs.Calls.{storeAt, storeOutcome, storeVerdict, evictAt, evic
 use Rattle.picl.specs.Calls.{scanOutcome, scanVerdict, wakeAt, wakeVerdict, powerUpVerdict}
 use Rattle.layout.specs.Bytes.{bytesOf, wordOf}
 use Rattle.status.specs.declared.Status.the-variants as status
-use Rattle.status.specs.Names.{bytes}
+use Rattle.status.specs.Names.{bytes, rowOf, nameOf, withName}
+use Rattle.status.specs.Letters.{letters, starts}
 use Rattle.benchcalls.specs.declared.Call.the-variants.{Store}
 use Rattle.benchboard.specs.Sizes.{benchSized}
 use Rattle.benchboard.specs.Calls.{woken}
@@ -165,6 +166,22 @@ pub record Worked : Type 0 where
   pub listing-line : printed 4 8 2 listing ≡ bytes "ok 0 0 0 6\n"
   -- "tested before its call and ending the run": the calls before it are counted, the one behind it is not made
   pub trace-line : printed 4 8 2 (broken listing) ≡ bytes "trace 0 0 0 0\n"
+  -- 4/13: "every number gives its old row without the spaces", the first, one of each length, and the last
+  pub row-slot : (rowOf 6 ≡ bytes "slot    ") × (nameOf 6 ≡ bytes "slot")
+  pub named-0 : nameOf 0 ≡ bytes "ok"
+  pub named-1 : nameOf 1 ≡ bytes "shape"
+  pub named-9 : nameOf 9 ≡ bytes "waiting"
+  pub named-12 : nameOf 12 ≡ bytes "cut"
+  pub named-14 : nameOf 14 ≡ bytes "filter"
+  -- any other, 15 until its request lands, the number of an array too short, and the largest
+  pub unnamed : (nameOf 15 ≡ []) × (nameOf 255 ≡ []) × (nameOf (2 ^ 64 - 1) ≡ [])
+  -- "unpadded, end to end": 2 + 5 + 4 + 5 + 4 + 7 + 4 + 6 + 4 letters come before `waiting`, and 22 behind it
+  pub held-end-to-end : (length letters ≡ 70) × (getD starts 9 0 ≡ 41) × (getD starts 10 0 ≡ 48) × (getD starts 15 0 ≡ 70)
+  -- a text of four bytes, of three and of two for the three letters of `cut`; none are needed for no name
+  pub text-behind : withName (nameOf 12) (1 ∷ 2 ∷ 3 ∷ 4 ∷ []) ≡ bytes "cut" ++ (4 ∷ [])
+  pub text-filled : withName (nameOf 12) (1 ∷ 2 ∷ 3 ∷ []) ≡ bytes "cut"
+  pub text-too-short : withName (nameOf 12) (1 ∷ 2 ∷ []) ≡ 1 ∷ 2 ∷ []
+  pub text-unnamed : (withName (nameOf 15) [] ≡ []) × (withName (nameOf 15) (1 ∷ []) ≡ 1 ∷ [])
 
 -- a filter of which every word has all its bits
 all-counted : (word : ℕ) → ones word ≡ 64 → filterBitsReport (work clean 7 [] (replicate 64 word)) ≡ report status.Ok 4096
@@ -183,7 +200,7 @@ unfolding width pack unpack encode decode
     wakeAt wakeVerdict powerUpVerdict
     bytesOf wordOf hasPlace callOf firstWord written wordsReading reading
     filterBitsVerdict filterBitsReport formatReport formatAfter loadAt loadOutcome loadVerdict workAfter bringing slots.filled persisting expired dropped advanceStores
-    benchSized formatted woken begun called taken turn after ran lineText nameText numbersText decimalOf placesOf
+    benchSized formatted woken begun called taken turn after ran lineText nameText rowOf nameOf withName numbersText decimalOf placesOf
 worked =
     record {
       w1 = refl;
@@ -264,4 +281,16 @@ worked =
       wraps = refl;
       listing-line = refl;
       trace-line = refl;
+      row-slot = (refl, refl);
+      named-0 = refl;
+      named-1 = refl;
+      named-9 = refl;
+      named-12 = refl;
+      named-14 = refl;
+      unnamed = (refl, refl, refl);
+      held-end-to-end = (refl, refl, refl, refl);
+      text-behind = refl;
+      text-filled = refl;
+      text-too-short = refl;
+      text-unnamed = (refl, refl);
     }
