@@ -9,9 +9,6 @@ static FILE *script;
 static FILE *transcript;
 static char letter;
 
-static const char *const names[] = {"ok",   "shape",  "work", "entry",   "regs", "address", "slot",
-                                    "buffer", "room", "waiting", "last", "none",    "cut"};
-
 void open_records(const char *script_name, const char *transcript_name)
 {
     script = opened(script_name);
@@ -55,12 +52,21 @@ static unsigned long length_in(uint64_t control)
     return (unsigned long)(control & 0xFFFFF);
 }
 
+/* The name of a number, as a service panel shows it. It is no string: how many letters it has is answered. */
+static int name_of(uint64_t number, uint8_t name[PICL_NAME_BYTES])
+{
+    uint64_t given[PICL_ANSWER_WORDS];
+    return picl_name(name, PICL_NAME_BYTES, number, given, PICL_ANSWER_WORDS) == PICL_OK ? (int)given[PICL_VALUE] : 0;
+}
+
 void record_answer(uint64_t number, const uint64_t *answer, const uint64_t *registers, const uint64_t *board)
 {
+    uint8_t name[PICL_NAME_BYTES];
+    int letters = name_of(number, name);
     if (transcript == NULL)
         return;
-    fprintf(transcript, "%c %s %llu %llu %llu %lu %lu %llu\n", letter,
-            number < sizeof names / sizeof *names ? names[number] : "?", (unsigned long long)answer[PICL_VALUE],
-            (unsigned long long)answer[PICL_STORES], (unsigned long long)registers[PICL_EPOCH], persisted_in(board[0]),
-            length_in(board[0]), (unsigned long long)registers[PICL_BUFFERED]);
+    fprintf(transcript, "%c %.*s %llu %llu %llu %lu %lu %llu\n", letter, letters, (const char *)name,
+            (unsigned long long)answer[PICL_VALUE], (unsigned long long)answer[PICL_STORES],
+            (unsigned long long)registers[PICL_EPOCH], persisted_in(board[0]), length_in(board[0]),
+            (unsigned long long)registers[PICL_BUFFERED]);
 }
