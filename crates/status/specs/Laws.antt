@@ -1,4 +1,4 @@
--- What others need to know of the names.
+-- Laws of the names.
 use Prim.Native.Nat.{ℕ, zero, suc, _+_, _≤_}
 use Prim.Native.String as text
 use mathlib.Core.Path.{_≡_, refl, sym, ap, _∙_}
@@ -13,15 +13,15 @@ use Rattle.status.specs.Names.{names, mostLetters, bytes, row, rowOf, wi
 use Rattle.status.specs.Letters.{joined, letters}
 
 -- "the bytes are as many as the names' letters"
-abbrev pub lettersOf : List text.String → ℕ
-lettersOf [] = 0
-lettersOf (s ∷ ss) = length (bytes s) + lettersOf ss
+abbrev pub lettersIn : List text.String → ℕ
+lettersIn [] = 0
+lettersIn (s ∷ ss) = length (bytes s) + lettersIn ss
 
-letters-joined : (ss : List text.String) → length (joined ss) ≡ lettersOf ss
+letters-joined : (ss : List text.String) → length (joined ss) ≡ lettersIn ss
 letters-joined [] = refl
 letters-joined (s ∷ ss) = rw (length-append (bytes s) (joined ss), letters-joined ss)
 
-pub letters-many : length letters ≡ lettersOf names
+pub letters-many : length letters ≡ lettersIn names
 letters-many = letters-joined names
 
 -- no name has a space, and each fits into its row: by one test of the whole table

@@ -5,7 +5,7 @@ ghost use lib.ListN.{length};
 ghost use Rattle.status.specs.Names.{names, PutsName};
 ghost use Rattle.status.specs.Letters.{letters, starts, Spans};
 
-// The numbers from 0 on that have an entry; a number between them that has no name has an empty one.
+// The numbers below have an entry each. Where one of them has no name its entry is empty.
 const NAMES: usize = 15;
 
 const LETTERS: usize = 70;

@@ -4,7 +4,7 @@ use mathlib.Core.Path.{_≡_, refl}
 use mathlib.Core.Bool.{true, false}
 use mathlib.Core.List.{[], _∷_, _++_}
 use lib.Count.{ones, onesIn, ones-ones}
-use lib.ListN.{length, getD, replicate, set}
+use lib.ListN.{replicate, set}
 use Rattle.base.specs.Walk.{firstFrom}
 use Rattle.board.specs.Stores.{applied, each, shifted}
 use Rattle.layout.specs.Fields.{width, pack, unpack, encode, decode}
@@ -32,7 +32,6 @@ use Rattle.picl.specs.Calls.{scanOutcome, scanVerdict, wakeAt, wakeVerdict, pow
 use Rattle.layout.specs.Bytes.{bytesOf, wordOf}
 use Rattle.status.specs.declared.Status.the-variants as status
 use Rattle.status.specs.Names.{bytes, rowOf, nameOf, withName}
-use Rattle.status.specs.Letters.{letters, starts}
 use Rattle.benchcalls.specs.declared.Call.the-variants.{Store}
 use Rattle.benchboard.specs.Sizes.{benchSized}
 use Rattle.benchboard.specs.Calls.{woken}
@@ -175,8 +174,6 @@ pub record Worked : Type 0 where
   pub named-14 : nameOf 14 ≡ bytes "filter"
   -- any other, 15 until its request lands, the number of an array too short, and the largest
   pub unnamed : (nameOf 15 ≡ []) × (nameOf 255 ≡ []) × (nameOf (2 ^ 64 - 1) ≡ [])
-  -- "unpadded, end to end": 2 + 5 + 4 + 5 + 4 + 7 + 4 + 6 + 4 letters come before `waiting`, and 22 behind it
-  pub held-end-to-end : (length letters ≡ 70) × (getD starts 9 0 ≡ 41) × (getD starts 10 0 ≡ 48) × (getD starts 15 0 ≡ 70)
   -- a text of four bytes, of three and of two for the three letters of `cut`; none are needed for no name
   pub text-behind : withName (nameOf 12) (1 ∷ 2 ∷ 3 ∷ 4 ∷ []) ≡ bytes "cut" ++ (4 ∷ [])
   pub text-filled : withName (nameOf 12) (1 ∷ 2 ∷ 3 ∷ []) ≡ bytes "cut"
@@ -288,7 +285,6 @@ worked =
       named-12 = refl;
       named-14 = refl;
       unnamed = (refl, refl, refl);
-      held-end-to-end = (refl, refl, refl, refl);
       text-behind = refl;
       text-filled = refl;
       text-too-short = refl;
