@@ -1,7 +1,9 @@
 // Runs the paper's replay listing and its examples W5 to W12 on the model, and prints the listing's
 // columns; then logs about the limit of document 02's request 2/13, the filter of its request 3/13,
-// and records and traces, of its request 1/13. The stored output holds what the papers say.
+// records and traces, of its request 1/13, and the names of the numbers. The stored output holds what
+// the papers say.
 mod filters;
+mod names;
 mod packing;
 mod random;
 mod records;
@@ -226,4 +228,5 @@ fn main() {
     random::list(1, 3000);
     random::list(2, 3000);
     random::list(77, 3000);
+    names::cases();
 }
