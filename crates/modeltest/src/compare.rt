@@ -24,6 +24,7 @@ pub enum Part {
     Line,
     Record,
     Total,
+    Name,
     Planned,
     Turn,
 }

@@ -10,6 +10,7 @@ mod filter_words;
 mod filters;
 mod history;
 mod log_ends;
+mod names;
 mod noise;
 mod packing;
 mod plans;
@@ -108,6 +109,7 @@ fn recorded() {
     turns_line(written, WRITER, WRITER_END);
     turns_line(read, READER, READER_END);
     turns_line(traced, RUN, RUN_END);
+    turns_line(names::texts(17001, new_score(22)), NAMES, NAMES_END);
 }
 
 fn main() {

@@ -39,7 +39,7 @@ fn group_name(group: u64) {
         );
     } else {
         name_at(
-            b"cuts;cuts at a full buffer;shared bits;cuts with shared bits;one bit;one field;registers;random words;random fields;log ends;filters;records written;records read;traces;",
+            b"cuts;cuts at a full buffer;shared bits;cuts with shared bits;one bit;one field;registers;random words;random fields;log ends;filters;records written;records read;traces;names;",
             group - LAST_GROUPS,
         );
     }
@@ -73,6 +73,7 @@ fn part_name(part: Part) {
         Part::Line => text(b"line against the reference machine"),
         Part::Record => text(b"record word"),
         Part::Total => text(b"total"),
+        Part::Name => text(b"name word"),
         Part::Planned => text(b"number against the plan"),
         Part::Turn => text(b"count of the turn"),
     }
@@ -191,10 +192,15 @@ fn turn_name(turn: u64) {
             b"refused at P or before;before the next older;17 after P;later but near the next older;later;late and after the next newer;next newer refused;taken 16 after P;less but in the last epoch;less;past the ring's end;",
             turn - ENTRY_ENDS,
         );
-    } else {
+    } else if turn < NAMES {
         name_at(
             b"false hit by load;by store;by evict;by scan;true hit;one bit of two;no bit;both bits and no entries;false hit of a damaged filter;of one whose every bit is set;14 by load;by store;by evict;by scan;by commit;before 8;before 9;before 10;before 11;before 12;7 before 14;no bits counted;some;all;",
             turn - FILTERS,
+        );
+    } else {
+        name_at(
+            b"too short by more than one;by one;just long enough;longer;no name and no text;no name;",
+            turn - NAMES,
         );
     }
 }

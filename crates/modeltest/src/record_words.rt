@@ -24,7 +24,7 @@ const BEHIND: u8 = 0xA5;
 
 // An answer in words: the number; then the writer's bytes, or whether the reader found the end, and
 // the record's kind, address and value.
-const ROW: usize = 1 + RECORD_BYTES;
+pub const ROW: usize = 1 + RECORD_BYTES;
 
 // The two words of a record, and how many of its bytes, or of those behind them too, are read.
 struct Input {
@@ -144,7 +144,7 @@ fn line_kind(round: u64) -> u64 {
     }
 }
 
-fn written_row(number: u64, bytes: [u8; RECORD_BYTES]) -> [u64; ROW] {
+pub fn written_row(number: u64, bytes: [u8; RECORD_BYTES]) -> [u64; ROW] {
     let mut row = [0; ROW];
     row[0] = number;
     for i in 0..RECORD_BYTES {

@@ -1,12 +1,12 @@
-// The turns that the groups of recorded traces, of log ends and of filters take. Each is counted where it answers
-// the number that its plan says, is printed with its count, and is a difference where it never
-// occurs.
+// The turns that the groups of recorded traces, of log ends, of filters and of names take. Each is
+// counted where it answers the number that its plan says, is printed with its count, and is a
+// difference where it never occurs.
 use crate::calls::index;
 use crate::calls::sum;
 use crate::compare::*;
 use crate::print;
 
-pub const TURNS: usize = 74;
+pub const TURNS: usize = 80;
 
 // The writer's: a kind and an address with no place in a record.
 pub const WRITER: u64 = 0;
@@ -177,6 +177,24 @@ pub const SOME_COUNTED: u64 = 72;
 pub const ALL_COUNTED: u64 = 73;
 
 pub const FILTERS_END: u64 = 74;
+
+// The names': the text is too short by two or more; by one; just long enough; longer. The number has
+// no name, and the text no bytes; some.
+pub const NAMES: u64 = 74;
+
+pub const TOO_SHORT: u64 = 74;
+
+pub const SHORT_BY_ONE: u64 = 75;
+
+pub const FITTING: u64 = 76;
+
+pub const ROOM_BEHIND: u64 = 77;
+
+pub const NO_NAME_NO_TEXT: u64 = 78;
+
+pub const NO_NAME: u64 = 79;
+
+pub const NAMES_END: u64 = 80;
 
 // The paper's numbers.
 pub const OK: u64 = 0;
