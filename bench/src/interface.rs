@@ -1,4 +1,5 @@
-//! What both sides have in common: the nine calls and the writer of records, as one loop can have them on either side.
+//! What both sides have in common: the nine calls, the writer of records and the names, as one loop can have them on either
+//! side.
 
 /// What a call answers: the paper's number, the value and the board stores made.
 #[derive(Clone, Copy, Debug, PartialEq, Eq)]
@@ -8,25 +9,7 @@ pub struct Answer {
     pub stores: u64,
 }
 
-/// The paper's numbers and their names.
-pub const NAMES: [(u64, &str); 15] = [
-    (OK, "ok"),
-    (SHAPE, "shape"),
-    (2, "work"),
-    (ENTRY, "entry"),
-    (4, "regs"),
-    (5, "address"),
-    (6, "slot"),
-    (7, "buffer"),
-    (8, "room"),
-    (9, "waiting"),
-    (10, "last"),
-    (11, "none"),
-    (12, "cut"),
-    (TRACE, "trace"),
-    (FILTER, "filter"),
-];
-
+// Some of the paper's numbers; handwritten/names.rs has the names of all.
 pub const OK: u64 = 0;
 pub const SHAPE: u64 = 1;
 /// A log entry is not proper; the value is its place, the oldest counted 0.
@@ -35,13 +18,6 @@ pub const ENTRY: u64 = 3;
 pub const TRACE: u64 = 13;
 /// A buffered entry has a bit in the filter that is not set.
 pub const FILTER: u64 = 14;
-
-pub fn name_of(number: u64) -> &'static str {
-    NAMES
-        .iter()
-        .find(|&&(known, _)| known == number)
-        .map_or("(no such number)", |&(_, name)| name)
-}
 
 /// The words of the registers as they stand in an array, and their names.
 pub type RegisterWords = [u64; REGISTER_WORDS];
@@ -57,7 +33,7 @@ pub const ANSWER_WORDS: usize = 2;
 pub type RecordBytes = [u8; RECORD_BYTES];
 pub const RECORD_BYTES: usize = size_of::<u128>();
 
-/// One implementation of the nine calls and of the writer of records.
+/// One implementation of the nine calls, of the writer of records and of the names.
 ///
 /// The registers have a type for each side, so that each is called as it wants to be: the library with an array of
 /// words, the hand-written Rust with a struct.
@@ -102,4 +78,7 @@ pub trait CacheLog {
     fn filter_bits(work: &[u64]) -> Answer;
 
     fn trace_write(bytes: &mut RecordBytes, kind: u64, address: u64, value: u64) -> Answer;
+
+    /// None where the text has too few bytes for the name.
+    fn name(text: &mut [u8], number: u64) -> Option<Answer>;
 }

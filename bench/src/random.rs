@@ -53,6 +53,11 @@ impl Random {
         self.word().checked_shr(shift as u32).unwrap_or(0)
     }
 
+    /// Up to `most`, and a bit at `lowest` or above it, which shows if it is lost with the upper bits of the word.
+    pub fn with_an_upper_bit(&mut self, most: u64, lowest: u64) -> u64 {
+        self.between(0, most) | 1 << self.between(lowest, 63)
+    }
+
     pub fn words(&mut self, count: usize) -> Vec<u64> {
         (0..count).map(|_| self.word()).collect()
     }

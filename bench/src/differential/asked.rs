@@ -1,4 +1,5 @@
-//! What both sides are asked: a call, or a record, which is no `Call` since it is lent neither board nor work memory.
+//! What both sides are asked: a call; or a record, or a name, which are no `Call` since they are lent neither board nor work
+//! memory.
 
 use crate::call::{Call, Kind};
 use crate::record::Record;
@@ -8,6 +9,7 @@ use std::fmt;
 pub enum Asked {
     Call(Call),
     TraceWrite(Record),
+    Name { number: u64 },
 }
 
 /// The function of the library that is asked.
@@ -15,13 +17,15 @@ pub enum Asked {
 pub enum Function {
     Call(Kind),
     TraceWrite,
+    Name,
 }
 
 impl Function {
-    pub const COUNT: usize = Kind::ALL.len() + 1;
+    pub const COUNT: usize = Kind::ALL.len() + 2;
 
     pub fn all() -> impl Iterator<Item = Function> {
-        Kind::ALL.into_iter().map(Function::Call).chain([Function::TraceWrite])
+        let calls = Kind::ALL.into_iter().map(Function::Call);
+        calls.chain([Function::TraceWrite, Function::Name])
     }
 
     /// Its place among all of them.
@@ -29,6 +33,7 @@ impl Function {
         match self {
             Function::Call(kind) => kind as usize,
             Function::TraceWrite => Kind::ALL.len(),
+            Function::Name => Kind::ALL.len() + 1,
         }
     }
 
@@ -36,6 +41,7 @@ impl Function {
         match self {
             Function::Call(kind) => kind.name(),
             Function::TraceWrite => "trace-write",
+            Function::Name => "name",
         }
     }
 }
@@ -45,6 +51,7 @@ impl Asked {
         match self {
             Asked::Call(call) => Function::Call(call.kind()),
             Asked::TraceWrite(_) => Function::TraceWrite,
+            Asked::Name { .. } => Function::Name,
         }
     }
 }
@@ -66,6 +73,7 @@ impl fmt::Display for Asked {
         match self {
             Asked::Call(call) => write!(out, "{call}"),
             Asked::TraceWrite(record) => write!(out, "{}, {record}", self.function().name()),
+            Asked::Name { number } => write!(out, "{}, number {number}", self.function().name()),
         }
     }
 }

@@ -26,7 +26,7 @@ impl fmt::Display for Difference {
         writeln!(out, "  call         {}", self.asked)?;
         match self.asked {
             Asked::Call(_) => self.write_state(out)?,
-            Asked::TraceWrite(_) => self.write_lengths(out)?,
+            Asked::TraceWrite(_) | Asked::Name { .. } => self.write_lengths(out)?,
         }
         self.write_number(out)?;
         self.write_answer(out, "value", 0)?;
@@ -64,14 +64,14 @@ impl Difference {
         writeln!(out, "  registers    before {}", register_text(&before.registers))
     }
 
-    /// What a record was lent.
+    /// What a record or a name was lent.
     fn write_lengths(&self, out: &mut fmt::Formatter) -> fmt::Result {
         let before = &self.before;
         writeln!(
             out,
             "  sizes        {} bytes, those at {:?}, answer {} words",
-            before.record_place.len(),
-            before.record_place,
+            before.bytes_place.len(),
+            before.bytes_place,
             before.answer.len()
         )
     }

@@ -7,6 +7,7 @@ mod difference;
 mod filter_turns;
 mod groups;
 mod habit;
+mod name_turns;
 mod occurrences;
 mod player;
 mod power_up_turns;

@@ -2,10 +2,11 @@
 
 use super::asked::{Asked, Function};
 use super::sides::Lent;
-use super::{filter_turns, power_up_turns, record_turns};
+use super::{filter_turns, name_turns, power_up_turns, record_turns};
 use crate::call::{Call, Kind};
 use crate::handwritten::layout::Control;
-use crate::interface::{name_of, FILTER, NAMES, OK};
+use crate::handwritten::names::{name_of, NAMES};
+use crate::interface::{FILTER, OK};
 use crate::library::TOO_SHORT;
 use crate::record::Record;
 
@@ -19,9 +20,10 @@ fn columns() -> impl Iterator<Item = (u64, &'static str)> {
 }
 
 pub fn number_name(number: u64) -> &'static str {
-    match number {
-        TOO_SHORT => SHORT.1,
-        _ => name_of(number),
+    match name_of(number) {
+        "" if number == TOO_SHORT => SHORT.1,
+        "" => "(no such number)",
+        name => name,
     }
 }
 
@@ -36,6 +38,7 @@ fn possible(function: Function) -> &'static [u64] {
         Function::Call(Kind::Scan) => &[0, 1, 2, 4, 6, 7, 11, 12, FILTER, TOO_SHORT],
         Function::Call(Kind::Tally | Kind::FilterBits) => &[0, 2, TOO_SHORT],
         Function::TraceWrite => &[0, 13, TOO_SHORT],
+        Function::Name => &[0, TOO_SHORT],
     }
 }
 
@@ -92,6 +95,7 @@ pub struct Occurrences {
     power_up_turns: [u64; power_up_turns::TURNS.len()],
     filter_turns: [u64; filter_turns::TURNS.len()],
     record_turns: [u64; record_turns::TURNS.len()],
+    name_turns: name_turns::Counts,
 }
 
 impl Default for Occurrences {
@@ -102,6 +106,7 @@ impl Default for Occurrences {
             power_up_turns: [0; power_up_turns::TURNS.len()],
             filter_turns: [0; filter_turns::TURNS.len()],
             record_turns: [0; record_turns::TURNS.len()],
+            name_turns: name_turns::Counts::default(),
         }
     }
 }
@@ -115,6 +120,7 @@ impl Occurrences {
         match asked {
             Asked::Call(call) => self.count_call_turns(call, number, before, after),
             Asked::TraceWrite(record) => self.count_record_turns(record, number, before),
+            Asked::Name { number: asked } => self.count_name_turns(asked, number, before),
         }
     }
 
@@ -150,7 +156,7 @@ impl Occurrences {
     fn count_record_turns(&mut self, record: Record, number: u64, before: &Lent) {
         let seen = record_turns::Seen {
             record,
-            bytes: before.record_place.len(),
+            bytes: before.bytes_place.len(),
             answer_words: before.answer.len(),
             number,
         };
@@ -158,25 +164,37 @@ impl Occurrences {
         count_taken(&mut self.record_turns, taken);
     }
 
+    fn count_name_turns(&mut self, asked: u64, number: u64, before: &Lent) {
+        self.name_turns.count(&name_turns::Seen {
+            asked,
+            text_bytes: before.bytes_place.len(),
+            answer_words: before.answer.len(),
+            number,
+        });
+    }
+
     pub fn add(&mut self, other: &Occurrences) {
         let more = other.numbers.iter().flatten();
         let more = more.chain(&other.turns).chain(&other.power_up_turns);
         let more = more.chain(&other.filter_turns).chain(&other.record_turns);
+        let more = more.chain(other.name_turns.iter());
         let counts = self.numbers.iter_mut().flatten();
         let counts = counts.chain(&mut self.turns).chain(&mut self.power_up_turns);
         let counts = counts.chain(&mut self.filter_turns).chain(&mut self.record_turns);
+        let counts = counts.chain(self.name_turns.iter_mut());
         for (count, more) in counts.zip(more) {
             *count += more;
         }
     }
 
     /// Each rare turn, and how often it was taken.
-    fn turns(&self) -> impl Iterator<Item = (&'static str, u64)> {
+    fn turns(&self) -> impl Iterator<Item = (String, u64)> + '_ {
         let of_calls = named(TURNS, self.turns);
         let of_power_ups = named(power_up_turns::TURNS, self.power_up_turns);
         let of_filters = named(filter_turns::TURNS, self.filter_turns);
         let of_records = named(record_turns::TURNS, self.record_turns);
-        of_calls.chain(of_power_ups).chain(of_filters).chain(of_records)
+        let of_all_but_names = of_calls.chain(of_power_ups).chain(of_filters).chain(of_records);
+        of_all_but_names.chain(self.name_turns.named())
     }
 
     pub fn calls(&self) -> u64 {
@@ -216,7 +234,7 @@ impl Occurrences {
             }
         }
         let untaken = self.turns().filter(|&(_, count)| count == 0);
-        missing.extend(untaken.map(|(name, _)| name.to_string()));
+        missing.extend(untaken.map(|(name, _)| name));
         missing
     }
 }
@@ -232,8 +250,8 @@ fn count_taken<const COUNT: usize>(counts: &mut [u64; COUNT], taken: [bool; COUN
 fn named<T, const COUNT: usize>(
     turns: [(&'static str, T); COUNT],
     counts: [u64; COUNT],
-) -> impl Iterator<Item = (&'static str, u64)> {
-    turns.map(|(name, _)| name).into_iter().zip(counts)
+) -> impl Iterator<Item = (String, u64)> {
+    turns.map(|(name, _)| name.to_string()).into_iter().zip(counts)
 }
 
 fn count_line(name: &str, columns: &[u64]) -> String {

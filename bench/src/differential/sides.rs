@@ -3,7 +3,7 @@
 use super::asked::Asked;
 use crate::call::Call;
 use crate::handwritten::{HandWritten, Registers};
-use crate::interface::{Answer, AnswerWords, ANSWER_WORDS, OK};
+use crate::interface::{Answer, AnswerWords, CacheLog, ANSWER_WORDS, OK};
 use crate::library;
 use crate::record::Record;
 use std::ops::Range;
@@ -14,9 +14,9 @@ pub struct Lent {
     pub board: Vec<u64>,
     pub work: Vec<u64>,
     pub registers: Vec<u64>,
-    /// The bytes for a record, and others around them that are not lent.
+    /// The bytes for a record or a name, at their place among others that are not lent.
     pub bytes: Vec<u8>,
-    pub record_place: Range<usize>,
+    pub bytes_place: Range<usize>,
     pub answer: Vec<u64>,
 }
 
@@ -27,7 +27,7 @@ impl Lent {
         self.work.clone_from(&other.work);
         self.registers.clone_from(&other.registers);
         self.bytes.clone_from(&other.bytes);
-        self.record_place.clone_from(&other.record_place);
+        self.bytes_place.clone_from(&other.bytes_place);
         self.answer.clone_from(&other.answer);
     }
 }
@@ -37,6 +37,7 @@ pub fn on_library(asked: Asked, lent: &mut Lent) -> u64 {
     match asked {
         Asked::Call(call) => make_on_library(call, lent),
         Asked::TraceWrite(record) => write_on_library(record, lent),
+        Asked::Name { number } => name_on_library(number, lent),
     }
 }
 
@@ -67,8 +68,13 @@ fn make_on_library(call: Call, lent: &mut Lent) -> u64 {
 
 fn write_on_library(record: Record, lent: &mut Lent) -> u64 {
     let Record { kind, address, value } = record;
-    let bytes = &mut lent.bytes[lent.record_place.clone()];
+    let bytes = &mut lent.bytes[lent.bytes_place.clone()];
     library::trace_write(bytes, kind, address, value, &mut lent.answer)
+}
+
+fn name_on_library(number: u64, lent: &mut Lent) -> u64 {
+    let text = &mut lent.bytes[lent.bytes_place.clone()];
+    library::name(text, number, &mut lent.answer)
 }
 
 /// Asks the hand-written Rust and gives the number. It knows nothing of arrays: what the library has to do with them is
@@ -80,6 +86,7 @@ pub fn on_handwritten(asked: Asked, lent: &mut Lent) -> u64 {
     let answer = match asked {
         Asked::Call(call) => make_on_handwritten(call, lent),
         Asked::TraceWrite(record) => write_on_handwritten(record, lent),
+        Asked::Name { number } => HandWritten::name(&mut lent.bytes[lent.bytes_place.clone()], number),
     };
     let Some(answer) = answer else {
         return library::TOO_SHORT;
@@ -105,7 +112,7 @@ fn make_on_handwritten(call: Call, lent: &mut Lent) -> Option<Answer> {
 
 /// None where there are too few bytes.
 fn write_on_handwritten(record: Record, lent: &mut Lent) -> Option<Answer> {
-    let bytes = lent.bytes[lent.record_place.clone()].first_chunk_mut()?;
+    let bytes = lent.bytes[lent.bytes_place.clone()].first_chunk_mut()?;
     Some(record.write::<HandWritten>(bytes))
 }
 
@@ -114,5 +121,38 @@ pub fn is_read_back(asked: Asked, number: u64, after: &Lent) -> bool {
     match asked {
         Asked::TraceWrite(record) if number == OK => after.read_record().ok().and_then(Record::of) == Some(record),
         _ => true,
+    }
+}
+
+#[cfg(test)]
+mod tests {
+    use super::*;
+
+    /// The number, all bytes and the answer, once the hand-written Rust was asked for the name of 3 with a text from byte 2 on.
+    fn ask_for_entry(text_bytes: usize, answer_words: usize) -> (u64, Vec<u8>, Vec<u64>) {
+        let mut lent = Lent {
+            bytes: (0xE0..0xEC).collect(),
+            bytes_place: 2..2 + text_bytes,
+            answer: (100..).take(answer_words).collect(),
+            ..Lent::default()
+        };
+        let number = on_handwritten(Asked::Name { number: 3 }, &mut lent);
+        (number, lent.bytes, lent.answer)
+    }
+
+    #[test]
+    fn a_name_fills_the_first_two_answer_words_and_the_first_bytes_of_its_text() {
+        let bytes = b"\xE0\xE1entry\xE7\xE8\xE9\xEA\xEB".to_vec();
+        assert_eq!(ask_for_entry(5, 2), (0, bytes.clone(), vec![5, 0]));
+        assert_eq!(ask_for_entry(7, 4), (0, bytes, vec![5, 0, 102, 103]));
+    }
+
+    #[test]
+    fn nothing_is_touched_where_text_or_answer_is_too_short() {
+        let bytes: Vec<u8> = (0xE0..0xEC).collect();
+        assert_eq!(ask_for_entry(4, 3), (255, bytes.clone(), vec![100, 101, 102]));
+        assert_eq!(ask_for_entry(8, 1), (255, bytes.clone(), vec![100]));
+        assert_eq!(ask_for_entry(8, 0), (255, bytes.clone(), vec![]));
+        assert_eq!(ask_for_entry(0, 0), (255, bytes, vec![]));
     }
 }

@@ -155,7 +155,7 @@ impl Lent {
 
     /// The call whose record the bytes for one begin with.
     pub fn read_record(&self) -> Result<Call, u64> {
-        let bytes = self.bytes[self.record_place.clone()].first_chunk().ok_or(TRACE)?;
+        let bytes = self.bytes[self.bytes_place.clone()].first_chunk().ok_or(TRACE)?;
         record::read(*bytes)
     }
 }

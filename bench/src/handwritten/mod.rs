@@ -4,6 +4,7 @@
 mod checks;
 pub mod layout;
 mod machine;
+pub mod names;
 pub mod record;
 mod registers;
 mod side;

@@ -1,6 +1,6 @@
 //! The hand-written calls as one of the two sides.
 
-use super::{record, Registers};
+use super::{names, record, Registers};
 use crate::interface::{Answer, CacheLog, RecordBytes};
 
 pub struct HandWritten;
@@ -63,5 +63,10 @@ impl CacheLog for HandWritten {
     #[inline]
     fn trace_write(bytes: &mut RecordBytes, kind: u64, address: u64, value: u64) -> Answer {
         record::trace_write(bytes, kind, address, value)
+    }
+
+    #[inline]
+    fn name(text: &mut [u8], number: u64) -> Option<Answer> {
+        names::name(text, number)
     }
 }

@@ -1,7 +1,8 @@
 //! The paper's own examples: W1 to W12, its replay, its traps, and the latest log entry that is proper. filter.rs has those of
-//! the filter.
+//! the filter, names.rs the names.
 
 mod filter;
+mod names;
 
 use super::layout::{buffer_place, entry_place, Control, Range, Shape, SlotWord, CONTROL_PLACE, LAST_EPOCH};
 use super::{HandWritten, Registers};

@@ -98,10 +98,11 @@ mod c {
             answer: *mut u64,
             answer_words: usize,
         ) -> u64;
+        pub fn picl_name(text: *mut u8, text_bytes: usize, number: u64, answer: *mut u64, answer_words: usize) -> u64;
     }
 }
 
-/// What the library answers when the registers or the answer have too few words, or a record too few bytes.
+/// What the library answers when the registers or the answer have too few words, or a record or a text too few bytes.
 pub const TOO_SHORT: u64 = 255;
 
 #[inline]
@@ -269,4 +270,9 @@ pub fn trace_write(bytes: &mut [u8], kind: u64, address: u64, value: u64, answer
             answer.len(),
         )
     }
+}
+
+#[inline]
+pub fn name(text: &mut [u8], number: u64, answer: &mut [u64]) -> u64 {
+    unsafe { c::picl_name(text.as_mut_ptr(), text.len(), number, answer.as_mut_ptr(), answer.len()) }
 }

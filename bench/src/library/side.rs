@@ -1,5 +1,6 @@
 //! The library as one of the two sides.
 
+use super::TOO_SHORT;
 use crate::interface::{Answer, AnswerWords, CacheLog, RecordBytes, RegisterWords, ANSWER_WORDS};
 
 pub struct Library;
@@ -83,5 +84,11 @@ impl CacheLog for Library {
     #[inline]
     fn trace_write(bytes: &mut RecordBytes, kind: u64, address: u64, value: u64) -> Answer {
         answered(|answer| super::trace_write(bytes, kind, address, value, answer))
+    }
+
+    #[inline]
+    fn name(text: &mut [u8], number: u64) -> Option<Answer> {
+        let answer = answered(|answer| super::name(text, number, answer));
+        (answer.number != TOO_SHORT).then_some(answer)
     }
 }

@@ -3,8 +3,9 @@
 use super::line::{self, Command};
 use crate::call::NO_CUT;
 use crate::handwritten::layout::Control;
+use crate::handwritten::names::name_of;
 use crate::handwritten::Registers;
-use crate::interface::{name_of, Answer, OK};
+use crate::interface::{Answer, OK};
 use crate::memories::Loom;
 use crate::sizes::Sizes;
 

@@ -3,7 +3,8 @@
 use super::file::trace_of;
 use super::run::{Outcome, Run, Totals};
 use crate::call::Call;
-use crate::interface::{name_of, OK};
+use crate::handwritten::names::name_of;
+use crate::interface::OK;
 use crate::loom::workload::{lines_of_pick, pick_of, Order, Work, STORES_PER_EPOCH};
 use crate::random::Random;
 use crate::replay::line_of;

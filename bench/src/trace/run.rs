@@ -2,7 +2,8 @@
 
 use super::file::calls_of;
 use crate::call::{Call, Kind};
-use crate::interface::{name_of, OK, SHAPE, TRACE};
+use crate::handwritten::names::name_of;
+use crate::interface::{OK, SHAPE, TRACE};
 use crate::memories::Loom;
 use crate::sizes::Sizes;
 use std::collections::BTreeSet;

@@ -7,6 +7,7 @@ mod histories;
 mod large;
 mod last_epochs;
 mod log_edges;
+mod names;
 mod random_words;
 mod records;
 
@@ -19,10 +20,10 @@ pub struct Group {
     pub history: fn(&mut Player) -> Outcome,
 }
 
-pub const GROUPS: [Group; 9] = [
+pub const GROUPS: [Group; 10] = [
     Group {
         name: "histories",
-        share: 370,
+        share: 360,
         history: histories::history,
     },
     Group {
@@ -59,6 +60,11 @@ pub const GROUPS: [Group; 9] = [
         name: "records",
         share: 20,
         history: records::history,
+    },
+    Group {
+        name: "names",
+        share: 10,
+        history: names::history,
     },
     Group {
         name: "large",

@@ -23,7 +23,7 @@ fn lend(player: &mut Player) {
     // Bytes may stand at any address, and not only at multiples of eight.
     let begin = random.below(8) as usize;
     let end = begin + draw_length(random, RECORD_BYTES, MOST_BYTES);
-    player.state.record_place = begin..end;
+    player.state.bytes_place = begin..end;
     player.state.bytes = random.bytes(end + RECORD_BYTES);
     player.state.answer = vec![0; draw_length(random, ANSWER_WORDS, MOST_ANSWER_WORDS)];
 }
@@ -49,7 +49,7 @@ fn draw_kind(random: &mut Random) -> u64 {
     match random.below(10) {
         0 => random.any_width(),
         1 => random.between(EVICT + 1, 8),
-        2 => with_an_upper_bit(random, EVICT, 3),
+        2 => random.with_an_upper_bit(EVICT, 3),
         _ => random.between(0, EVICT),
     }
 }
@@ -58,7 +58,7 @@ fn draw_address(random: &mut Random) -> u64 {
     match random.below(10) {
         0 => random.any_width(),
         1 => random.between(0, LAST_ADDRESS),
-        2 => with_an_upper_bit(random, 1, 16),
+        2 => random.with_an_upper_bit(1, 16),
         3..6 => {
             let lines = random.pick(&[1, 400, 2_048, MOST_LINES]);
             random.near(lines, 1)
@@ -74,9 +74,4 @@ fn draw_value(random: &mut Random) -> u64 {
         2 => random.pick(&[1, 0xFF, 1 << 8, 1 << 32, 1 << 56, 1 << 63, u64::MAX]),
         _ => 0,
     }
-}
-
-/// Up to `most`, and a bit at `lowest` or above it, which shows if it is lost with the upper bits of the word.
-fn with_an_upper_bit(random: &mut Random, most: u64, lowest: u64) -> u64 {
-    random.between(0, most) | 1 << random.between(lowest, 63)
 }
