@@ -46,13 +46,13 @@ fn paper_names() {
     named(12, ROOM);
 }
 
-// 261 has the low byte of 5.
+// 4294967301 is 2^32 + 5.
 fn later_names() {
     named(13, ROOM);
     named(14, ROOM);
     named(15, ROOM);
     named(255, ROOM);
-    named(261, ROOM);
+    named(4294967301, ROOM);
     named(LARGEST, ROOM);
 }
 
