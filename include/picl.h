@@ -186,9 +186,9 @@ enum {
 };
 
 /*
- * All but format, tally, filter_bits, trace_write and name take an allowance: the number of board stores that the call may make.
- * It stands in for the mains switch on a test bench; a controller passes PICL_NO_CUT. At a cut the first stores, as many as
- * allowed, are on the board, and the work memory and the registers are zero.
+ * All but format, tally, filter_bits, trace_write and name take an allowance: the number of board stores that the call may
+ * make. It stands in for the mains switch on a test bench; a controller passes PICL_NO_CUT. At a cut the first stores, as many
+ * as allowed, are on the board, and the work memory and the registers are zero.
  *
  * No call but format and power-up makes more than 66 board stores; power-up makes at most one more than the log's length.
  */

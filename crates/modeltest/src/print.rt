@@ -164,7 +164,7 @@ pub fn group_line(score: Score) {
     differences_of(score);
 }
 
-fn turn_name(turn: u64) {
+fn recorded_turn_name(turn: u64) {
     if turn < READER {
         name_at(b"kind above 4;address above 65535;", turn);
     } else if turn < WRITER_END {
@@ -182,11 +182,17 @@ fn turn_name(turn: u64) {
             b"ended ok;by a bad record;early;broken off;no format;no power-up;fed a byte;less than a record;a record and more;all;any parts;",
             turn - RUN,
         );
-    } else if turn < ENTRY_ENDS {
+    } else {
         name_at(
             b"total of loads;of stores;of evictions;of scans;went on after 5;after 8;after 9;after 11;stores before a bad record;sum past 2^64;",
             turn - LOADS,
         );
+    }
+}
+
+fn turn_name(turn: u64) {
+    if turn < ENTRY_ENDS {
+        recorded_turn_name(turn);
     } else if turn < FILTERS {
         name_at(
             b"refused at P or before;before the next older;17 after P;later but near the next older;later;late and after the next newer;next newer refused;taken 16 after P;less but in the last epoch;less;past the ring's end;",
