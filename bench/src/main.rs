@@ -1,22 +1,17 @@
 //! The proved library beside a hand-written one: the same answers, call by call, and the cost of each.
 
 mod benchmark;
-mod call;
 mod differential;
-mod handwritten;
-mod interface;
 mod library;
 mod loom;
 mod memories;
 mod order;
-mod random;
-mod record;
 mod replay;
 mod repository;
-mod sizes;
 mod trace;
 mod write_out;
 
+use picl_bench::{call, handwritten, interface, random, record, sizes};
 use std::process::ExitCode;
 
 const USAGE: &str = "\

@@ -1,7 +1,8 @@
-//! The sizes of a board and a work memory, and what follows from them.
+//! The sizes of a board and a work memory, what follows from them, and how a history chooses them.
 
 use crate::call::Call;
 use crate::handwritten::layout::{work_words, Shape};
+use crate::random::Random;
 
 #[derive(Clone, Copy, Debug, PartialEq, Eq)]
 pub struct Sizes {
@@ -42,6 +43,50 @@ impl Sizes {
         Call::Format {
             lines: self.lines,
             entries: self.entries,
+        }
+    }
+}
+
+impl Sizes {
+    /// Mostly few lines, slots and entries, so that they meet; sometimes so many that a buffer fills up.
+    pub fn draw(random: &mut Random) -> Self {
+        if random.one_in(4) {
+            return Sizes::draw_roomy(random);
+        }
+        Sizes {
+            lines: match random.below(3) {
+                0 => random.between(1, 4),
+                1 => random.between(1, 40),
+                _ => random.between(40, 300),
+            },
+            entries: match random.below(6) {
+                0 => random.between(1, 8),
+                1 => random.between(1, 40),
+                2 => random.between(33, 120),
+                _ => random.between(100, 400),
+            },
+            slots: match random.below(3) {
+                0 => random.between(1, 3),
+                1 => random.between(1, 16),
+                _ => random.between(16, 70),
+            },
+        }
+    }
+
+    fn draw_roomy(random: &mut Random) -> Self {
+        Sizes {
+            lines: random.between(200, 1000),
+            entries: random.between(100, 600),
+            slots: random.between(100, 256),
+        }
+    }
+
+    /// Sizes with which a power-up or an edge can be tried many times.
+    pub fn draw_small(random: &mut Random) -> Self {
+        Sizes {
+            lines: random.between(1, 20),
+            entries: random.between(1, 40),
+            slots: random.between(1, 8),
         }
     }
 }

@@ -1,4 +1,4 @@
-//! How a history chooses its sizes and its calls.
+//! How a history chooses its calls.
 
 use super::player::{Outcome, Player};
 use crate::call::{Call, NO_CUT};
@@ -8,50 +8,6 @@ use crate::sizes::Sizes;
 
 /// No call but power-up makes more stores; allowances are drawn up to a few more.
 const MOST_STORES: u64 = 66;
-
-impl Sizes {
-    /// Mostly few lines, slots and entries, so that they meet; sometimes so many that a buffer fills up.
-    pub fn draw(random: &mut Random) -> Self {
-        if random.one_in(4) {
-            return Sizes::draw_roomy(random);
-        }
-        Sizes {
-            lines: match random.below(3) {
-                0 => random.between(1, 4),
-                1 => random.between(1, 40),
-                _ => random.between(40, 300),
-            },
-            entries: match random.below(6) {
-                0 => random.between(1, 8),
-                1 => random.between(1, 40),
-                2 => random.between(33, 120),
-                _ => random.between(100, 400),
-            },
-            slots: match random.below(3) {
-                0 => random.between(1, 3),
-                1 => random.between(1, 16),
-                _ => random.between(16, 70),
-            },
-        }
-    }
-
-    fn draw_roomy(random: &mut Random) -> Self {
-        Sizes {
-            lines: random.between(200, 1000),
-            entries: random.between(100, 600),
-            slots: random.between(100, 256),
-        }
-    }
-
-    /// Sizes with which a power-up or an edge can be tried many times.
-    pub fn draw_small(random: &mut Random) -> Self {
-        Sizes {
-            lines: random.between(1, 20),
-            entries: random.between(1, 40),
-            slots: random.between(1, 8),
-        }
-    }
-}
 
 /// How often each call is made, in parts of their sum: load, store, evict, commit, scan, tally, power-up, format, the status
 /// question.
