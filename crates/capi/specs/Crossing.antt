@@ -5,6 +5,7 @@ use mathlib.Core.Bool.{cond, _&&_}
 use mathlib.Core.List.{List, _++_}
 use lib.Dec.{leb}
 use lib.ListN.{length, drop}
+use Rattle.status.specs.declared.Status.the-variants.{Ok}
 use Rattle.status.specs.Numbers.{numberOf, isOk}
 use Rattle.status.specs.Names.{nameOf, withName}
 use Rattle.checks.specs.declared.Registers.{Registers}
@@ -83,10 +84,10 @@ recordCrossing bytes answer kind address value =
     let w = written kind address value in
     cond (hasRecordPlaces bytes answer) (reported (numberOf (w .status)) (recordPut bytes w) (writeAnswer answer 0 0)) (reported tooShort bytes answer)
 
--- The name of a number: at the start of the text, "the bytes behind not touched, and their count as value"; "a text with too few bytes for
--- the name" is like an answer with too few words.
+-- The name of a number: its bytes at the start of the text, those behind as they were, and their count as value. A text with too few bytes
+-- for the name is like an answer with too few words.
 unfoldable pub nameCrossing : (text answer : List ℕ) → (number : ℕ) → Reported
 nameCrossing text answer number =
     let name = nameOf number in
-    cond (hasAnswer answer && leb (length name) (length text)) (reported 0 (withName name text) (writeAnswer answer (length name) 0))
+    cond (hasAnswer answer && leb (length name) (length text)) (reported (numberOf Ok) (withName name text) (writeAnswer answer (length name) 0))
     (reported tooShort text answer)
