@@ -61,10 +61,10 @@ static int name_of(uint64_t number, uint8_t name[PICL_NAME_BYTES])
 
 void record_answer(uint64_t number, const uint64_t *answer, const uint64_t *registers, const uint64_t *board)
 {
-    uint8_t name[PICL_NAME_BYTES];
-    int letters = name_of(number, name);
     if (transcript == NULL)
         return;
+    uint8_t name[PICL_NAME_BYTES];
+    int letters = name_of(number, name);
     fprintf(transcript, "%c %.*s %llu %llu %llu %lu %lu %llu\n", letter, letters, (const char *)name,
             (unsigned long long)answer[PICL_VALUE], (unsigned long long)answer[PICL_STORES],
             (unsigned long long)registers[PICL_EPOCH], persisted_in(board[0]), length_in(board[0]),

@@ -1,6 +1,6 @@
 // The packed words of the board, of the work memory and of recorded calls, and the widths and limits that they have.
 // No other crate knows where a field stands in its word.
-mod bytes;
+mod word_bytes;
 
 ghost use Rattle.layout.specs.Words.{Decoded};
 ghost use Rattle.layout.specs.Words.{encodeControl, decodeControl, ControlFits};
@@ -14,9 +14,9 @@ ghost use Prim.Native.Nat.{_^_, _<_, _≤_};
 ghost use lib.Dec.{ltb, leb};
 ghost use mathlib.Core.Bool.{_&&_};
 ghost use mathlib.Core.Path.{_≡_};
-pub use bytes::BYTES_OF_WORD;
-pub use bytes::bytes_of;
-pub use bytes::with_byte;
+pub use word_bytes::BYTES_OF_WORD;
+pub use word_bytes::bytes_of;
+pub use word_bytes::with_byte;
 
 // Widths in bits.
 pub const WORD_BITS: u32 = 64;

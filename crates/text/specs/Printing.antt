@@ -1,6 +1,6 @@
 -- Printing into a buffer, and the laws of it that the proofs cite.
 use Prim.Native.Nat.{ℕ, zero, suc, _+_, _-_, _*_, _^_, _<_, _≤_}
-use mathlib.Core.Path.{_≡_, refl, sym, ap, subst, _∙_}
+use mathlib.Core.Path.{_≡_, refl, sym, ap, _∙_}
 use mathlib.Core.Bool.{Bool, true, false}
 use mathlib.Core.List.{List, [], _∷_, _++_, append-assoc, append-nil}
 use borrow.Author.Tests.{ltb-true, ltb-false, le-leb, lt-leb}
@@ -9,7 +9,7 @@ use native.Mathlib.Numerals.{add-one}
 use native.Mathlib.Omega.{arith}
 use lib.Dec.{ltb, leb}
 use lib.ListN.{length, getD, set, take, drop, length-append, length-drop}
-use lib.Seq.{take-all, take-suc, take-suc-set, take-append-seam, take-append-add, length-take-le, paste, paste-suc, take-paste}
+use lib.Seq.{take-all, take-suc, take-suc-set, take-at, length-take-le, paste, paste-suc, take-paste}
 use Rattle.base.specs.Parts.{rest-lent, rest-back}
 use Rattle.base.specs.Walk.{firstFrom}
 use Rattle.io.specs.Digits.{digits, Fewest}
@@ -142,15 +142,12 @@ module _ (s : Status) (n k at : ℕ) (out part : List ℕ) (is : n ≡ numberOf 
   part-is : part ≡ nameOf n ++ drop (length (nameOf n)) (drop at out)
   part-is = put .left ∙ rw (rest-lent at out) (with-name (nameOf n) (drop at out) (rw (length-drop at out) (omega (arith, room, name-short n))))
 
-  front : length (take at out) ≡ at
-  front = length-take-le at out (omega (arith, room))
-
   shown-is : take (at + k) (take at out ++ part) ≡ take at out ++ nameOf n
   shown-is =
-      rw (put .letters, part-is)
-      (subst (λ (m : ℕ). take (m + length (nameOf n)) (take at out ++ (nameOf n ++ drop (length (nameOf n)) (drop at out))) ≡ take at out ++ nameOf n) front
-      (take-append-add (take at out) (nameOf n ++ drop (length (nameOf n)) (drop at out)) (length (nameOf n))
-      ∙ ap (λ (l : List ℕ). take at out ++ l) (take-append-seam (nameOf n) (drop (length (nameOf n)) (drop at out)))))
+      let front : length (take at out) ≡ at = length-take-le at out (omega (arith, room)) in
+      let behind = drop (length (nameOf n)) (drop at out) in
+      rw (part-is, ← append-assoc (take at out) (nameOf n) behind)
+      (take-at (take at out ++ nameOf n) behind (at + k) (rw length-append (omega (arith, front, put .letters))))
 
   pub name-printed : Prints mostLetters out at (nameText s) (take at out ++ (part ++ drop (length out - at) (drop at out))) (at + k)
   unfolding nameText

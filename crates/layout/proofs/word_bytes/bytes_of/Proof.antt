@@ -1,8 +1,8 @@
 use Rattle.layout.specs.Fields.{width}
 use Rattle.layout.proofs.Reading.{lower, read, bytes-read}
 use borrow.Author.Needs.{needs}
-use Rattle.layout.proofs.bytes.bytes_of.Statement.{statement}
-use Rattle.layout.proofs.bytes.bytes_of.Tie as tie
+use Rattle.layout.proofs.word_bytes.bytes_of.Statement.{statement}
+use Rattle.layout.proofs.word_bytes.bytes_of.Tie as tie
 
 cast-t3 : tie.Need-cast-t3
 cast-t3 c = search needs

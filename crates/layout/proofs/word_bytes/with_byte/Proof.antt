@@ -1,8 +1,8 @@
 use mathlib.Core.Path.{refl}
 use borrow.Author.Needs.{needs}
 use Rattle.layout.specs.Bytes.{withByte}
-use Rattle.layout.proofs.bytes.with_byte.Statement.{statement}
-use Rattle.layout.proofs.bytes.with_byte.Tie as tie
+use Rattle.layout.proofs.word_bytes.with_byte.Statement.{statement}
+use Rattle.layout.proofs.word_bytes.with_byte.Tie as tie
 
 mul-result : tie.Need-mul-result
 mul-result c = search needs
