@@ -7,7 +7,7 @@ use mathlib.Core.List.{List}
 use native.Mathlib.Numerals.{add-one}
 use native.Mathlib.Nat.{mod-eq-of-lt, add-mod-right}
 use native.Mathlib.Omega.{arith}
-use borrow.Author.Tests.{lt-ltb, le-ltb, le-leb, lt-leb, ltb-true, ltb-false, leb-true, not-true, not-false}
+use borrow.Author.Tests.{lt-ltb, le-leb, lt-leb, ltb-true, ltb-false, leb-true, not-true, not-false}
 use lib.Dec.{ltb, leb}
 use lib.ListN.{getD}
 use Rattle.base.specs.Walk.{first, Walked, walk-start, walk-end, walk-stop, walk-pass, walk-found, walk-next, walk-all, walk-not-all, first-same, first-early, first-late, both-first}
@@ -39,15 +39,15 @@ module _ (word lines least most : ℕ) (t : Bool) (address : t ≡ ltb (decodeEn
   unfolding properBetween
   word-address x = rw (← address, not-true t x)
 
-  module _ (named : not t ≡ false) (e : Entry) (d : Decoded EntryFits (decodeEntry word) e) where
-    pub word-empty : e .till ≤ e .from → false ≡ properBetween lines least most (decodeEntry word)
+  module _ (named : not t ≡ false) (s : Bool) (range : s ≡ ltb (decodeEntry word .from) (decodeEntry word .till)) where
+    pub word-empty : not s ≡ true → false ≡ properBetween lines least most (decodeEntry word)
     unfolding properBetween
-    word-empty h = rw (← address, not-false t named, ← d .is, le-ltb (e .from) (e .till) h)
+    word-empty x = rw (← address, not-false t named, ← range, not-true s x)
 
-    pub word-till : (r : Bool) → e .from < e .till → r ≡ leb least (e .till) && leb (e .till) most
-        → r ≡ properBetween lines least most (decodeEntry word)
+    pub word-till : (r : Bool) → not s ≡ false → (e : Entry) → Decoded EntryFits (decodeEntry word) e
+        → r ≡ leb least (e .till) && leb (e .till) most → r ≡ properBetween lines least most (decodeEntry word)
     unfolding properBetween
-    word-till r h x = x ∙ rw (← address, not-false t named, ← d .is, lt-ltb (e .from) (e .till) h)
+    word-till r x e d between = between ∙ rw (← address, not-false t named, ← range, not-false s x, d .is)
 
 -- one lower bound stands for both: what is at or above least is above P, and not below the older entry's ValidTill
 abbrev pub Bounds : (persisted older least : ℕ) → Type 0

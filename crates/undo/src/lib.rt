@@ -92,11 +92,10 @@ fn is_proper_word(word: u64, lines: u64, least: u64, most: u64) -> bool
     if !layout::is_address_below(word, lines) {
         return false;
     }
-    let entry = Entry::decode(word);
-    if entry.from >= entry.till {
+    if !layout::is_range(word) {
         return false;
     }
-    is_between(entry.till, least, most)
+    is_between(Entry::decode(word).till, least, most)
 }
 
 // The first word of entry i, counted from the log's first word.

@@ -9,11 +9,14 @@ is-address-below-requires c κs = search needs
 returns : tie.Need-returns
 returns c = search (word-address)
 
-decode-requires : tie.Need-decode-requires
-decode-requires c κs = search needs
+is-range-requires : tie.Need-is-range-requires
+is-range-requires c κs = search needs
 
 returns-2 : tie.Need-returns-2
 returns-2 c = search (word-empty)
+
+decode-requires : tie.Need-decode-requires
+decode-requires c κs = search needs
 
 is-between-requires : tie.Need-is-between-requires
 is-between-requires c κs = search needs
@@ -23,4 +26,12 @@ returns-3 c = search (word-till)
 
 pub is-proper-word-spec : {M : Type 1} → statement M
 is-proper-word-spec =
-    tie.close (tie.spec is-address-below-requires returns decode-requires returns-2 is-between-requires returns-3)
+    tie.close
+    (tie.spec
+    is-address-below-requires
+    returns
+    is-range-requires
+    returns-2
+    decode-requires
+    is-between-requires
+    returns-3)
