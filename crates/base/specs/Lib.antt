@@ -3,3 +3,4 @@ pub mod Cases
 pub mod Every
 pub mod Walk
 pub mod Parts
+pub mod Bits

@@ -1,5 +1,5 @@
 -- Tests as code makes them, and as definitions make them of Bools.
-use mathlib.Core.Path.{_≡_, refl}
+use mathlib.Core.Path.{_≡_, refl, sym}
 use mathlib.Core.Bool.{Bool, true, false, cond, _&&_, false≢true}
 use borrow.Author.Tests.{lt-ltb, le-ltb, le-leb, lt-leb, eq-eqb, ne-eqb, ltb-true, leb-true, eqb-true}
 
@@ -23,6 +23,12 @@ and-right false b e = absurd (false≢true e)
 
 pub and-true : (a b : Bool) → a ≡ true → b ≡ true → a && b ≡ true
 and-true a b p q = rw (p, q)
+
+-- tests that hold together
+pub hold-together : (t u : Bool) → (t ≡ true → u ≡ true) → (u ≡ true → t ≡ true) → t ≡ u
+hold-together true u there back = sym (there refl)
+hold-together false true there back = back refl
+hold-together false false there back = refl
 
 -- what a definition that is true tells of the numbers in it
 pub ruleset held = (and-left, and-right, ltb-true, leb-true, eqb-true)

@@ -1,17 +1,22 @@
--- The tests that call other tests: one law for each way out.
-use Prim.Native.Nat.{ℕ, _%_, _<_, _≤_}
-use mathlib.Core.Path.{_≡_, refl, sym, _∙_}
-use mathlib.Core.Bool.{Bool, true, false, not, _&&_}
+-- The tests of the first stages: one law for each way out.
+use Prim.Native.Nat.{ℕ, _+_, _-_, _*_, _/_, _%_, _^_, _<_, _≤_}
+use mathlib.Core.Path.{_≡_, refl, sym, ap, _∙_}
+use mathlib.Core.Bool.{Bool, true, false, not, _&&_, and-true, and-false}
 use mathlib.Core.List.{List}
+use mir.Syntax.{w64}
+use mir.Val.{Fits}
 use native.Mathlib.Omega.{arith}
-use borrow.Author.Tests.{le-leb, lt-leb, eq-eqb, ne-eqb, leb-true, eqb-true, eqb-false, not-true, not-false}
-use lib.Dec.{leb, eqb}
+use borrow.Author.Tests.{lt-ltb, le-ltb, le-leb, lt-leb, eq-eqb, ltb-true, eqb-true, eqb-false, not-true, not-false}
+use lib.Bits.{bitAnd, bitOr, or-lt}
+use lib.Dec.{ltb, eqb}
 use lib.ListN.{length, getD}
+use Rattle.base.specs.Bits.{left-or, right-or, and-high-last}
+use Rattle.base.specs.Tests.{held, hold-together}
 use Rattle.layout.specs.declared.Control.{Control}
 use Rattle.layout.specs.declared.Shape.{Shape}
-use Rattle.layout.specs.Limits.{boardVersion, mostSlots}
-use Rattle.layout.specs.Memory.{logAt, controlAt, shapeAt, slotsOf, workWords}
-use Rattle.layout.specs.Words.{Decoded, ControlFits, ShapeFits, decodeControl, decodeShape}
+use Rattle.layout.specs.Limits.{wordBits, addressBits, boardVersion, lastEpoch, mostLines, mostEntries, mostSlots, mostAhead}
+use Rattle.layout.specs.Memory.{logAt, entryWords, linesAt, boardWords, controlAt, shapeAt, slotsOf, workWords}
+use Rattle.layout.specs.Words.{Decoded, ControlFits, ShapeFits, OwnLines, decodeControl, decodeShape}
 use Rattle.checks.specs.declared.Registers.{Registers}
 use Rattle.checks.specs.declared.View.{View}
 use Rattle.checks.specs.View.{viewOf, goodSizes, goodControl, goodShape, goodWork, properEpoch, properCounts, properRegisters}
@@ -26,41 +31,133 @@ module _ (v : View) (r : Registers) (t : Bool) (epoch : t ≡ properEpoch v r) w
   unfolding properRegisters
   proper-both u h a = a ∙ sym (rw (← epoch, not-false t h))
 
-module _ (words : ℕ) (v : View) (long : logAt ≤ words) where
-  pub shape-other : (v .shape .version ≡ boardVersion → ⊥) → false ≡ goodShape words v
+-- ---- one test for both ends of a range: what the code has of numbers modulo 2 ^ 64 is a difference, r of a less b
+
+abbrev Less : (a b r : ℕ) → Type 0
+Less a b r = (r + b) % 2 ^ wordBits ≡ a
+
+-- s − P − 1 is below 16 exactly where s is 1 to 16 ahead
+module _ (v : View) (r : Registers) where
+  pub epoch-late : lastEpoch < r .epoch → false ≡ properEpoch v r
+  unfolding properEpoch
+  epoch-late h = rw (lt-leb (r .epoch) lastEpoch h, and-false)
+
+  pub epoch-ahead : (ahead waiting : ℕ) → ControlFits (v .control) → r .epoch ≤ lastEpoch → Less (r .epoch) (v .control .persisted) ahead
+      → ahead < 2 ^ wordBits → Less ahead 1 waiting → waiting < 2 ^ wordBits → ltb waiting mostAhead ≡ properEpoch v r
+  unfolding properEpoch
+  epoch-ahead ahead waiting fits early x hx y hy =
+      hold-together _ _
+      (λ t.
+      let few : waiting < mostAhead = ltb-true waiting mostAhead t in
+      rw (
+        lt-ltb (v .control .persisted) (r .epoch) (omega (arith, fits .persisted)),
+        le-leb (r .epoch) lastEpoch early,
+        le-leb (r .epoch - v .control .persisted) mostAhead (omega (arith, fits .persisted)),
+      ))
+      (λ t.
+      let some : v .control .persisted < r .epoch = search held depth 12 in
+      let most : r .epoch - v .control .persisted ≤ mostAhead = search held depth 12 in
+      lt-ltb waiting mostAhead (omega arith))
+
+-- 1
+module _ (v : View) where
+  pub control-length : v .shape .entries < v .control .length → false ≡ goodControl v
+  unfolding goodControl
+  control-length h = rw (lt-leb (v .control .length) (v .shape .entries) h, and-false)
+
+  module _ (length : v .control .length ≤ v .shape .entries) where
+    pub control-start : v .shape .entries ≤ v .control .start → false ≡ goodControl v
+    unfolding goodControl
+    control-start h = rw (le-ltb (v .control .start) (v .shape .entries) h, and-false)
+
+    pub control-last : v .control .start < v .shape .entries → not (eqb (v .control .persisted) lastEpoch) ≡ goodControl v
+    unfolding goodControl
+    control-last h =
+        rw (le-leb (v .control .length) (v .shape .entries) length, lt-ltb (v .control .start) (v .shape .entries) h, and-true, and-true)
+
+module _ (words : ℕ) (v : View) (long : logAt ≤ words) (t : Bool) (control : t ≡ goodControl v) where
+  pub shape-control : not t ≡ true → false ≡ goodShape words v
   unfolding goodShape
-  shape-other h = rw (le-leb logAt words long, ne-eqb (v .shape .version) boardVersion h)
+  shape-control h = rw (← control, not-true t h, and-false)
 
-  module _ (version : v .shape .version ≡ boardVersion) (t : Bool) (sizes : t ≡ goodSizes words (v .shape .lines) (v .shape .entries)) where
-    pub shape-not : not t ≡ true → false ≡ goodShape words v
-    unfolding goodShape
-    shape-not h = rw (le-leb logAt words long, eq-eqb (v .shape .version) boardVersion version, ← sizes, not-true t h)
-
-    pub shape-both : (u : Bool) → not t ≡ false → u ≡ goodControl v → u ≡ goodShape words v
-    unfolding goodShape
-    shape-both u h a = a ∙ sym (rw (le-leb logAt words long, eq-eqb (v .shape .version) boardVersion version, ← sizes, not-false t h))
-
-module _ (words : ℕ) where
-  pub work-short : words < workWords 1 → false ≡ goodWork words
-  unfolding goodWork
-  work-short h = rw (lt-leb 1 (slotsOf words) (omega arith))
-
-  pub work-long : workWords mostSlots < words → false ≡ goodWork words
-  unfolding goodWork
-  work-long h = rw (le-leb 1 (slotsOf words) (omega arith)) (beyond (leb (slotsOf words) mostSlots) refl)
+  pub shape-sizes : (u : Bool) (lines : ℕ) → not t ≡ false → OwnLines (v .shape) lines → u ≡ goodSizes words lines (v .shape .entries)
+      → u ≡ goodShape words v
+  unfolding goodShape goodSizes
+  shape-sizes u lines h own sizes =
+      sizes ∙ rw (← control, not-false t h, le-leb logAt words long, and-true) (go (eqb (v .shape .version) boardVersion) refl)
     where
-      beyond : (t : Bool) → leb (slotsOf words) mostSlots ≡ t → false ≡ t && eqb words (workWords (slotsOf words))
-      beyond true e = let s = leb-true (slotsOf words) mostSlots e in sym (ne-eqb words (workWords (slotsOf words)) (λ x. omega arith))
-      beyond false e = refl
+      go : (e : Bool) → eqb (v .shape .version) boardVersion ≡ e
+          → goodSizes words lines (v .shape .entries) ≡ e && goodSizes words (v .shape .lines) (v .shape .entries)
+      go true e = ap (λ (n : ℕ). goodSizes words n (v .shape .entries)) (own .own (eqb-true _ _ e))
+      go false e = rw (lt-leb lines mostLines (own .other (eqb-false _ _ e)), and-false)
 
-  -- the buffer takes an even number of words
-  pub work-even : workWords 1 ≤ words → words ≤ workWords mostSlots → eqb (words % 2) 0 ≡ goodWork words
-  unfolding goodWork
-  work-even h g = rw (le-leb 1 (slotsOf words) (omega arith), le-leb (slotsOf words) mostSlots (omega arith)) (even (eqb (words % 2) 0) refl)
+-- N − 1 and L − 1: both are below a power of two exactly where their `|` is
+module _ (words lines entries x y : ℕ) (n : Less lines 1 x) (hx : x < 2 ^ wordBits) (l : Less entries 1 y) (hy : y < 2 ^ wordBits) where
+  pub sizes-beyond : mostLines ≤ bitOr x y → false ≡ goodSizes words lines entries
+  unfolding goodSizes
+  sizes-beyond h = go (goodSizes words lines entries) refl
     where
-      even : (t : Bool) → eqb (words % 2) 0 ≡ t → t ≡ eqb words (workWords (slotsOf words))
-      even true e = let z = eqb-true (words % 2) 0 e in sym (eq-eqb words (workWords (slotsOf words)) (omega arith))
-      even false e = let z = eqb-false (words % 2) 0 e in sym (ne-eqb words (workWords (slotsOf words)) (λ x. z (omega arith)))
+      go : (t : Bool) → goodSizes words lines entries ≡ t → false ≡ t
+      go true e =
+          let lines-some : 1 ≤ lines = search held depth 12 in
+          let lines-most : lines ≤ mostLines = search held depth 12 in
+          let entries-some : 1 ≤ entries = search held depth 12 in
+          let entries-most : entries ≤ mostEntries = search held depth 12 in
+          absurd (omega (arith, or-lt addressBits x y (omega arith) (omega arith)))
+      go false e = refl
+
+  module _ (within : bitOr x y < mostLines) where
+    lines-within : (1 ≤ lines) × (lines ≤ mostLines)
+    lines-within = omega (arith, left-or x y)
+
+    entries-within : (1 ≤ entries) × (entries ≤ mostEntries)
+    entries-within = omega (arith, right-or x y)
+
+    pub log-fits : Fits w64 (entryWords * entries)
+    log-fits = record { fits = omega (arith, entries-within .1) }
+
+    pub log-end-fits : Fits w64 (linesAt entries)
+    log-end-fits = record { fits = omega (arith, entries-within .1) }
+
+    pub board-fits : Fits w64 (boardWords lines entries)
+    board-fits = record { fits = omega (arith, entries-within .1, lines-within .1) }
+
+    pub sizes-words : eqb words (boardWords lines entries) ≡ goodSizes words lines entries
+    unfolding goodSizes
+    sizes-words =
+        rw (
+          le-leb 1 lines (lines-within .0),
+          le-leb lines mostLines (lines-within .1),
+          le-leb 1 entries (entries-within .0),
+          le-leb entries mostEntries (entries-within .1),
+        )
+
+-- 2: a number of words more than the least is even and has nine digits, slotWords * mostSlots being 2 ^ 9; tested are the digits above them and
+-- the last
+abbrev unused : ℕ
+unused = 2 ^ wordBits - 1 - (workWords mostSlots - workWords 1)
+
+module _ (more : ℕ) (h : more < 2 ^ wordBits) where
+  abbrev tested : ℕ
+  tested = more / 2 ^ 9 * 2 ^ 9 + more % 2
+
+  unused-bits : bitAnd more unused ≡ tested
+  unused-bits = and-high-last more (wordBits - 9) 9 (omega arith) ∙ omega arith
+
+  pub work-bits : (words : ℕ) → Less words (workWords 1) more → eqb (bitAnd more unused) 0 ≡ goodWork words
+  unfolding goodWork
+  work-bits words l =
+      rw unused-bits
+      (hold-together _ _
+      (λ t.
+      let none : tested ≡ 0 = eqb-true tested 0 t in
+      rw
+      (le-leb 1 (slotsOf words) (omega arith), le-leb (slotsOf words) mostSlots (omega arith), eq-eqb words (workWords (slotsOf words)) (omega arith)))
+      (λ t.
+      let some : 1 ≤ slotsOf words = search held depth 12 in
+      let most : slotsOf words ≤ mostSlots = search held depth 12 in
+      let whole : words ≡ workWords (slotsOf words) = search held depth 12 in
+      eq-eqb tested 0 (omega arith)))
 
 pub read-view : (board work : List ℕ) (c : Control) (s : Shape) (slots : ℕ) → Decoded ControlFits (decodeControl (getD board controlAt 0)) c
     → Decoded ShapeFits (decodeShape (getD board shapeAt 0)) s → slots ≡ slotsOf (length work)

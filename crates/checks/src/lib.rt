@@ -6,12 +6,11 @@ ghost use lib.ListN.{length};
 ghost use mathlib.Core.Path.{_≡_};
 ghost use Rattle.layout.specs.Limits.{lastEpoch, mostSlots};
 ghost use Rattle.layout.specs.Memory.{logAt};
-ghost use Rattle.layout.specs.Words.{ControlFits};
+ghost use Rattle.layout.specs.Words.{ControlFits, ShapeFits};
 ghost use Rattle.checks.specs.Registers.{zero, given, woken, committed, stepped, restarted, leaving};
 ghost use Rattle.checks.specs.View.{goodSizes, goodControl, goodShape, goodWork, properEpoch, properCounts, properRegisters};
 ghost use Rattle.checks.specs.View.{boundsOf, undoOf};
 ghost use Rattle.checks.specs.Contracts.{Viewed};
-use layout::BOARD_VERSION;
 use layout::BUFFER_PLACES;
 use layout::CONTROL_AT;
 use layout::Control;
@@ -20,11 +19,9 @@ use layout::LAST_EPOCH;
 use layout::LEAST_WORK;
 use layout::LOG_AT;
 use layout::MOST_AHEAD;
-use layout::MOST_ENTRIES;
 use layout::MOST_LINES;
 use layout::MOST_WORK;
 use layout::SHAPE_AT;
-use layout::SLOT_WORDS;
 use layout::Shape;
 pub use refusals::check_board;
 pub use refusals::check_buffer;
@@ -126,17 +123,20 @@ impl Registers {
         }
     }
 
-    // Ahead of the persisted epoch, and not too far.
+    // Ahead of the persisted epoch, and not too far. One comparison for both ends: an epoch that is not ahead wraps round to more than
+    // any limit.
     fn is_proper_epoch(self, view: View) -> bool
+        requires { ⌜ ControlFits (view .control) ⌝ }
         ensures { λ r. ⌜ r ≡ properEpoch view self ⌝ }
     {
-        if self.epoch <= view.control.persisted {
-            return false;
-        }
         if self.epoch > LAST_EPOCH {
             return false;
         }
-        self.epoch - view.control.persisted <= MOST_AHEAD
+        std::num::wrapping_sub_u64(
+            std::num::wrapping_sub_u64(self.epoch, view.control.persisted),
+            1,
+        )
+            < MOST_AHEAD
     }
 
     // b and c within their limits, the log has room for what is buffered, and no pass has begun where no epoch waits.
@@ -195,27 +195,25 @@ impl View {
     fn is_good_control(self) -> bool
         ensures { λ r. ⌜ r ≡ goodControl self ⌝ }
     {
-        if self.control.persisted == LAST_EPOCH {
+        if self.control.length > self.shape.entries {
             return false;
         }
         if self.control.start >= self.shape.entries {
             return false;
         }
-        self.control.length <= self.shape.entries
+        self.control.persisted != LAST_EPOCH
     }
 
     // 1.
     fn is_good_shape(self, words: usize) -> bool
         requires { ⌜ logAt ≤ words ⌝ }
+        requires { ⌜ ShapeFits (self .shape) ⌝ }
         ensures { λ r. ⌜ r ≡ goodShape words self ⌝ }
     {
-        if self.shape.version != BOARD_VERSION {
+        if !self.is_good_control() {
             return false;
         }
-        if !is_good_sizes(words, self.shape.lines, self.shape.entries) {
-            return false;
-        }
-        self.is_good_control()
+        is_good_sizes(words, self.shape.own_lines(), self.shape.entries)
     }
 
     // What slot words are held to.
@@ -243,36 +241,26 @@ impl View {
     }
 }
 
-// Of 1: N, L and the word count.
+// Of 1: N, L and the word count. One test for the limits of both: they are the same power of two, below which an `|` is exactly where both
+// its sides are; and a 0 less one wraps round to more than any limit.
 pub fn is_good_sizes(words: usize, lines: u64, entries: u64) -> bool
     ensures { λ r. ⌜ r ≡ goodSizes words lines entries ⌝ }
 {
-    if lines < 1 {
-        return false;
-    }
-    if lines > MOST_LINES {
-        return false;
-    }
-    if entries < 1 {
-        return false;
-    }
-    if entries > MOST_ENTRIES {
+    if std::num::wrapping_sub_u64(lines, 1) | std::num::wrapping_sub_u64(entries, 1) >= MOST_LINES {
         return false;
     }
     words as u64 == LOG_AT as u64 + ENTRY_WORDS as u64 * entries + lines
 }
 
-// 2.
+// A work memory has an even number of words more than the least, and fewer than 512: no bit but those of such a number is set.
+const UNUSED_WORK_BITS: usize = usize::MAX - (MOST_WORK - LEAST_WORK);
+
+// 2. Fewer words than the least wrap round to a number whose first bit is set.
 pub fn is_good_work(words: usize) -> bool
     ensures { λ r. ⌜ r ≡ goodWork words ⌝ }
 {
-    if words < LEAST_WORK {
-        return false;
-    }
-    if words > MOST_WORK {
-        return false;
-    }
-    words % SLOT_WORDS == 0
+    let more = std::num::wrapping_sub_usize(words, LEAST_WORK);
+    more & UNUSED_WORK_BITS == 0
 }
 
 // What came of a call's tests.

@@ -10,7 +10,7 @@ use Rattle.layout.specs.declared.Shape.{Shape}
 use Rattle.layout.specs.declared.Entry.{Entry}
 use Rattle.layout.specs.declared.Slot.{Slot}
 use Rattle.layout.specs.declared.Record.{Record}
-use Rattle.layout.specs.Limits.{epochBits, addressBits, ringBits, versionBits, sizeBits, flagBits, spareBits, kindBits, recordSpareBits}
+use Rattle.layout.specs.Limits.{epochBits, addressBits, ringBits, versionBits, sizeBits, flagBits, spareBits, kindBits, recordSpareBits, boardVersion, mostLines}
 use Rattle.layout.specs.Fields.{Packing, encode, decode}
 
 -- What a decoding gives: the fields that its definition gives, each within its width.
@@ -55,6 +55,11 @@ pub record ShapeFits (s : Shape) : Type 0 where
   pub version : s .version < 2 ^ versionBits
   pub lines : s .lines < 2 ^ sizeBits
   pub entries : s .entries < 2 ^ sizeBits
+
+-- The number of lines of a board of this format; of another format, more than this one allows.
+pub record OwnLines (s : Shape) (r : ℕ) : Type 0 where
+  pub own : s .version ≡ boardVersion → r ≡ s .lines
+  pub other : (s .version ≡ boardVersion → ⊥) → mostLines < r
 
 -- "L log entries of two words: address 16, ValidFrom 24, ValidTill 24; then the old data." This is the first word.
 abbrev pub entryPacking : Packing Entry

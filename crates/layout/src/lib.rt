@@ -4,7 +4,7 @@ mod word_bytes;
 
 ghost use Rattle.layout.specs.Words.{Decoded};
 ghost use Rattle.layout.specs.Words.{encodeControl, decodeControl, ControlFits};
-ghost use Rattle.layout.specs.Words.{encodeShape, decodeShape, ShapeFits};
+ghost use Rattle.layout.specs.Words.{encodeShape, decodeShape, ShapeFits, OwnLines};
 ghost use Rattle.layout.specs.Words.{encodeEntry, decodeEntry, EntryFits};
 ghost use Rattle.layout.specs.Words.{encodeSlot, decodeSlot, SlotFits, IsBit};
 ghost use Rattle.layout.specs.Words.{encodeRecord, decodeRecord, RecordFits};
@@ -55,9 +55,8 @@ pub const LAST_EPOCH: u64 = EPOCHS - 1;
 
 pub const BOARD_VERSION: u64 = 0;
 
+// Of the log's entries as well.
 pub const MOST_LINES: u64 = 65536;
-
-pub const MOST_ENTRIES: u64 = 65536;
 
 pub const MOST_SLOTS: usize = 256;
 
@@ -193,6 +192,14 @@ impl Shape {
         ensures { λ r. ⌜ r ≡ encodeShape self ⌝ }
     {
         self.version * SHAPE_VERSION + self.lines * SHAPE_LINES + self.entries
+    }
+
+    // The number of lines, or more than any board has where the version is another: so one test is enough for both.
+    pub fn own_lines(self) -> u64
+        requires { ⌜ ShapeFits self ⌝ }
+        ensures { λ r. ⌜ OwnLines self r ⌝ }
+    {
+        self.version * SIZES + self.lines
     }
 }
 

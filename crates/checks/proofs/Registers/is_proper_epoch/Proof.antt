@@ -1,23 +1,20 @@
-use Rattle.base.specs.Tests.{tests}
-use Rattle.checks.specs.View.{properEpoch}
+use Rattle.checks.proofs.Testing.{epoch-late, epoch-ahead}
 use borrow.Author.Needs.{needs}
 use Rattle.checks.proofs.Registers.is_proper_epoch.Statement.{statement}
 use Rattle.checks.proofs.Registers.is_proper_epoch.Tie as tie
 
 returns : tie.Need-returns
-unfolding properEpoch
-returns c = search tests
+returns c = search (epoch-late)
+
+wrapping-sub-u64-requires : tie.Need-wrapping-sub-u64-requires
+wrapping-sub-u64-requires c κs = search needs
+
+wrapping-sub-u64-requires-2 : tie.Need-wrapping-sub-u64-requires-2
+wrapping-sub-u64-requires-2 c κs = search needs
 
 returns-2 : tie.Need-returns-2
-unfolding properEpoch
-returns-2 c = search tests
-
-sub-result : tie.Need-sub-result
-sub-result c = search needs
-
-returns-3 : tie.Need-returns-3
-unfolding properEpoch
-returns-3 c = search tests
+returns-2 c = search (epoch-ahead)
 
 pub is-proper-epoch-spec : {M : Type 1} → statement M
-is-proper-epoch-spec = tie.close (tie.spec returns returns-2 sub-result returns-3)
+is-proper-epoch-spec =
+    tie.close (tie.spec returns wrapping-sub-u64-requires wrapping-sub-u64-requires-2 returns-2)
