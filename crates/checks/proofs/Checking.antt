@@ -1,8 +1,8 @@
 -- The first stages of a check, 1 and 2, and 4: one law for each way out of a function.
 use Prim.Native.Nat.{ℕ, _<_}
 use mathlib.Core.Path.{_≡_, sym, _∙_}
-use mathlib.Core.Bool.{Bool, true, false, not}
-use mathlib.Core.List.{List}
+use mathlib.Core.Bool.{Bool, true, false, not, cond}
+use mathlib.Core.List.{List, []}
 use borrow.Author.Tests.{lt-leb, not-true, not-false}
 use lib.ListN.{length}
 use Rattle.layout.specs.Memory.{logAt}
@@ -12,40 +12,53 @@ use Rattle.checks.specs.declared.Checked.{Checked}
 use Rattle.checks.specs.declared.Checked.the-variants.{Refused, Passed}
 use Rattle.checks.specs.declared.Registers.{Registers}
 use Rattle.checks.specs.declared.View.{View}
-use Rattle.checks.specs.View.{goodShape, goodWork, properRegisters}
-use Rattle.checks.specs.Refusals.{tested, workRows, registerRows, boardChecked, memoriesChecked}
+use Rattle.checks.specs.View.{viewOf, lent, goodControl, goodShape, goodWork, properRegisters}
+use Rattle.checks.specs.Refusals.{tested, boardRows, workRows, registerRows, boardChecked, memoriesChecked}
 use Rattle.checks.specs.Contracts.{Viewed}
-use Rattle.checks.specs.Laws.{then-refused}
+use Rattle.checks.specs.Laws.{differ, passed-view, passed-row, refused-first}
 
 -- 1
-module _ (board work : List ℕ) where
-  pub board-short : length board < logAt → Refused status.Shape ≡ boardChecked board work
+module _ (board : List ℕ) where
+  pub board-short : length board < logAt → Refused status.Shape ≡ boardChecked board
   unfolding boardChecked goodShape
   board-short h = rw (lt-leb logAt (length board) h)
 
-  module _ (v : View) (read : Viewed board work v) (t : Bool) (shape : t ≡ goodShape (length board) v) where
-    pub board-shape : not t ≡ true → Refused status.Shape ≡ boardChecked board work
+  module _ (v : View) (read : Viewed board v) (t : Bool) (shape : t ≡ goodShape (length board) v) where
+    pub board-shape : not t ≡ true → Refused status.Shape ≡ boardChecked board
     unfolding boardChecked
     board-shape h = rw (← read .is, ← shape, not-true t h)
 
-    pub board-passed : not t ≡ false → Passed v ≡ boardChecked board work
+    pub board-passed : not t ≡ false → Passed v ≡ boardChecked board
     unfolding boardChecked
     board-passed h = rw (← read .is, ← shape, not-false t h)
 
--- 2
-module _ (board work : List ℕ) (k : Checked) (is : k ≡ boardChecked board work) where
+-- 2: what 1 tests is the same with slots and without
+module _ (board work : List ℕ) (k : Checked) (is : k ≡ boardChecked board) where
   pub memories-board : (s : Status) → k ≡ Refused s → Refused s ≡ memoriesChecked board work
-  unfolding memoriesChecked
-  memories-board s e = then-refused (boardChecked board work) (λ v. workRows (length work)) s (sym e ∙ is)
+  unfolding memoriesChecked boardChecked goodShape goodControl viewOf
+  memories-board s e =
+      refused-first (boardRows (length board) (viewOf board work)) (workRows (length work)) (viewOf board work) s
+      (go (goodShape (length board) (viewOf board work)) (sym e ∙ is))
+    where
+      go : (t : Bool) → Refused s ≡ cond (not t) (Refused status.Shape) (Passed (viewOf board []))
+          → Refused s ≡ cond (not t) (Refused status.Shape) (Passed (viewOf board work))
+      go true x = absurd (differ cc)
+      go false x = x
 
   module _ (v : View) (e : k ≡ Passed v) (t : Bool) (words : t ≡ goodWork (length work)) where
+    shaped : goodShape (length board) (viewOf board work) ≡ true
+    unfolding boardChecked goodShape goodControl viewOf
+    shaped = not-false _ (passed-row status.Shape (boardRows (length board) (viewOf board [])) (viewOf board []) v (sym e ∙ is))
+
     pub memories-work : not t ≡ true → Refused status.Work ≡ memoriesChecked board work
     unfolding memoriesChecked
-    memories-work h = rw (← is, e, ← words, not-true t h)
+    memories-work h = rw (shaped, ← words, not-true t h)
 
-    pub memories-passed : not t ≡ false → Passed v ≡ memoriesChecked board work
-    unfolding memoriesChecked
-    memories-passed h = rw (← is, e, ← words, not-false t h)
+    pub memories-passed : (w : View) → not t ≡ false → w ≡ lent v (length work) → Passed w ≡ memoriesChecked board work
+    unfolding memoriesChecked boardChecked viewOf
+    memories-passed w h x =
+        let same : v ≡ viewOf board [] = passed-view (boardRows (length board) (viewOf board [])) (viewOf board []) v (sym e ∙ is) in
+        rw (shaped, ← words, not-false t h, x, same)
 
 -- 4
 module _ (v : View) (r : Registers) (t : Bool) (test : t ≡ properRegisters v r) where

@@ -9,7 +9,7 @@ use native.Mathlib.Omega.{arith}
 use borrow.Author.Tests.{lt-ltb, le-ltb, le-leb, lt-leb, eq-eqb, ltb-true, eqb-true, eqb-false, not-true, not-false}
 use lib.Bits.{bitAnd, bitOr, or-lt}
 use lib.Dec.{ltb, eqb}
-use lib.ListN.{length, getD}
+use lib.ListN.{getD}
 use Rattle.base.specs.Bits.{left-or, right-or, and-high-last}
 use Rattle.base.specs.Tests.{held, hold-together}
 use Rattle.layout.specs.declared.Control.{Control}
@@ -19,7 +19,7 @@ use Rattle.layout.specs.Memory.{logAt, entryWords, linesAt, boardWords, control
 use Rattle.layout.specs.Words.{Decoded, ControlFits, ShapeFits, OwnLines, decodeControl, decodeShape}
 use Rattle.checks.specs.declared.Registers.{Registers}
 use Rattle.checks.specs.declared.View.{View}
-use Rattle.checks.specs.View.{viewOf, goodSizes, goodControl, goodShape, goodWork, properEpoch, properCounts, properRegisters}
+use Rattle.checks.specs.View.{viewOf, lent, goodSizes, goodControl, goodShape, goodWork, properEpoch, properCounts, properRegisters}
 use Rattle.checks.specs.Contracts.{Viewed}
 
 module _ (v : View) (r : Registers) (t : Bool) (epoch : t ≡ properEpoch v r) where
@@ -159,9 +159,12 @@ module _ (more : ℕ) (h : more < 2 ^ wordBits) where
       let whole : words ≡ workWords (slotsOf words) = search held depth 12 in
       eq-eqb tested 0 (omega arith)))
 
-pub read-view : (board work : List ℕ) (c : Control) (s : Shape) (slots : ℕ) → Decoded ControlFits (decodeControl (getD board controlAt 0)) c
-    → Decoded ShapeFits (decodeShape (getD board shapeAt 0)) s → slots ≡ slotsOf (length work)
-    → Viewed board work (record { control = c; shape = s; slots = slots })
+pub read-view : (board : List ℕ) (c : Control) (s : Shape) → Decoded ControlFits (decodeControl (getD board controlAt 0)) c
+    → Decoded ShapeFits (decodeShape (getD board shapeAt 0)) s → Viewed board (record { control = c; shape = s; slots = 0 })
 unfolding viewOf
-read-view board work c s slots x y z =
-    record { is = λ i. record { control = x .is i; shape = y .is i; slots = z i }; control = x .fits; shape = y .fits }
+read-view board c s x y =
+    record { is = λ i. record { control = x .is i; shape = y .is i; slots = 0 }; control = x .fits; shape = y .fits }
+
+pub view-lent : (v : View) (words slots : ℕ) → slots ≡ slotsOf words
+    → _≡_ {A = View} (record { control = v .control; shape = v .shape; slots = slots }) (lent v words)
+view-lent v words slots e = λ i. record { control = v .control; shape = v .shape; slots = e i }

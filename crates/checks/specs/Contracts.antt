@@ -1,7 +1,7 @@
 -- What a view that was read, and one that passed a call's first tests, tell.
 use Prim.Native.Nat.{ℕ, _+_, _-_, _<_, _≤_}
 use mathlib.Core.Path.{_≡_}
-use mathlib.Core.List.{List}
+use mathlib.Core.List.{List, []}
 use lib.ListN.{length}
 use Rattle.layout.specs.Limits.{lastEpoch, mostLines, mostEntries, mostSlots, bufferPlaces, mostAhead}
 use Rattle.layout.specs.Memory.{boardWords, workWords}
@@ -10,8 +10,8 @@ use Rattle.checks.specs.declared.Registers.{Registers}
 use Rattle.checks.specs.declared.View.{View}
 use Rattle.checks.specs.View.{viewOf}
 
-pub record Viewed (board work : List ℕ) (v : View) : Type 0 where
-  pub is : v ≡ viewOf board work
+pub record Viewed (board : List ℕ) (v : View) : Type 0 where
+  pub is : v ≡ viewOf board []
   pub control : ControlFits (v .control)
   pub shape : ShapeFits (v .shape)
 

@@ -1,8 +1,8 @@
 -- What a passed check tells: of the check that it stands behind, of each of its rows by the row's status, and so of the view and the
 -- registers.
 use Prim.Native.Nat.{ℕ, _+_, _-_, _<_, _≤_}
-use mathlib.Core.Path.{_≡_, refl}
-use mathlib.Core.Bool.{Bool, true, false, cond, _&&_, false≢true}
+use mathlib.Core.Path.{_≡_, refl, sym, _∙_}
+use mathlib.Core.Bool.{Bool, true, false, not, cond, _&&_, false≢true}
 use mathlib.Core.List.{List, [], _∷_, _++_}
 use native.Mathlib.Omega.{arith}
 use borrow.Author.Tests.{eqb-false, leb-false, ltb-false, lt-ltb, not-true, not-false}
@@ -11,7 +11,7 @@ use lib.ListN.{length, getD}
 use Rattle.base.specs.Tests.{held}
 use Rattle.layout.specs.Limits.{lastEpoch, mostAhead}
 use Rattle.layout.specs.Laws.{control-laws}
-use Rattle.layout.specs.Memory.{slotsOf, controlAt}
+use Rattle.layout.specs.Memory.{slotsOf, controlAt, bufferWords, workWords}
 use Rattle.layout.specs.Words.{ControlFits}
 use Rattle.status.specs.declared.Status.{Status}
 use Rattle.status.specs.declared.Status.the-variants as status
@@ -23,10 +23,10 @@ use Rattle.checks.specs.declared.Registers.{Registers}
 use Rattle.checks.specs.declared.View.{View}
 use Rattle.checks.specs.View.{viewOf, boundsOf, goodSizes, goodControl, goodShape, goodWork, properEpoch, properCounts, properRegisters}
 use Rattle.checks.specs.Refusals.{Row, tested, then, boardRows, workRows, registerRows, cursorRows, bufferRows, lineRows, roomRows, epochRows, waitingRows}
-use Rattle.checks.specs.Refusals.{boardChecked, memoriesChecked, runningChecked, lineChecked, storeChecked, commitChecked, scanChecked}
+use Rattle.checks.specs.Refusals.{memoriesChecked, runningChecked, lineChecked, storeChecked, commitChecked, scanChecked}
 use Rattle.checks.specs.Contracts.{Shaped, Running}
 
-differ : _≡_ {A = ℕ} 0 1 → ⊥
+pub differ : _≡_ {A = ℕ} 0 1 → ⊥
 differ e = omega arith
 
 -- ---- rows
@@ -122,13 +122,20 @@ shaped-of board work v e h g =
     below f n = omega (arith, f .persisted)
 
 pub memories-shaped : (board work : List ℕ) (v : View) → Passed v ≡ memoriesChecked board work → Shaped board work v
-unfolding memoriesChecked boardChecked
+unfolding memoriesChecked
 memories-shaped board work v e =
-    let b = then-both (boardChecked board work) (λ w. workRows (length work)) v e in
-    let first = boardRows (length board) (viewOf board work) in
-    let same = passed-view first (viewOf board work) v (b .before) in
-    shaped-of board work v same (rw same (not-false _ (passed-row status.Shape first (viewOf board work) v (b .before))))
-    (not-false _ (passed-row status.Work (workRows (length work)) v v (b .here)))
+    let rows = boardRows (length board) (viewOf board work) ++ workRows (length work) in
+    let same = passed-view rows (viewOf board work) v e in
+    shaped-of board work v same (rw same (not-false _ (passed-row status.Shape rows (viewOf board work) v e)))
+    (not-false _ (passed-row status.Work rows (viewOf board work) v e))
+
+-- a good work memory has its buffer
+pub work-buffer : (words : ℕ) (t : Bool) → t ≡ goodWork words → not t ≡ false → bufferWords ≤ words
+unfolding goodWork
+work-buffer words t test good =
+    let h : goodWork words ≡ true = sym test ∙ not-false t good in
+    let whole : words ≡ workWords (slotsOf words) = search held depth 12 in
+    omega arith
 
 -- ---- 4
 

@@ -81,13 +81,13 @@ waitingRows v r = row (eqb (r .epoch) (v .control .persisted + 1)) status.None �
 
 -- ---- the checks, each behind another
 
--- the board alone
-unfoldable pub boardChecked : (board work : List ℕ) → Checked
-boardChecked board work = tested (boardRows (length board) (viewOf board work)) (viewOf board work)
+-- the board alone: no slots are lent with it
+unfoldable pub boardChecked : (board : List ℕ) → Checked
+boardChecked board = tested (boardRows (length board) (viewOf board [])) (viewOf board [])
 
 -- board and work memory: power-up
 unfoldable pub memoriesChecked : (board work : List ℕ) → Checked
-memoriesChecked board work = then (boardChecked board work) (λ v. workRows (length work))
+memoriesChecked board work = tested (boardRows (length board) (viewOf board work) ++ workRows (length work)) (viewOf board work)
 
 -- and the registers
 unfoldable pub runningChecked : (board work : List ℕ) → Registers → Checked

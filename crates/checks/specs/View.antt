@@ -15,6 +15,10 @@ use Rattle.checks.specs.declared.View.{View}
 unfoldable pub viewOf : List ℕ → List ℕ → View
 viewOf board work = record { control = controlIn board; shape = shapeIn board; slots = slotsOf (length work) }
 
+-- with the slots of a work memory of so many words
+abbrev pub lent : View → (words : ℕ) → View
+lent v words = record { control = v .control; shape = v .shape; slots = slotsOf words }
+
 -- "N or L out of range; wrong word count", which format asks too
 unfoldable pub goodSizes : (words lines entries : ℕ) → Bool
 goodSizes words lines entries =

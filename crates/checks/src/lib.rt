@@ -5,11 +5,11 @@ ghost use Prim.Native.Nat.{_≤_, _<_};
 ghost use lib.ListN.{length};
 ghost use mathlib.Core.Path.{_≡_};
 ghost use Rattle.layout.specs.Limits.{lastEpoch, mostSlots};
-ghost use Rattle.layout.specs.Memory.{logAt};
+ghost use Rattle.layout.specs.Memory.{logAt, bufferWords};
 ghost use Rattle.layout.specs.Words.{ControlFits, ShapeFits};
 ghost use Rattle.checks.specs.Registers.{zero, given, woken, committed, stepped, restarted, leaving};
 ghost use Rattle.checks.specs.View.{goodSizes, goodControl, goodShape, goodWork, properEpoch, properCounts, properRegisters};
-ghost use Rattle.checks.specs.View.{boundsOf, undoOf};
+ghost use Rattle.checks.specs.View.{lent, boundsOf, undoOf};
 ghost use Rattle.checks.specs.Contracts.{Viewed};
 use layout::BUFFER_PLACES;
 use layout::CONTROL_AT;
@@ -178,16 +178,31 @@ pub struct View {
 }
 
 impl View {
-    fn read(board: &[u64], work: &[u64]) -> View
+    // Of the board alone: with no slots.
+    fn read(board: &[u64]) -> View
         requires { ⌜ logAt ≤ length (now board) ⌝ }
-        ensures { λ r. ⌜ Viewed (now (board .entry)) (now (work .entry)) r ⌝ }
+        ensures { λ r. ⌜ Viewed (now (board .entry)) r ⌝ }
     {
         let control = Control::decode(board[CONTROL_AT]);
         let shape = Shape::decode(board[SHAPE_AT]);
         View {
             control,
             shape,
-            slots: layout::slots_of(work.len()),
+            slots: 0,
+        }
+    }
+
+    // With the slots of a work memory of so many words.
+    fn lent(self, words: usize) -> View
+        requires { ⌜ bufferWords ≤ words ⌝ }
+        ensures { λ r. ⌜ r ≡ lent self words ⌝ }
+    {
+        let control = self.control;
+        let shape = self.shape;
+        View {
+            control,
+            shape,
+            slots: layout::slots_of(words),
         }
     }
 

@@ -18,13 +18,13 @@ use layout::MOST_AHEAD;
 use status::Status;
 
 // 1 of the paper's table.
-pub fn check_board(board: &[u64], work: &[u64]) -> Checked
-    ensures { λ r. ⌜ r ≡ boardChecked (now (board .entry)) (now (work .entry)) ⌝ }
+pub fn check_board(board: &[u64]) -> Checked
+    ensures { λ r. ⌜ r ≡ boardChecked (now (board .entry)) ⌝ }
 {
     if board.len() < LOG_AT {
         return Checked::Refused(Status::Shape);
     }
-    let view = View::read(board, work);
+    let view = View::read(board);
     if !view.is_good_shape(board.len()) {
         return Checked::Refused(Status::Shape);
     }
@@ -35,14 +35,14 @@ pub fn check_board(board: &[u64], work: &[u64]) -> Checked
 pub fn check_memories(board: &[u64], work: &[u64]) -> Checked
     ensures { λ r. ⌜ r ≡ memoriesChecked (now (board .entry)) (now (work .entry)) ⌝ }
 {
-    let shaped = check_board(board, work);
+    let shaped = check_board(board);
     match shaped {
         Checked::Refused(status) => Checked::Refused(status),
         Checked::Passed(view) => {
             if !is_good_work(work.len()) {
                 return Checked::Refused(Status::Work);
             }
-            Checked::Passed(view)
+            Checked::Passed(view.lent(work.len()))
         }
     }
 }

@@ -21,7 +21,7 @@ use Rattle.checks.specs.declared.Checked.{Checked}
 use Rattle.checks.specs.declared.Checked.the-variants.{Refused, Passed}
 use Rattle.checks.specs.Contracts.{Shaped}
 use Rattle.checks.specs.Laws.{memories-shaped}
-use Rattle.checks.specs.Refusals.{boardChecked, memoriesChecked}
+use Rattle.checks.specs.Refusals.{memoriesChecked}
 use Rattle.checks.specs.Registers as registers
 use Rattle.checks.specs.View.{viewOf, goodSizes, goodControl, goodShape, goodWork, undoOf}
 use Rattle.board.specs.Verdict.{refused, due, boardAfter, workAfter}
@@ -64,7 +64,7 @@ shape-good {N} {L} {board} s work =
 
 -- so the memories are refused as work or not at all
 pub memories-work : {N L : ℕ} {board : List ℕ} → Sized N L board → (work : List ℕ) (s : Status) → Refused s ≡ memoriesChecked board work → s ≡ status.Work
-unfolding memoriesChecked boardChecked
+unfolding memoriesChecked
 memories-work {board = board} sized work s e = go (goodWork (length work)) (rw (shape-good sized work) at e)
   where
     go : (t : Bool) → Refused s ≡ cond (not t) (Refused status.Work) (Passed (viewOf board work)) → s ≡ status.Work
@@ -224,7 +224,7 @@ module _ {N L : ℕ} {m : Machine} {g : Reference} (h : Holds N L m g) (lent : L
   -- a proper work memory and an allowance of length + 1 are enough
   pub power-up-ok : goodWork (length lent) ≡ true → controlIn (m .board) .length + 1 ≤ allowance
       → made m (powerUp lent allowance) .status ≡ status.Ok
-  unfolding made powerUpVerdict memoriesChecked boardChecked answerOf wakeAt
+  unfolding made powerUpVerdict memoriesChecked answerOf wakeAt
   power-up-ok work enough =
       let u = undoWith (o .control) L in
       let most : length (recoverStores (m .board) u) ≤ allowance =

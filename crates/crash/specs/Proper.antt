@@ -17,7 +17,7 @@ use Rattle.slots.specs.Slots.{spotOf, properAt, properFor}
 use Rattle.checks.specs.declared.Checked.the-variants.{Refused, Passed}
 use Rattle.checks.specs.declared.Registers.{Registers}
 use Rattle.checks.specs.declared.View.{View}
-use Rattle.checks.specs.Refusals.{then, roomRows, boardChecked, memoriesChecked, runningChecked, lineChecked, storeChecked, commitChecked, scanChecked}
+use Rattle.checks.specs.Refusals.{then, roomRows, memoriesChecked, runningChecked, lineChecked, storeChecked, commitChecked, scanChecked}
 use Rattle.checks.specs.View.{viewOf, boundsOf, goodShape, goodWork, properEpoch, properCounts, properRegisters, goodBuffer, goodFilter}
 use Rattle.reference.specs.Machine.{Reference}
 use Rattle.history.specs.Lines.{entries-proper}
@@ -133,7 +133,7 @@ module _ {N L : ℕ} {m : Machine} {g : Reference} (up : Up N L m g) where
   -- ---- the answers
 
   line-answered : (a k : ℕ) (f : View → picl.Outcome) → Expected (answerOf k r (judged (lineChecked (m .board) (m .work) r a) f) .status)
-  unfolding lineChecked runningChecked memoriesChecked boardChecked
+  unfolding lineChecked runningChecked memoriesChecked
   line-answered a k f = rw (shaped, worked, proper, home a, buffered, filtered) (go (leb (v .shape .lines) a))
     where
       go : (t : Bool) → Expected (answerOf k r (judged (cond t (Refused status.Address) (Passed v)) f) .status)
@@ -144,7 +144,7 @@ module _ {N L : ℕ} {m : Machine} {g : Reference} (up : Up N L m g) where
   crowded a = undoDue (m .work) (spotOf (m .work) (v .slots) a) (r .epoch) && ltb (v .shape .entries) (v .control .length + r .buffered + 1)
 
   store-answered : (a k : ℕ) (f : View → picl.Outcome) → Expected (answerOf k r (judged (storeChecked (m .board) (m .work) r a) f) .status)
-  unfolding storeChecked lineChecked runningChecked memoriesChecked boardChecked
+  unfolding storeChecked lineChecked runningChecked memoriesChecked
   store-answered a k f = rw (shaped, worked, proper, home a, buffered, filtered) (go (leb (v .shape .lines) a) (crowded a) refl)
     where
       go : (t c : Bool) → crowded a ≡ c
@@ -154,7 +154,7 @@ module _ {N L : ℕ} {m : Machine} {g : Reference} (up : Up N L m g) where
       go false false e = rw e (due-answered k r (f v))
 
   commit-answered : (k : ℕ) (f : View → picl.Outcome) → Expected (answerOf k r (judged (commitChecked (m .board) (m .work) r) f) .status)
-  unfolding commitChecked runningChecked memoriesChecked boardChecked
+  unfolding commitChecked runningChecked memoriesChecked
   commit-answered k f =
       rw (shaped, worked, proper, buffered, filtered) (go (eqb (r .epoch - v .control .persisted) mostAhead) (eqb (r .epoch) lastEpoch))
     where
@@ -172,7 +172,7 @@ module _ {N L : ℕ} {m : Machine} {g : Reference} (up : Up N L m g) where
       go false e = refl
 
   scan-answered : (k : ℕ) (f : View → picl.Outcome) → Expected (answerOf k r (judged (scanChecked (m .board) (m .work) r) f) .status)
-  unfolding scanChecked runningChecked memoriesChecked boardChecked
+  unfolding scanChecked runningChecked memoriesChecked
   scan-answered k f = rw (shaped, worked, proper, cursor-proper, buffered, filtered) (go (eqb (r .epoch) (v .control .persisted + 1)))
     where
       go : (t : Bool) → Expected (answerOf k r (judged (cond t (Refused status.None) (Passed v)) f) .status)
@@ -182,7 +182,7 @@ module _ {N L : ℕ} {m : Machine} {g : Reference} (up : Up N L m g) where
   -- "8 room" says that the log is full
   store-full : (a k : ℕ) (f : View → picl.Outcome) → answerOf k r (judged (storeChecked (m .board) (m .work) r a) f) .status ≡ status.Room
       → v .control .length + r .buffered ≡ L
-  unfolding storeChecked lineChecked runningChecked memoriesChecked boardChecked
+  unfolding storeChecked lineChecked runningChecked memoriesChecked
   store-full a k f = rw (shaped, worked, proper, home a, buffered, filtered) (go (leb (v .shape .lines) a) (crowded a) refl)
     where
       go : (t c : Bool) → crowded a ≡ c

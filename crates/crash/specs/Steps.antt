@@ -14,7 +14,7 @@ use Rattle.checks.specs.declared.Registers.{Registers}
 use Rattle.checks.specs.Laws.{line-running, line-named, store-line, store-room}
 use Rattle.checks.specs.Laws.{commit-running, commit-window, commit-early, scan-running, scan-waiting}
 use Rattle.checks.specs.Refusals.{boardRows, workRows, registerRows, lineRows, roomRows, bufferRows, epochRows, cursorRows, waitingRows}
-use Rattle.checks.specs.Refusals.{boardChecked, memoriesChecked, runningChecked, lineChecked, storeChecked, commitChecked, scanChecked}
+use Rattle.checks.specs.Refusals.{memoriesChecked, runningChecked, lineChecked, storeChecked, commitChecked, scanChecked}
 use Rattle.checks.specs.View.{viewOf, goodWork}
 use Rattle.picl.specs.Answers.{Outcome, answerOf}
 use Rattle.picl.specs.Calls as calls
@@ -32,11 +32,10 @@ use Rattle.crash.specs.Calls.{down-stays, load-goes, load-up-value, stor
 
 module _ (board work : List ℕ) (r : Registers) where
   running-refuses : Refuses (runningChecked board work r)
-  unfolding runningChecked memoriesChecked boardChecked
+  unfolding runningChecked memoriesChecked
   running-refuses =
       then-refuses (memoriesChecked board work) (λ v. registerRows v r)
-      (then-refuses (boardChecked board work) (λ v. workRows (length work))
-      (tested-refuses (boardRows (length board) (viewOf board work)) (viewOf board work) refl) (λ v. refl))
+      (tested-refuses (boardRows (length board) (viewOf board work) ++ workRows (length work)) (viewOf board work) refl)
       (λ v. refl)
 
   line-refuses : (a : ℕ) → Refuses (lineChecked board work r a)

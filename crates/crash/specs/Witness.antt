@@ -24,7 +24,7 @@ use Rattle.undo.specs.Log.{restoreStores, restoreTurn, recoverStores}
 use Rattle.slots.specs.Slots as slots
 use Rattle.steps.specs.Effects as steps
 use Rattle.checks.specs.View.{viewOf, goodSizes, goodControl, goodShape, goodWork, properEpoch, properCounts, properRegisters, goodBuffer, goodFilter}
-use Rattle.checks.specs.Refusals.{boardChecked, memoriesChecked, runningChecked, lineChecked, storeChecked, commitChecked, scanChecked}
+use Rattle.checks.specs.Refusals.{memoriesChecked, runningChecked, lineChecked, storeChecked, commitChecked, scanChecked}
 use Rattle.picl.specs.Answers.{answerOf}
 use Rattle.picl.specs.Calls as calls
 use Rattle.reference.specs.Machine.{upTo}
@@ -107,7 +107,7 @@ unfolding update firstFrom applied each shifted boardAfter workAfter width pack 
     steps.flushingIf steps.writingOut steps.writingBack steps.emptying steps.lineIn steps.bringing steps.entryFor steps.logged
     steps.storingHeld steps.loading steps.storing steps.evicting steps.cleaning steps.visiting steps.persisting
     viewOf goodSizes goodControl goodShape goodWork properEpoch properCounts properRegisters goodBuffer goodFilter
-    boardChecked memoriesChecked runningChecked lineChecked storeChecked commitChecked scanChecked answerOf
+    memoriesChecked runningChecked lineChecked storeChecked commitChecked scanChecked answerOf
     calls.storeAt calls.storeOutcome calls.storeVerdict calls.evictAt calls.evictOutcome calls.evictVerdict calls.commitOutcome
     calls.commitVerdict calls.scanOutcome calls.scanVerdict calls.wakeAt calls.wakeVerdict calls.powerUpVerdict
     upTo made run scans

@@ -118,11 +118,9 @@ pub fn work_words(slots: usize) -> usize
 
 // The number of slots of a work memory of so many words.
 pub fn slots_of(words: usize) -> usize
+    requires { ⌜ bufferWords ≤ words ⌝ }
     ensures { λ r. ⌜ r ≡ slotsOf words ⌝ }
 {
-    if words < BUFFER_WORDS {
-        return 0;
-    }
     (words - BUFFER_WORDS) / SLOT_WORDS
 }
 

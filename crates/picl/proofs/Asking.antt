@@ -1,6 +1,6 @@
 -- Tally and the number of filter bits, questions about the work memory: one law for each way out of a function.
 use Prim.Native.Nat.{ℕ, _+_, _-_, _*_, _<_, _≤_}
-use mathlib.Core.Path.{_≡_, refl, sym, _∙_}
+use mathlib.Core.Path.{_≡_, refl}
 use mathlib.Core.Bool.{Bool, true, false, not, _&&_}
 use mathlib.Core.List.{List}
 use native.Mathlib.Numerals.{add-one}
@@ -8,13 +8,13 @@ use native.Mathlib.Omega.{arith}
 use borrow.Author.Tests.{not-true, not-false}
 use lib.ListN.{length, getD, take, drop, length-drop}
 use Rattle.base.specs.Parts.{rest-lent}
-use Rattle.base.specs.Tests.{held}
-use Rattle.layout.specs.Memory.{slotIn, slotsOf, bufferAt, bufferIn, bufferWords, workWords}
+use Rattle.layout.specs.Memory.{slotIn, slotsOf, bufferAt, bufferIn, bufferWords}
 use Rattle.layout.specs.Words.{IsBit, bit, decodeSlot}
 use Rattle.status.specs.declared.Status.the-variants as status
 use Rattle.undo.specs.Filter.{bitsSet}
 use Rattle.checks.specs.Registers as registers
 use Rattle.checks.specs.View.{goodWork}
+use Rattle.checks.specs.Laws.{work-buffer}
 use Rattle.picl.specs.declared.Report.{Report}
 use Rattle.picl.specs.Answers.{answerOf}
 use Rattle.picl.specs.Calls.{report, reportOf, asked, dirtySlots, tallyVerdict, tallyReport, filterBitsVerdict, filterBitsReport}
@@ -78,11 +78,7 @@ module _ (work : List ℕ) (t : Bool) (test : t ≡ goodWork (length work)) (r :
 -- a good work memory has its buffer
 module _ (work : List ℕ) (t : Bool) (test : t ≡ goodWork (length work)) (good : not t ≡ false) where
   pub buffer-within : bufferWords ≤ length work
-  unfolding goodWork
-  buffer-within =
-      let h : goodWork (length work) ≡ true = sym test ∙ not-false t good in
-      let words : length work ≡ workWords (slotsOf (length work)) = search held depth 12 in
-      omega arith
+  buffer-within = work-buffer (length work) t test good
 
   pub buffer-lent : (at : ℕ) → at ≡ bufferAt (length work) → length (take (length work - at) (drop at work)) ≡ bufferWords
   buffer-lent at e = rw (rest-lent at work) (simp length-drop (omega (arith, buffer-within)))

@@ -23,7 +23,7 @@ use Rattle.slots.specs.Slots.{entryDue, undoDue}
 use Rattle.steps.specs.Effects.{bringing, loading, storing, evicting, cleaning, visiting, persisting}
 use Rattle.checks.specs.Registers.{zero, given}
 use Rattle.checks.specs.View.{viewOf, goodSizes, goodControl, goodShape, goodWork, properEpoch, properCounts, properRegisters, goodBuffer, goodFilter}
-use Rattle.checks.specs.Refusals.{boardChecked, memoriesChecked, runningChecked, lineChecked, storeChecked, commitChecked, scanChecked}
+use Rattle.checks.specs.Refusals.{memoriesChecked, runningChecked, lineChecked, storeChecked, commitChecked, scanChecked}
 use Rattle.picl.specs.Answers.{cutOff, answerOf}
 use Rattle.board.specs.Verdict.{refused, boardAfter, workAfter}
 use Rattle.picl.specs.Calls.{report, filterBitsVerdict, filterBitsReport, formatReport, formatAfter, loadAt, loadOutcome, loadVerdict}
@@ -192,7 +192,7 @@ unfolding width pack unpack encode decode
     slots.homeOf slots.properTag slots.properFull slots.properSlot slots.properAt slots.properFor slots.holds slots.spotOf slots.zeroed
     slots.dirtied slots.cleaned withBuffer flushingIf writingOut writingBack emptying slots.entryDue slots.undoDue entryFor logged storingHeld
     loading storing evicting cleaning visiting viewOf goodSizes goodControl goodShape goodWork properEpoch properCounts
-    properRegisters goodBuffer goodFilter boardChecked memoriesChecked runningChecked lineChecked storeChecked commitChecked scanChecked answerOf boardAfter
+    properRegisters goodBuffer goodFilter memoriesChecked runningChecked lineChecked storeChecked commitChecked scanChecked answerOf boardAfter
     storeAt storeOutcome storeVerdict evictAt evictOutcome evictVerdict commitOutcome commitVerdict scanOutcome scanVerdict
     wakeAt wakeVerdict powerUpVerdict
     bytesOf wordOf hasPlace callOf firstWord written wordsReading reading

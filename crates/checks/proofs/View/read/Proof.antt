@@ -15,9 +15,6 @@ shared-slice-read-decode-2 c = search needs
 decode-requires-2 : tie.Need-decode-requires-2
 decode-requires-2 c κs = search needs
 
-slots-of-requires : tie.Need-slots-of-requires
-slots-of-requires c κs = search needs
-
 returns : tie.Need-returns
 returns c = search (read-view)
 
@@ -29,5 +26,4 @@ read-spec =
     decode-requires
     shared-slice-read-decode-2
     decode-requires-2
-    slots-of-requires
     returns)

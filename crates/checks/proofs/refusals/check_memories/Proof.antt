@@ -1,3 +1,4 @@
+use Rattle.checks.specs.Laws.{work-buffer}
 use Rattle.checks.proofs.Checking.{memories-board, memories-work, memories-passed}
 use borrow.Author.Needs.{needs}
 use Rattle.checks.proofs.refusals.check_memories.Statement.{statement}
@@ -18,6 +19,9 @@ is-good-work-requires c κs = search needs
 returns : tie.Need-returns
 returns c = search (memories-work)
 
+lent-requires : tie.Need-lent-requires
+lent-requires c κs = search (work-buffer)
+
 returns-2 : tie.Need-returns-2
 returns-2 c = search (memories-board)
 
@@ -33,5 +37,6 @@ check-memories-spec =
     enum-known-shaped-2
     is-good-work-requires
     returns
+    lent-requires
     returns-2
     returns-3)

@@ -1,4 +1,4 @@
-use Rattle.picl.proofs.Asking.{asked-refused, tally-counted}
+use Rattle.picl.proofs.Asking.{asked-refused, tally-counted, buffer-within}
 use Rattle.picl.specs.Calls.{tallyVerdict, tallyReport}
 use borrow.Author.Needs.{needs}
 use Rattle.picl.proofs.memory.tally.Statement.{statement}
@@ -15,7 +15,7 @@ unfolding tallyReport tallyVerdict
 returns c = search (asked-refused)
 
 slots-of-requires : tie.Need-slots-of-requires
-slots-of-requires c κs = search needs
+slots-of-requires c κs = search (buffer-within)
 
 count-dirty-requires : tie.Need-count-dirty-requires
 count-dirty-requires c κs = search needs
