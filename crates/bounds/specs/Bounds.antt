@@ -17,13 +17,13 @@ use Rattle.checks.specs.declared.Checked.the-variants.{Refused, Passed}
 use Rattle.checks.specs.declared.Registers.{Registers}
 use Rattle.checks.specs.declared.View.{View}
 use Rattle.checks.specs.Laws.{line-running, store-line, scan-running, memories-shaped}
-use Rattle.checks.specs.Refusals.{memoriesChecked, lineChecked, storeChecked, commitChecked, scanChecked}
+use Rattle.checks.specs.Refusals.{memoriesChecked, runningChecked, lineChecked, storeChecked, commitChecked, scanChecked}
 use Rattle.checks.specs.Registers.{zero}
 use Rattle.checks.specs.View.{viewOf, goodWork, undoOf}
 use Rattle.picl.specs.Answers.{Outcome, Verdict, success, cutOff, answerOf}
 use Rattle.board.specs.Verdict.{refused, due}
 use Rattle.picl.specs.Calls as calls
-use Rattle.picl.specs.Calls.{Call, verdictOf, asked, tallyVerdict, filterBitsVerdict, judged, loadAt, loadOutcome, loadVerdict, storeAt, storeOutcome, storeVerdict}
+use Rattle.picl.specs.Calls.{Call, verdictOf, unstored, tallyVerdict, filterBitsVerdict, judged, loadAt, loadOutcome, loadVerdict, storeAt, storeOutcome, storeVerdict}
 use Rattle.steps.specs.Effects.{scanTarget}
 use Rattle.picl.specs.Calls.{evictAt, evictOutcome, evictVerdict, commitOutcome, commitVerdict, scanOutcome, scanVerdict}
 use Rattle.picl.specs.Calls.{wakeJudged, wakeAt, wakeVerdict, powerUpVerdict}
@@ -101,21 +101,24 @@ module _ (board work : List ℕ) (r : Registers) where
       (omega (arith, most, visiting-cost (undoOf v r) work (r .cursor) target))
       (omega (arith, most, persisting-most board (undoOf v r) work target)))
 
-  -- tally and the number of filter bits
-  asked-bounded : (value : ℕ) → Bounded mostStores (asked work r value)
-  asked-bounded value =
+  tally-bounded : Bounded mostStores (tallyVerdict board work r)
+  unfolding tallyVerdict
+  tally-bounded = judged-bounded mostStores (runningChecked board work r) (λ v. unstored (r .dirty) r work) (λ v p. omega arith)
+
+  filter-bits-bounded : Bounded mostStores (filterBitsVerdict work r)
+  unfolding filterBitsVerdict
+  filter-bits-bounded =
       either (Bounded mostStores) (goodWork (length work)) (due-bounded mostStores _ (omega arith)) (refused-bounded mostStores _ 0)
 
   -- "No call but format and power-up"
   pub call-bounded : (c : Call) → Bounded mostStores (verdictOf board work r c)
-  unfolding tallyVerdict filterBitsVerdict
   call-bounded (calls.load address) = load-bounded address
   call-bounded (calls.store address value) = store-bounded address value
   call-bounded (calls.evict address) = evict-bounded address
   call-bounded calls.commit = commit-bounded
   call-bounded calls.scan = scan-bounded
-  call-bounded calls.tally = asked-bounded _
-  call-bounded calls.filterBits = asked-bounded _
+  call-bounded calls.tally = tally-bounded
+  call-bounded calls.filterBits = filter-bits-bounded
 
 pub power-up-bounded : (board work : List ℕ) → Bounded (controlIn board .length + 1) (powerUpVerdict board work)
 unfolding powerUpVerdict wakeVerdict wakeAt viewOf

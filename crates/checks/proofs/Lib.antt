@@ -1,3 +1,4 @@
 pub mod Testing
+pub mod Counting
 pub mod Checking
 pub mod Rows

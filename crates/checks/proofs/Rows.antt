@@ -16,13 +16,13 @@ use Rattle.slots.specs.declared.Bounds.{Bounds}
 use Rattle.slots.specs.declared.Spot.{Spot}
 use Rattle.slots.specs.Contracts.{SlotsReady, SpotReady}
 use Rattle.slots.specs.Laws.{spot-below}
-use Rattle.slots.specs.Slots.{properAt, properFor, spotOf}
+use Rattle.slots.specs.Slots.{properAt, properFor, dirtyAt, dirtyFor, spotOf}
 use Rattle.slots.specs.Slots.{undoDue}
 use Rattle.checks.specs.declared.Checked.{Checked}
 use Rattle.checks.specs.declared.Checked.the-variants.{Refused, Passed}
 use Rattle.checks.specs.declared.Registers.{Registers}
 use Rattle.checks.specs.declared.View.{View}
-use Rattle.checks.specs.View.{boundsOf, goodBuffer, goodFilter}
+use Rattle.checks.specs.View.{boundsOf, miscounted, goodBuffer, goodFilter}
 use Rattle.checks.specs.Refusals.{tested, bufferRows, lineRows, roomRows, epochRows, cursorRows, waitingRows}
 use Rattle.checks.specs.Contracts.{RowsReady}
 use Rattle.checks.specs.Laws.{refused-first, passed-first}
@@ -62,7 +62,7 @@ module _ (v : View) (work : List ℕ) (r : Registers) (at : ℕ) (here : at ≡ 
           pub buffer-refused : p ≡ false → Refused status.Buffer ≡ tested (bufferRows v work r) v
           buffer-refused h = let no : goodBuffer v work r ≡ false = sym good ∙ h in rw no
 
--- 5 and 6
+-- 5, 6 and the count
 module _ (v : View) (work : List ℕ) (r : Registers) (address : ℕ) where
   pub line-outside : v .shape .lines ≤ address → Refused status.Address ≡ tested (lineRows v work r address) v
   line-outside h = rw (le-leb (v .shape .lines) address h)
@@ -71,8 +71,12 @@ module _ (v : View) (work : List ℕ) (r : Registers) (address : ℕ) where
     pub line-slot : not t ≡ true → Refused status.Slot ≡ tested (lineRows v work r address) v
     line-slot h = rw (lt-leb (v .shape .lines) address named, ← bounds, ← slot, not-true t h)
 
-    pub line-proper : not t ≡ false → Passed v ≡ tested (lineRows v work r address) v
-    line-proper h = rw (lt-leb (v .shape .lines) address named, ← bounds, ← slot, not-false t h)
+    module _ (proper : not t ≡ false) (d m : Bool) (dirty : d ≡ dirtyFor work (v .slots) address) (count : m ≡ miscounted v r d) where
+      pub line-miscounted : m ≡ true → Refused status.Regs ≡ tested (lineRows v work r address) v
+      line-miscounted h = rw (lt-leb (v .shape .lines) address named, ← bounds, ← slot, not-false t proper, ← dirty, ← count, h)
+
+      pub line-passed : m ≡ false → Passed v ≡ tested (lineRows v work r address) v
+      line-passed h = rw (lt-leb (v .shape .lines) address named, ← bounds, ← slot, not-false t proper, ← dirty, ← count, h)
 
 -- 8
 module _ (v : View) (work : List ℕ) (r : Registers) (address : ℕ) (spot : Spot) (at : spot ≡ spotOf work (v .slots) address) where
@@ -126,8 +130,13 @@ module _ (v : View) (work : List ℕ) (r : Registers) where
       pub cursor-refused : not t ≡ true → Refused status.Slot ≡ tested (cursorRows v work r) v
       cursor-refused h = rw (lt-ltb (r .cursor) (v .slots) within, ← bounds, ← slot, not-true t h)
 
-      pub cursor-passed : not t ≡ false → Passed v ≡ tested (cursorRows v work r) v
-      cursor-passed h = rw (lt-ltb (r .cursor) (v .slots) within, ← bounds, ← slot, not-false t h)
+      module _ (proper : not t ≡ false) (d m : Bool) (dirty : d ≡ dirtyAt work (r .cursor)) (count : m ≡ miscounted v r d) where
+        pub cursor-miscounted : m ≡ true → Refused status.Regs ≡ tested (cursorRows v work r) v
+        cursor-miscounted h =
+            rw (lt-ltb (r .cursor) (v .slots) within, ← bounds, ← slot, not-false t proper, ← dirty, ← count, h)
+
+        pub cursor-passed : m ≡ false → Passed v ≡ tested (cursorRows v work r) v
+        cursor-passed h = rw (lt-ltb (r .cursor) (v .slots) within, ← bounds, ← slot, not-false t proper, ← dirty, ← count, h)
 
 -- behind 1, 2 and 4
 module _ (v : View) (r : Registers) (b : Bounds) (work : List ℕ) (e : b ≡ boundsOf v r) (h : RowsReady work r v) where

@@ -1,6 +1,7 @@
 -- What a view that was read, and one that passed a call's first tests, tell.
 use Prim.Native.Nat.{ℕ, _+_, _-_, _<_, _≤_}
 use mathlib.Core.Path.{_≡_}
+use mathlib.Core.Bool.{Bool, true}
 use mathlib.Core.List.{List, []}
 use lib.ListN.{length}
 use Rattle.layout.specs.Limits.{lastEpoch, mostLines, mostEntries, mostSlots, bufferPlaces, mostAhead}
@@ -38,6 +39,7 @@ pub record Running (board work : List ℕ) (r : Registers) (v : View) : Type 0 w
   pub window : r .epoch - v .control .persisted ≤ mostAhead
   pub buffered : r .buffered < bufferPlaces
   pub cursor : r .cursor ≤ v .slots
+  pub dirty : r .dirty ≤ v .slots
   pub room : v .control .length + r .buffered ≤ v .shape .entries
 
 -- what the later rows ask of the earlier ones
@@ -52,3 +54,8 @@ pub record RowsReady (work : List ℕ) (r : Registers) (v : View) : Type 0 where
   pub epoch-most : r .epoch ≤ lastEpoch
   pub room : v .control .length + r .buffered ≤ v .shape .entries
   pub entries-most : v .shape .entries ≤ mostEntries
+
+-- the count can do without a slot that was dirty, and with one that is
+pub record Countable (r : Registers) (was : Bool) : Type 0 where
+  pub least : was ≡ true → 0 < r .dirty
+  pub most : r .dirty ≤ mostSlots

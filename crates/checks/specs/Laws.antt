@@ -2,29 +2,29 @@
 -- registers.
 use Prim.Native.Nat.{ℕ, _+_, _-_, _<_, _≤_}
 use mathlib.Core.Path.{_≡_, refl, sym, _∙_}
-use mathlib.Core.Bool.{Bool, true, false, not, cond, _&&_, false≢true}
+use mathlib.Core.Bool.{Bool, true, false, not, cond, _&&_, _||_, false≢true}
 use mathlib.Core.List.{List, [], _∷_, _++_}
 use native.Mathlib.Omega.{arith}
 use borrow.Author.Tests.{eqb-false, leb-false, ltb-false, lt-ltb, not-true, not-false}
 use lib.Dec.{ltb, eqb}
 use lib.ListN.{length, getD}
 use Rattle.base.specs.Tests.{held}
-use Rattle.layout.specs.Limits.{lastEpoch, mostAhead}
+use Rattle.layout.specs.Limits.{lastEpoch, mostAhead, mostSlots}
 use Rattle.layout.specs.Laws.{control-laws}
 use Rattle.layout.specs.Memory.{slotsOf, controlAt, bufferWords, workWords}
 use Rattle.layout.specs.Words.{ControlFits}
 use Rattle.status.specs.declared.Status.{Status}
 use Rattle.status.specs.declared.Status.the-variants as status
 use Rattle.status.specs.Numbers.{numberOf}
-use Rattle.slots.specs.Slots.{properAt, properFor, spotOf, undoDue}
+use Rattle.slots.specs.Slots.{properAt, properFor, dirtyAt, dirtyFor, spotOf, undoDue}
 use Rattle.checks.specs.declared.Checked.{Checked}
 use Rattle.checks.specs.declared.Checked.the-variants.{Refused, Passed}
 use Rattle.checks.specs.declared.Registers.{Registers}
 use Rattle.checks.specs.declared.View.{View}
-use Rattle.checks.specs.View.{viewOf, boundsOf, goodSizes, goodControl, goodShape, goodWork, properEpoch, properCounts, properRegisters}
+use Rattle.checks.specs.View.{viewOf, boundsOf, goodSizes, goodControl, goodShape, goodWork, properEpoch, properCounts, properRegisters, miscounted}
 use Rattle.checks.specs.Refusals.{Row, tested, then, boardRows, workRows, registerRows, cursorRows, bufferRows, lineRows, roomRows, epochRows, waitingRows}
 use Rattle.checks.specs.Refusals.{memoriesChecked, runningChecked, lineChecked, storeChecked, commitChecked, scanChecked}
-use Rattle.checks.specs.Contracts.{Shaped, Running}
+use Rattle.checks.specs.Contracts.{Shaped, Running, Countable}
 
 pub differ : _≡_ {A = ℕ} 0 1 → ⊥
 differ e = omega arith
@@ -149,6 +149,7 @@ running-of board work r v s h =
       window = search held depth 12;
       buffered = search held depth 12;
       cursor = search held depth 12;
+      dirty = search held depth 12;
       room = search held depth 12;
     }
 
@@ -158,7 +159,22 @@ running board work r v e =
     let b = then-both (memoriesChecked board work) (λ w. registerRows w r) v e in
     running-of board work r v (memories-shaped board work v (b .before)) (not-false _ (passed-row status.Regs (registerRows v r) v v (b .here)))
 
--- ---- 5, 6, 7 and 14
+-- ---- 5, 6, the count, 7 and 14
+
+-- a slot that tells nothing against the count
+countable-of : (v : View) (r : Registers) (dirty : Bool) → miscounted v r dirty ≡ false → r .dirty ≤ v .slots → v .slots ≤ mostSlots → Countable r dirty
+unfolding miscounted
+countable-of v r dirty e within most =
+    record { least = λ d. some (rw d at e); most = omega arith }
+  where
+    none : (a b : Bool) → a && true || b && false ≡ false → a ≡ false
+    none true b x = absurd (false≢true (sym x))
+    none false b x = refl
+
+    some : eqb (r .dirty) 0 && true || eqb (r .dirty) (v .slots) && false ≡ false → 0 < r .dirty
+    some x =
+        let n : r .dirty ≡ 0 → ⊥ = eqb-false _ _ (none (eqb (r .dirty) 0) (eqb (r .dirty) (v .slots)) x) in
+        omega arith
 
 module _ (board work : List ℕ) (r : Registers) (address : ℕ) (v : View) (e : Passed v ≡ lineChecked board work r address) where
   line-both : Both (runningChecked board work r) (λ w. lineRows w work r address ++ bufferRows w work r) v
@@ -176,6 +192,10 @@ module _ (board work : List ℕ) (r : Registers) (address : ℕ) (v : View) (e :
 
   pub line-proper : properFor (boundsOf v r) work address ≡ true
   line-proper = not-false _ (line-row status.Slot)
+
+  pub line-countable : Countable r (dirtyFor work (v .slots) address)
+  line-countable =
+      countable-of v r (dirtyFor work (v .slots) address) (line-row status.Regs) (line-running .dirty) (line-running .shaped .slots-most)
 
 -- ---- and 8
 
@@ -235,6 +255,11 @@ module _ (board work : List ℕ) (r : Registers) (v : View) (e : Passed v ≡ sc
 
   pub scan-proper : r .cursor < v .slots → properAt (boundsOf v r) work (r .cursor) ≡ true
   scan-proper h = not-false _ (rw (lt-ltb (r .cursor) (v .slots) h) at (scan-row status.Slot))
+
+  pub scan-countable : r .cursor < v .slots → Countable r (dirtyAt work (r .cursor))
+  scan-countable h =
+      countable-of v r (dirtyAt work (r .cursor)) (rw (lt-ltb (r .cursor) (v .slots) h) at (scan-row status.Regs)) (scan-running .dirty)
+      (scan-running .shaped .slots-most)
 
   pub scan-waiting : v .control .persisted + 1 < r .epoch
   scan-waiting =

@@ -8,12 +8,12 @@ use lib.ListN.{length}
 use Rattle.layout.specs.Limits.{lastEpoch, mostAhead}
 use Rattle.status.specs.declared.Status.{Status}
 use Rattle.status.specs.declared.Status.the-variants as status
-use Rattle.slots.specs.Slots.{properAt, properFor, spotOf, undoDue}
+use Rattle.slots.specs.Slots.{properAt, properFor, dirtyAt, dirtyFor, spotOf, undoDue}
 use Rattle.checks.specs.declared.Checked.{Checked}
 use Rattle.checks.specs.declared.Checked.the-variants.{Refused, Passed}
 use Rattle.checks.specs.declared.Registers.{Registers}
 use Rattle.checks.specs.declared.View.{View}
-use Rattle.checks.specs.View.{viewOf, goodShape, goodWork, properRegisters, boundsOf, goodBuffer, goodFilter}
+use Rattle.checks.specs.View.{viewOf, goodShape, goodWork, properRegisters, miscounted, boundsOf, goodBuffer, goodFilter}
 
 -- a row of the table: when it refuses, and as what
 pub record Row : Type 0 where
@@ -47,18 +47,25 @@ workRows words = row (not (goodWork words)) status.Work ∷ []
 abbrev pub registerRows : View → Registers → List Row
 registerRows v r = row (not (properRegisters v r)) status.Regs ∷ []
 
--- "6 slot: the slot visited is not proper: slot a mod S, or slot c if c < S"
+-- "6 slot: the slot visited is not proper: slot a mod S, or slot c if c < S". Request 5/13: "Right after 6, in each call that has it, a count of
+-- 0 with the visited slot dirty, or of S with it not, answers 4."
 abbrev pub slotRows : View → List ℕ → Registers → (address : ℕ) → List Row
-slotRows v work r address = row (not (properFor (boundsOf v r) work address)) status.Slot ∷ []
+slotRows v work r address =
+    row (not (properFor (boundsOf v r) work address)) status.Slot
+    ∷ row (miscounted v r (dirtyFor work (v .slots) address)) status.Regs
+    ∷ []
 
 abbrev pub cursorRows : View → List ℕ → Registers → List Row
-cursorRows v work r = row (ltb (r .cursor) (v .slots) && not (properAt (boundsOf v r) work (r .cursor))) status.Slot ∷ []
+cursorRows v work r =
+    row (ltb (r .cursor) (v .slots) && not (properAt (boundsOf v r) work (r .cursor))) status.Slot
+    ∷ row (ltb (r .cursor) (v .slots) && miscounted v r (dirtyAt work (r .cursor))) status.Regs
+    ∷ []
 
 -- 7, and 14 "tested right after 7 wherever 7 is"
 abbrev pub bufferRows : View → List ℕ → Registers → List Row
 bufferRows v work r = row (not (goodBuffer v work r)) status.Buffer ∷ row (not (goodFilter work r)) status.Filter ∷ []
 
--- 5 and 6 of load, store and evict
+-- 5, 6 and the count's 4 of load, store and evict
 abbrev pub lineRows : View → List ℕ → Registers → (address : ℕ) → List Row
 lineRows v work r address = row (leb (v .shape .lines) address) status.Address ∷ slotRows v work r address
 

@@ -40,7 +40,8 @@ goodShape words v =
 unfoldable pub goodWork : (words : ℕ) → Bool
 goodWork words = leb 1 (slotsOf words) && leb (slotsOf words) mostSlots && eqb words (workWords (slotsOf words))
 
--- "Proper registers: P < s ≤ 2^24 − 1, s − P ≤ 16, b ≤ 31, c ≤ S, c = 0 where s = P + 1, length + b ≤ L."
+-- "Proper registers: P < s ≤ 2^24 − 1, s − P ≤ 16, b ≤ 31, c ≤ S, c = 0 where s = P + 1, length + b ≤ L." Request 5/13: "Registers are also
+-- improper when the count exceeds S."
 unfoldable pub properEpoch : View → Registers → Bool
 properEpoch v r =
     ltb (v .control .persisted) (r .epoch)
@@ -51,11 +52,16 @@ unfoldable pub properCounts : View → Registers → Bool
 properCounts v r =
     ltb (r .buffered) bufferPlaces
     && leb (r .cursor) (v .slots)
+    && leb (r .dirty) (v .slots)
     && (not (eqb (r .epoch) (v .control .persisted + 1)) || eqb (r .cursor) 0)
     && leb (v .control .length + r .buffered) (v .shape .entries)
 
 unfoldable pub properRegisters : View → Registers → Bool
 properRegisters v r = properEpoch v r && properCounts v r
+
+-- "a count of 0 with the visited slot dirty, or of S with it not"
+unfoldable pub miscounted : View → Registers → (dirty : Bool) → Bool
+miscounted v r dirty = eqb (r .dirty) 0 && dirty || eqb (r .dirty) (v .slots) && not dirty
 
 -- what slots and buffered entries are held to, and the undo log as a call carries it
 abbrev pub boundsOf : View → Registers → Bounds

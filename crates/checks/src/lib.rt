@@ -7,10 +7,10 @@ ghost use mathlib.Core.Path.{_≡_};
 ghost use Rattle.layout.specs.Limits.{lastEpoch, mostSlots};
 ghost use Rattle.layout.specs.Memory.{logAt, bufferWords};
 ghost use Rattle.layout.specs.Words.{ControlFits, ShapeFits};
-ghost use Rattle.checks.specs.Registers.{zero, given, woken, committed, stepped, restarted, leaving};
-ghost use Rattle.checks.specs.View.{goodSizes, goodControl, goodShape, goodWork, properEpoch, properCounts, properRegisters};
+ghost use Rattle.checks.specs.Registers.{zero, given, woken, committed, stepped, restarted, recounted, leaving};
+ghost use Rattle.checks.specs.View.{goodSizes, goodControl, goodShape, goodWork, properEpoch, properCounts, properRegisters, miscounted};
 ghost use Rattle.checks.specs.View.{lent, boundsOf, undoOf};
-ghost use Rattle.checks.specs.Contracts.{Viewed};
+ghost use Rattle.checks.specs.Contracts.{Viewed, Countable};
 use layout::BUFFER_PLACES;
 use layout::CONTROL_AT;
 use layout::Control;
@@ -36,11 +36,12 @@ use status::Status;
 use undo::LogState;
 use undo::Progress;
 
-// s, b and c of the paper: the running epoch, the number of buffered entries and the scan's cursor.
+// s, b and c of the paper and the count of dirty slots: the running epoch, the number of buffered entries, the scan's cursor.
 pub struct Registers {
     pub epoch: u64,
     pub buffered: u64,
     pub cursor: u64,
+    pub dirty: u64,
 }
 
 impl Registers {
@@ -51,17 +52,19 @@ impl Registers {
             epoch: 0,
             buffered: 0,
             cursor: 0,
+            dirty: 0,
         }
     }
 
     // As a caller hands them in: any words.
-    pub fn given(epoch: u64, buffered: u64, cursor: u64) -> Registers
-        ensures { λ r. ⌜ r ≡ given epoch buffered cursor ⌝ }
+    pub fn given(epoch: u64, buffered: u64, cursor: u64, dirty: u64) -> Registers
+        ensures { λ r. ⌜ r ≡ given epoch buffered cursor dirty ⌝ }
     {
         Registers {
             epoch,
             buffered,
             cursor,
+            dirty,
         }
     }
 
@@ -74,6 +77,7 @@ impl Registers {
             epoch: persisted + 1,
             buffered: 0,
             cursor: 0,
+            dirty: 0,
         }
     }
 
@@ -86,6 +90,7 @@ impl Registers {
             epoch: self.epoch + 1,
             buffered: self.buffered,
             cursor: self.cursor,
+            dirty: self.dirty,
         }
     }
 
@@ -98,6 +103,7 @@ impl Registers {
             epoch: self.epoch,
             buffered: self.buffered,
             cursor: self.cursor + 1,
+            dirty: self.dirty,
         }
     }
 
@@ -109,6 +115,7 @@ impl Registers {
             epoch: self.epoch,
             buffered: self.buffered,
             cursor: 0,
+            dirty: self.dirty,
         }
     }
 
@@ -120,6 +127,20 @@ impl Registers {
             epoch: self.epoch,
             buffered: done.undo.buffered,
             cursor: self.cursor,
+            dirty: self.dirty,
+        }
+    }
+
+    // With what a step on one slot has left: and so one dirty slot less where it has found the slot dirty, one more where it leaves it dirty.
+    pub fn leaving_slot(self, done: Progress, was: bool, is: bool) -> Registers
+        requires { ⌜ Countable self was ⌝ }
+        ensures { λ r. ⌜ r ≡ leaving (recounted self was is) (done .undo) ⌝ }
+    {
+        Registers {
+            epoch: self.epoch,
+            buffered: done.undo.buffered,
+            cursor: self.cursor,
+            dirty: self.dirty - layout::bit(was) + layout::bit(is),
         }
     }
 
@@ -139,7 +160,7 @@ impl Registers {
             < MOST_AHEAD
     }
 
-    // b and c within their limits, the log has room for what is buffered, and no pass has begun where no epoch waits.
+    // b, c and the count of dirty slots within their limits, the log has room for what is buffered, and no pass has begun where no epoch waits.
     fn is_proper_counts(self, view: View) -> bool
         requires { ⌜ ControlFits (view .control) ⌝ }
         ensures { λ r. ⌜ r ≡ properCounts view self ⌝ }
@@ -150,6 +171,9 @@ impl Registers {
         if self.cursor > view.slots as u64 {
             return false;
         }
+        if self.dirty > view.slots as u64 {
+            return false;
+        }
         if self.epoch != view.control.persisted + 1 {
             return view.control.length + self.buffered <= view.shape.entries;
         }
@@ -157,6 +181,16 @@ impl Registers {
             return false;
         }
         view.control.length + self.buffered <= view.shape.entries
+    }
+
+    // Whether the slot that a call visits, dirty or not, tells that the count is wrong.
+    fn is_miscounted(self, view: View, dirty: bool) -> bool
+        ensures { λ r. ⌜ r ≡ miscounted view self dirty ⌝ }
+    {
+        if dirty {
+            return self.dirty == 0;
+        }
+        self.dirty == view.slots as u64
     }
 
     fn is_proper(self, view: View) -> bool

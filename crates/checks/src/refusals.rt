@@ -83,7 +83,7 @@ pub fn check_buffer(view: View, work: &[u64], registers: Registers) -> Checked
     Checked::Refused(Status::Buffer)
 }
 
-// 5 and 6 of load, store and evict, which 7 and 14 stand behind.
+// 5 and 6 of load, store and evict, and the test of the count right after 6; 7 and 14 stand behind.
 pub fn check_line(view: View, work: &[u64], registers: Registers, address: u64) -> Checked
     requires { ⌜ RowsReady (now work) registers view ⌝ }
     ensures { λ r. ⌜ r ≡ tested (lineRows view (now (work .entry)) registers address) view ⌝ }
@@ -93,6 +93,9 @@ pub fn check_line(view: View, work: &[u64], registers: Registers, address: u64) 
     }
     if !slots::is_proper_for(work, view.bounds(registers), address) {
         return Checked::Refused(Status::Slot);
+    }
+    if registers.is_miscounted(view, slots::is_dirty_for(work, view.slots, address)) {
+        return Checked::Refused(Status::Regs);
     }
     Checked::Passed(view)
 }
@@ -139,7 +142,7 @@ fn check_commit_epoch(view: View, registers: Registers) -> Checked
     Checked::Passed(view)
 }
 
-// 6 of scan: the slot at the cursor, while there is one.
+// 6 of scan and the test of the count: the slot at the cursor, while there is one.
 fn check_cursor(view: View, work: &[u64], registers: Registers) -> Checked
     requires { ⌜ RowsReady (now work) registers view ⌝ }
     ensures { λ r. ⌜ r ≡ tested (cursorRows view (now (work .entry)) registers) view ⌝ }
@@ -150,6 +153,9 @@ fn check_cursor(view: View, work: &[u64], registers: Registers) -> Checked
     }
     if !slots::is_proper_at(work, view.bounds(registers), k) {
         return Checked::Refused(Status::Slot);
+    }
+    if registers.is_miscounted(view, slots::is_dirty_at(work, k)) {
+        return Checked::Refused(Status::Regs);
     }
     Checked::Passed(view)
 }

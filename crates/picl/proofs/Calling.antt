@@ -1,6 +1,7 @@
 -- The calls: one law for each way out of a function.
 use Prim.Native.Nat.{ℕ, _+_, _*_, _<_, _≤_}
 use mathlib.Core.Path.{_≡_, refl, ap}
+use mathlib.Core.Bool.{Bool}
 use mathlib.Core.List.{List, _++_}
 use borrow.Author.Tests.{lt-ltb, le-ltb}
 use lib.ListN.{length, getD}
@@ -16,23 +17,23 @@ use Rattle.undo.specs.declared.Progress.{Progress}
 use Rattle.slots.specs.declared.Spot.{Spot}
 use Rattle.steps.specs.Effects.{loading, storing, evicting, scanTarget, visiting, persisting}
 use Rattle.steps.specs.Contracts.{Acts, Carries}
-use Rattle.slots.specs.Slots.{spotOf}
+use Rattle.slots.specs.Slots.{dirtyAt, spotOf}
 use Rattle.checks.specs.declared.Checked.{Checked}
 use Rattle.checks.specs.declared.Checked.the-variants.{Refused, Passed}
 use Rattle.checks.specs.declared.Registers.{Registers}
 use Rattle.checks.specs.declared.View.{View}
-use Rattle.checks.specs.Laws.{line-running, line-named, line-proper, store-line, store-room, running}
-use Rattle.checks.specs.Laws.{scan-running, scan-proper, scan-waiting}
+use Rattle.checks.specs.Laws.{line-running, line-named, line-proper, line-countable, store-line, store-room, running}
+use Rattle.checks.specs.Laws.{scan-running, scan-proper, scan-countable, scan-waiting}
 use Rattle.checks.specs.Refusals.{tested, bufferRows, epochRows, runningChecked, lineChecked, storeChecked, commitChecked, scanChecked}
-use Rattle.checks.specs.Registers.{leaving, committed, stepped, restarted}
+use Rattle.checks.specs.Registers.{leaving, committed, stepped, restarted, recounted}
 use Rattle.checks.specs.Stages.{commit-passed}
 use Rattle.checks.specs.View.{undoOf}
 use Rattle.picl.specs.declared.Answer.{Answer}
 use Rattle.picl.specs.Answers.{Outcome, answer, refusal}
 use Rattle.board.specs.Verdict.{due}
 use Rattle.picl.specs.Calls.{loadAt, loadOutcome, storeAt, storeOutcome, evictAt, evictOutcome}
-use Rattle.picl.specs.Calls.{judged, carried, commitOutcome, commitVerdict, scanOutcome}
-use Rattle.picl.specs.Contracts.{Answers, Finishes, LinePassed, StorePassed, ScanPassed}
+use Rattle.picl.specs.Calls.{judged, carried, carriedAt, commitOutcome, commitVerdict, scanOutcome}
+use Rattle.picl.specs.Contracts.{Answers, Finishes, LinePassed, StorePassed, ScanPassed, Found}
 use Rattle.picl.proofs.Finishing.{answers-refused, answers-nothing, acted, carries-answers}
 
 -- a call's verdict, once its check has come to a result
@@ -44,17 +45,24 @@ module _ (allowance : ℕ) (board work : List ℕ) (r : Registers) (k : Checked)
       → Answers allowance r board work (due (outcome v)) board′ work′ a → Answers allowance r board work (judged k outcome) board′ work′ a
   judged-passed v board′ work′ a e x = rw (← e) x
 
+-- what is counted is the slot as the effect leaves it
+counted : (r : Registers) (work work′ left : List ℕ) (k : ℕ) (was : Bool) → Found work r k was → work′ ≡ left
+    → recounted r was (dirtyAt work′ k) ≡ recounted r (dirtyAt work k) (dirtyAt left k)
+counted r work work′ left k was found x = rw (found .is, x)
+
 -- load
 pub load-done : (allowance : ℕ) (board work : List ℕ) (r : Registers) (u : LogState) (address : ℕ) (spot : Spot) (m : Meter) (p : Progress)
-    (board′ work′ work″ : List ℕ) (after : Registers) (a : Answer) → m ≡ full allowance
-    → Carries board m (loading board u work address spot) board′ work′ p → length work′ ≡ length work → after ≡ leaving r (p .undo)
-    → Finishes work′ (p .meter) allowance (getD work′ (2 * spot .slot + 1) 0) after work″ a
+    (board′ work′ work″ : List ℕ) (was : Bool) (a : Answer) → m ≡ full allowance
+    → Carries board m (loading board u work address spot) board′ work′ p → length work′ ≡ length work → Found work r (spot .slot) was
+    → Finishes work′ (p .meter) allowance (getD work′ (2 * spot .slot + 1) 0)
+    (leaving (recounted r was (dirtyAt work′ (spot .slot))) (p .undo)) work″ a
     → Answers allowance r board work (due (loadAt board work r u address spot)) board′ work″ a
 unfolding loadAt
-load-done allowance board work r u address spot m p board′ work′ work″ after a new c l q f =
+load-done allowance board work r u address spot m p board′ work′ work″ was a new c l found f =
     let e = loading board u work address spot in
-    carries-answers allowance r board work e m p board′ work′ work″ (dataIn (e .work) (spot .slot)) r after
-    (getD work′ (2 * spot .slot + 1) 0) a new c l (λ x. ap (λ (w : List ℕ). getD w (2 * spot .slot + 1) 0) x) q f
+    carries-answers allowance r board work e m p board′ work′ work″ (dataIn (e .work) (spot .slot)) _ _
+    (getD work′ (2 * spot .slot + 1) 0) a new c l (λ x. ap (λ (w : List ℕ). getD w (2 * spot .slot + 1) 0) x)
+    (counted r work work′ (e .work) (spot .slot) was found) f
 
 pub load-found : (allowance : ℕ) (board work : List ℕ) (r : Registers) (address : ℕ) (v : View) (spot : Spot) (u : LogState) (board′ work′ : List ℕ)
     (a : Answer) → spot ≡ spotOf work (v .slots) address → u ≡ undoOf v r
@@ -71,18 +79,21 @@ line-told board work r address v p =
       running = line-running board work r address v p;
       named = line-named board work r address v p;
       slot = line-proper board work r address v p;
+      count = line-countable board work r address v p;
     }
 
 -- evict
 pub evict-done : (allowance : ℕ) (board work : List ℕ) (r : Registers) (u : LogState) (spot : Spot) (m : Meter) (p : Progress)
-    (board′ work′ work″ : List ℕ) (after : Registers) (held : ℕ) (a : Answer) → m ≡ full allowance
-    → Acts board m (evicting u work spot) board′ work′ p → length work′ ≡ length work → after ≡ leaving r (p .undo)
-    → IsBit (spot .held) held → Finishes work′ (p .meter) allowance held after work″ a
+    (board′ work′ work″ : List ℕ) (was : Bool) (held : ℕ) (a : Answer) → m ≡ full allowance
+    → Acts board m (evicting u work spot) board′ work′ p → length work′ ≡ length work → Found work r (spot .slot) was
+    → IsBit (spot .held) held
+    → Finishes work′ (p .meter) allowance held (leaving (recounted r was (dirtyAt work′ (spot .slot))) (p .undo)) work″ a
     → Answers allowance r board work (due (evictAt work r u spot)) board′ work″ a
 unfolding evictAt
-evict-done allowance board work r u spot m p board′ work′ work″ after held a new c l q b f =
-    carries-answers allowance r board work (evicting u work spot) m p board′ work′ work″ (bit (spot .held)) r after held a new (acted c) l
-    (λ x. b .is) q f
+evict-done allowance board work r u spot m p board′ work′ work″ was held a new c l found b f =
+    let e = evicting u work spot in
+    carries-answers allowance r board work e m p board′ work′ work″ (bit (spot .held)) _ _ held a new (acted c) l
+    (λ x. b .is) (counted r work work′ (e .work) (spot .slot) was found) f
 
 pub evict-found : (allowance : ℕ) (board work : List ℕ) (r : Registers) (address : ℕ) (v : View) (spot : Spot) (u : LogState) (board′ work′ : List ℕ)
     (a : Answer) → spot ≡ spotOf work (v .slots) address → u ≡ undoOf v r
@@ -93,14 +104,16 @@ evict-found allowance board work r address v spot u board′ work′ a at is x =
 
 -- store
 pub store-done : (allowance : ℕ) (board work : List ℕ) (r : Registers) (u : LogState) (address : ℕ) (spot : Spot) (value : ℕ) (m : Meter) (p : Progress)
-    (board′ work′ work″ : List ℕ) (after : Registers) (a : Answer) → m ≡ full allowance
+    (board′ work′ work″ : List ℕ) (was : Bool) (a : Answer) → m ≡ full allowance
     → Carries board m (storing board u work address spot (r .epoch) value) board′ work′ p → length work′ ≡ length work
-    → after ≡ leaving r (p .undo) → Finishes work′ (p .meter) allowance 0 after work″ a
+    → Found work r (spot .slot) was
+    → Finishes work′ (p .meter) allowance 0 (leaving (recounted r was (dirtyAt work′ (spot .slot))) (p .undo)) work″ a
     → Answers allowance r board work (due (storeAt board work r u address spot value)) board′ work″ a
 unfolding storeAt
-store-done allowance board work r u address spot value m p board′ work′ work″ after a new c l q f =
-    carries-answers allowance r board work (storing board u work address spot (r .epoch) value) m p board′ work′ work″ 0 r after 0 a new c l
-    (λ x. refl) q f
+store-done allowance board work r u address spot value m p board′ work′ work″ was a new c l found f =
+    let e = storing board u work address spot (r .epoch) value in
+    carries-answers allowance r board work e m p board′ work′ work″ 0 _ _ 0 a new c l
+    (λ x. refl) (counted r work work′ (e .work) (spot .slot) was found) f
 
 pub store-found : (allowance : ℕ) (board work : List ℕ) (r : Registers) (address value : ℕ) (v : View) (spot : Spot) (u : LogState)
     (board′ work′ : List ℕ) (a : Answer) → spot ≡ spotOf work (v .slots) address → u ≡ undoOf v r
@@ -130,24 +143,27 @@ commit-answered allowance board work r v w k a run is e x =
     (commit-passed board work r v run k is w e) (answers-nothing allowance r board work (committed r) a x)
 
 -- scan
-module _ (allowance : ℕ) (board work : List ℕ) (r next after : Registers) (u : LogState) (target : ℕ) (m : Meter) (p : Progress)
-    (board′ work′ work″ : List ℕ) (a : Answer) (new : m ≡ full allowance) (same : length work′ ≡ length work)
-    (counts : after ≡ leaving next (p .undo)) where
-  pub visit-done : (k : ℕ) → Acts board m (visiting u work k target) board′ work′ p → Finishes work′ (p .meter) allowance 0 after work″ a
-      → Answers allowance r board work (due (carried 0 next (visiting u work k target))) board′ work″ a
-  visit-done k c f =
-      carries-answers allowance r board work (visiting u work k target) m p board′ work′ work″ 0 next after 0 a new (acted c) same (λ x. refl) counts f
+module _ (allowance : ℕ) (board work : List ℕ) (r next : Registers) (u : LogState) (target : ℕ) (m : Meter) (p : Progress)
+    (board′ work′ work″ : List ℕ) (a : Answer) (new : m ≡ full allowance) (same : length work′ ≡ length work) where
+  pub visit-done : (k : ℕ) (was : Bool) → Acts board m (visiting u work k target) board′ work′ p → Found work next k was
+      → Finishes work′ (p .meter) allowance 0 (leaving (recounted next was (dirtyAt work′ k)) (p .undo)) work″ a
+      → Answers allowance r board work (due (carriedAt 0 next work k (visiting u work k target))) board′ work″ a
+  visit-done k was c found f =
+      let e = visiting u work k target in
+      carries-answers allowance r board work e m p board′ work′ work″ 0 _ _ 0 a new (acted c) same (λ x. refl)
+      (counted next work work′ (e .work) k was found) f
 
-  pub persist-done : Carries board m (persisting board u work target) board′ work′ p → Finishes work′ (p .meter) allowance target after work″ a
+  pub persist-done : (after : Registers) → Carries board m (persisting board u work target) board′ work′ p → after ≡ leaving next (p .undo)
+      → Finishes work′ (p .meter) allowance target after work″ a
       → Answers allowance r board work (due (carried target next (persisting board u work target))) board′ work″ a
-  persist-done c f =
-      carries-answers allowance r board work (persisting board u work target) m p board′ work′ work″ target next after target a new c same
-      (λ x. refl) counts f
+  persist-done after c q f =
+      carries-answers allowance r board work (persisting board u work target) m p board′ work′ work″ target next next target a new c same
+      (λ x. refl) (λ x. refl) (rw q at f)
 
 module _ (allowance : ℕ) (board work : List ℕ) (r next : Registers) (v : View) (u : LogState) (target : ℕ) (board′ work′ : List ℕ) (a : Answer)
     (is : u ≡ undoOf v r) (aim : target ≡ scanTarget (v .control .persisted)) where
   pub scan-visits : r .cursor < v .slots → next ≡ stepped r
-      → Answers allowance r board work (due (carried 0 next (visiting u work (r .cursor) target))) board′ work′ a
+      → Answers allowance r board work (due (carriedAt 0 next work (r .cursor) (visiting u work (r .cursor) target))) board′ work′ a
       → Answers allowance r board work (due (scanOutcome board work r v)) board′ work′ a
   unfolding scanOutcome
   scan-visits h n x = rw (lt-ltb (r .cursor) (v .slots) h) (rw (n, is, aim) at x)
@@ -163,5 +179,6 @@ scan-told board work r v p =
     record {
       running = scan-running board work r v p;
       slot = scan-proper board work r v p;
+      count = scan-countable board work r v p;
       waiting = scan-waiting board work r v p;
     }

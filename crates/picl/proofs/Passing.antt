@@ -1,19 +1,23 @@
 -- What a call's passed tests give its steps.
-use Prim.Native.Nat.{ℕ, _<_}
+use Prim.Native.Nat.{ℕ, _+_, _<_, _≤_}
 use mathlib.Core.Path.{_≡_}
+use mathlib.Core.Bool.{Bool}
 use mathlib.Core.List.{List}
 use native.Mathlib.Omega.{arith}
+use lib.ListN.{length}
+use Rattle.layout.specs.Memory.{slotAt, slotWords}
 use Rattle.undo.specs.declared.LogState.{LogState}
 use Rattle.slots.specs.declared.Spot.{Spot}
 use Rattle.steps.specs.Effects.{scanTarget}
 use Rattle.steps.specs.Contracts.{Ready, SlotReady, FillReady, StoreReady, PersistReady}
 use Rattle.slots.specs.Laws.{spot-below, spot-named, proper-named}
-use Rattle.slots.specs.Slots.{spotOf}
+use Rattle.slots.specs.Slots.{dirtyAt, dirtyFor, spotOf}
 use Rattle.checks.specs.declared.Registers.{Registers}
 use Rattle.checks.specs.declared.View.{View}
 use Rattle.checks.specs.Contracts.{Running}
+use Rattle.checks.specs.Registers.{stepped}
 use Rattle.checks.specs.View.{boundsOf, undoOf}
-use Rattle.picl.specs.Contracts.{LinePassed, StorePassed, ScanPassed}
+use Rattle.picl.specs.Contracts.{LinePassed, StorePassed, ScanPassed, Found}
 
 ready-of : (board work : List ℕ) (r : Registers) (v : View) → Running board work r v → Ready board work (undoOf v r)
 ready-of board work r v h =
@@ -53,6 +57,20 @@ module _ (board work : List ℕ) (r : Registers) (address : ℕ) (v : View) (spo
         room = λ d. rw is (p .room (rw at at d));
       }
 
+  pub line-within : LinePassed board work r address v → slotAt (spot .slot) + slotWords ≤ length work
+  line-within p = omega (arith, fill-ready p .slot .within)
+
+  pub store-within : StorePassed board work r address v → slotAt (spot .slot) + slotWords ≤ length work
+  store-within p = line-within (p .line)
+
+  -- the slot that the call visits
+  pub line-found : (was : Bool) → was ≡ dirtyAt work (spot .slot) → LinePassed board work r address v → Found work r (spot .slot) was
+  unfolding dirtyFor spotOf
+  line-found was e p = record { is = e; count = rw (e, at) (p .count) }
+
+  pub store-found : (was : Bool) → was ≡ dirtyAt work (spot .slot) → StorePassed board work r address v → Found work r (spot .slot) was
+  store-found was e p = line-found was e (p .line)
+
   pub evict-ready : LinePassed board work r address v → SlotReady board work u (spot .slot)
   evict-ready p = fill-ready p .slot
 
@@ -67,6 +85,11 @@ module _ (board work : List ℕ) (r : Registers) (v : View) (u : LogState) (is :
             omega
             (arith, run .shaped .board-words, proper-named (boundsOf v r) work (r .cursor) (run .shaped .lines-some) (p .slot h));
       }
+
+  pub visit-found : (next : Registers) (was : Bool) → next ≡ stepped r → was ≡ dirtyAt work (r .cursor) → ScanPassed board work r v → r .cursor < v .slots
+      → Found work next (r .cursor) was
+  visit-found next was n e p h =
+      record { is = e; count = rw (n, e) record { least = p .count h .least; most = p .count h .most } }
 
   pub persist-ready : (target : ℕ) → target ≡ scanTarget (v .control .persisted) → ScanPassed board work r v → PersistReady board work u target
   persist-ready target aim p = rw is record { ready = ready-of board work r v (p .running); fits = omega (arith, p .waiting, p .running .epoch-most) }

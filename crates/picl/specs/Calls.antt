@@ -1,11 +1,11 @@
 -- The calls: what each comes to on any memories, registers and arguments.
-use Prim.Native.Nat.{ℕ, zero, suc, _+_}
-use mathlib.Core.Bool.{cond, _&&_}
+use Prim.Native.Nat.{ℕ}
+use mathlib.Core.Bool.{cond}
 use mathlib.Core.List.{List, []}
 use lib.Dec.{ltb}
 use lib.ListN.{length, replicate}
 use Rattle.layout.specs.declared.Shape.{Shape}
-use Rattle.layout.specs.Memory.{slotsOf, slotIn, dataIn, bufferIn, formatted}
+use Rattle.layout.specs.Memory.{dataIn, bufferIn, formatted}
 use Rattle.layout.specs.Words.{bit}
 use Rattle.status.specs.declared.Status.{Status}
 use Rattle.status.specs.declared.Status.the-variants as status
@@ -13,7 +13,7 @@ use Rattle.undo.specs.declared.LogState.{LogState}
 use Rattle.undo.specs.Filter.{bitsSet}
 use Rattle.undo.specs.Log.{firstImproper, recoverStores}
 use Rattle.slots.specs.declared.Spot.{Spot}
-use Rattle.slots.specs.Slots.{spotOf}
+use Rattle.slots.specs.Slots.{dirtyAt, spotOf}
 use Rattle.steps.specs.Effects.{Effect, loading, storing, evicting, visiting, persisting, scanTarget}
 use Rattle.checks.specs.declared.Checked.{Checked}
 use Rattle.checks.specs.declared.Checked.the-variants.{Refused, Passed}
@@ -21,7 +21,7 @@ use Rattle.checks.specs.declared.Registers.{Registers}
 use Rattle.checks.specs.declared.View.{View}
 use Rattle.checks.specs.Registers as registers
 use Rattle.checks.specs.View.{goodSizes, goodWork, undoOf}
-use Rattle.checks.specs.Refusals.{memoriesChecked, lineChecked, storeChecked, commitChecked, scanChecked}
+use Rattle.checks.specs.Refusals.{memoriesChecked, runningChecked, lineChecked, storeChecked, commitChecked, scanChecked}
 use Rattle.picl.specs.declared.Report.{Report}
 use Rattle.picl.specs.Answers.{Outcome, Verdict, answerOf}
 use Rattle.board.specs.Verdict.{refused, due}
@@ -35,10 +35,14 @@ judged (Passed v) outcome = due (outcome v)
 abbrev pub carried : (value : ℕ) → Registers → Effect → Outcome
 carried value r e = record { value = value; registers = registers.leaving r (e .undo); work = e .work; stores = e .stores }
 
+-- request 5/13: "Keep the count of dirty slots in the registers": an effect on slot k changes the count as it changes the slot
+abbrev pub carriedAt : (value : ℕ) → Registers → (work : List ℕ) → (k : ℕ) → Effect → Outcome
+carriedAt value r work k e = carried value (registers.recounted r (dirtyAt work k) (dirtyAt (e .work) k)) e
+
 -- "Load (a): a held line gives its data. Otherwise the slot is emptied, then filled clean from memory."
 unfoldable pub loadAt : (board work : List ℕ) → Registers → LogState → (address : ℕ) → Spot → Outcome
 loadAt board work r u address spot =
-    let e = loading board u work address spot in carried (dataIn (e .work) (spot .slot)) r e
+    let e = loading board u work address spot in carriedAt (dataIn (e .work) (spot .slot)) r work (spot .slot) e
 
 unfoldable pub loadOutcome : (board work : List ℕ) → Registers → (address : ℕ) → View → Outcome
 loadOutcome board work r address v = loadAt board work r (undoOf v r) address (spotOf work (v .slots) address)
@@ -48,7 +52,7 @@ loadVerdict board work r address = judged (lineChecked board work r address) (lo
 
 -- "Store (a, value): as load if not held. Then .."
 unfoldable pub storeAt : (board work : List ℕ) → Registers → LogState → (address : ℕ) → Spot → (value : ℕ) → Outcome
-storeAt board work r u address spot value = carried 0 r (storing board u work address spot (r .epoch) value)
+storeAt board work r u address spot value = carriedAt 0 r work (spot .slot) (storing board u work address spot (r .epoch) value)
 
 unfoldable pub storeOutcome : (board work : List ℕ) → Registers → (address value : ℕ) → View → Outcome
 storeOutcome board work r address value v = storeAt board work r (undoOf v r) address (spotOf work (v .slots) address) value
@@ -58,7 +62,7 @@ storeVerdict board work r address value = judged (storeChecked board work r addr
 
 -- "Evict (a): empties the slot if it holds a; otherwise nothing, value 0. Value 1 if held."
 unfoldable pub evictAt : (work : List ℕ) → Registers → LogState → Spot → Outcome
-evictAt work r u spot = carried (bit (spot .held)) r (evicting u work spot)
+evictAt work r u spot = carriedAt (bit (spot .held)) r work (spot .slot) (evicting u work spot)
 
 unfoldable pub evictOutcome : (work : List ℕ) → Registers → (address : ℕ) → View → Outcome
 evictOutcome work r address v = evictAt work r (undoOf v r) (spotOf work (v .slots) address)
@@ -82,7 +86,7 @@ commitVerdict board work r = judged (commitChecked board work r) (λ v. commitOu
 unfoldable pub scanOutcome : (board work : List ℕ) → Registers → View → Outcome
 scanOutcome board work r v =
     cond (ltb (r .cursor) (v .slots))
-    (carried 0 (registers.stepped r) (visiting (undoOf v r) work (r .cursor) (scanTarget (v .control .persisted))))
+    (carriedAt 0 (registers.stepped r) work (r .cursor) (visiting (undoOf v r) work (r .cursor) (scanTarget (v .control .persisted))))
     (carried (scanTarget (v .control .persisted)) (registers.restarted r)
     (persisting board (undoOf v r) work (scanTarget (v .control .persisted))))
 
@@ -109,21 +113,13 @@ wakeJudged board work (Passed v) = wakeVerdict board work v
 unfoldable pub powerUpVerdict : (board work : List ℕ) → Verdict
 powerUpVerdict board work = wakeJudged board work (memoriesChecked board work)
 
--- "Tally: the number of slot words whose valid and dirty bits are both 1, whatever else they hold."
-unfoldable pub dirtySlots : List ℕ → ℕ → ℕ
-dirtySlots work zero = 0
-dirtySlots work (suc k) = dirtySlots work k + bit (slotIn work k .valid && slotIn work k .dirty)
-
--- a question about the work memory, which 2 alone refuses
-abbrev pub asked : (work : List ℕ) → Registers → (value : ℕ) → Verdict
-asked work r value = cond (goodWork (length work)) (due (unstored value r work)) (refused status.Work 0)
-
-unfoldable pub tallyVerdict : (work : List ℕ) → Registers → Verdict
-tallyVerdict work r = asked work r (dirtySlots work (slotsOf (length work)))
+-- request 5/13: "The tally is then read from the registers" and "refuses as commit does up to 4"
+unfoldable pub tallyVerdict : (board work : List ℕ) → Registers → Verdict
+tallyVerdict board work r = judged (runningChecked board work r) (λ v. unstored (r .dirty) r work)
 
 -- request 3/13: "A status question gives the number of filter bits set, and refuses only by number 2"
 unfoldable pub filterBitsVerdict : (work : List ℕ) → Registers → Verdict
-filterBitsVerdict work r = asked work r (bitsSet (bufferIn work))
+filterBitsVerdict work r = cond (goodWork (length work)) (due (unstored (bitsSet (bufferIn work)) r work)) (refused status.Work 0)
 
 -- ---- the calls of a controller that runs, with their arguments
 
@@ -142,10 +138,10 @@ verdictOf board work r (store address value) = storeVerdict board work r address
 verdictOf board work r (evict address) = evictVerdict board work r address
 verdictOf board work r commit = commitVerdict board work r
 verdictOf board work r scan = scanVerdict board work r
-verdictOf board work r tally = tallyVerdict work r
+verdictOf board work r tally = tallyVerdict board work r
 verdictOf board work r filterBits = filterBitsVerdict work r
 
--- ---- "format and tally do neither" take nor return registers, nor does the status question: they report
+-- ---- format, tally and the status question return no registers: they report
 
 abbrev pub report : Status → (value : ℕ) → Report
 report why value = record { status = why; value = value; stores = 0 }
@@ -163,8 +159,8 @@ reportOf v =
     let a = answerOf 0 registers.zero v in
     record { status = a .status; value = a .value; stores = a .stores }
 
-unfoldable pub tallyReport : (work : List ℕ) → Report
-tallyReport work = reportOf (tallyVerdict work registers.zero)
+unfoldable pub tallyReport : (board work : List ℕ) → Registers → Report
+tallyReport board work r = reportOf (tallyVerdict board work r)
 
 unfoldable pub filterBitsReport : (work : List ℕ) → Report
 filterBitsReport work = reportOf (filterBitsVerdict work registers.zero)

@@ -1,17 +1,17 @@
 -- What the calls promise, on every input.
 use Prim.Native.Nat.{ℕ, _+_, _-_, _<_, _≤_}
 use mathlib.Core.Path.{_≡_}
-use mathlib.Core.Bool.{true, cond, _&&_}
+use mathlib.Core.Bool.{Bool, true, cond}
 use mathlib.Core.List.{List}
-use lib.ListN.{length, getD, replicate}
+use lib.ListN.{length, replicate}
 use Rattle.board.specs.declared.Meter.{Meter}
 use Rattle.board.specs.Stores.{wasCut}
-use Rattle.layout.specs.Words.{bit, decodeSlot}
+use Rattle.layout.specs.Memory.{slotAt, slotWords}
 use Rattle.status.specs.declared.Status.the-variants as status
-use Rattle.slots.specs.Slots.{properAt, properFor, spotOf}
-use Rattle.slots.specs.Slots.{undoDue}
+use Rattle.undo.specs.declared.Progress.{Progress}
+use Rattle.slots.specs.Slots.{properAt, properFor, dirtyAt, dirtyFor, spotOf, undoDue}
 use Rattle.checks.specs.declared.View.{View}
-use Rattle.checks.specs.Contracts.{Running}
+use Rattle.checks.specs.Contracts.{Running, Countable}
 use Rattle.checks.specs.View.{boundsOf}
 use Rattle.checks.specs.declared.Registers.{Registers}
 use Rattle.picl.specs.declared.Answer.{Answer}
@@ -39,11 +39,23 @@ pub record Finishes (work : List ℕ) (m : Meter) (allowance value : ℕ) (r : R
   pub answer : a ≡ cond (wasCut m) (cutOff allowance) (record { status = status.Ok; value = value; stores = allowance + 1 - m .left; registers = r })
   pub memory : work′ ≡ cond (wasCut m) (replicate (length work) 0) work
 
+-- what the last step of a call that has worked on slot k asks
+pub record FinishReady (work : List ℕ) (k : ℕ) (was : Bool) (p : Progress) (allowance : ℕ) (r : Registers) : Type 0 where
+  pub within : slotAt k + slotWords ≤ length work
+  pub left : p .meter .left ≤ allowance + 1
+  pub count : Countable r was
+
+-- the slot that a call visits was dirty or not, and the count may be changed by it
+pub record Found (work : List ℕ) (r : Registers) (k : ℕ) (was : Bool) : Type 0 where
+  pub is : was ≡ dirtyAt work k
+  pub count : Countable r was
+
 -- what the tests of each call told
 pub record LinePassed (board work : List ℕ) (r : Registers) (address : ℕ) (v : View) : Type 0 where
   pub running : Running board work r v
   pub named : address < v .shape .lines
   pub slot : properFor (boundsOf v r) work address ≡ true
+  pub count : Countable r (dirtyFor work (v .slots) address)
 
 pub record StorePassed (board work : List ℕ) (r : Registers) (address : ℕ) (v : View) : Type 0 where
   pub line : LinePassed board work r address v
@@ -52,9 +64,5 @@ pub record StorePassed (board work : List ℕ) (r : Registers) (address : ℕ) (
 pub record ScanPassed (board work : List ℕ) (r : Registers) (v : View) : Type 0 where
   pub running : Running board work r v
   pub slot : r .cursor < v .slots → properAt (boundsOf v r) work (r .cursor) ≡ true
+  pub count : r .cursor < v .slots → Countable r (dirtyAt work (r .cursor))
   pub waiting : v .control .persisted + 1 < r .epoch
-
--- what the slot word at a place of the work memory adds to the tally
-pub record CountsDirty (work : List ℕ) (at r : ℕ) : Type 0 where
-  pub is : r ≡ bit (decodeSlot (getD work at 0) .valid && decodeSlot (getD work at 0) .dirty)
-  pub most : r ≤ 1

@@ -15,10 +15,11 @@ ghost use Rattle.status.specs.declared.Status.the-variants as status;
 ghost use Rattle.undo.specs.Contracts.{RecoverReady};
 ghost use Rattle.picl.specs.Answers.{answer};
 ghost use Rattle.picl.specs.Calls as call;
-ghost use Rattle.picl.specs.Calls.{scanOutcome, carried, wakeAt, wakeVerdict, powerUpVerdict};
-ghost use Rattle.picl.specs.Contracts.{Answers, Calls, ScanPassed};
+ghost use Rattle.picl.specs.Calls.{scanOutcome, carried, carriedAt, wakeAt, wakeVerdict, powerUpVerdict};
+ghost use Rattle.picl.specs.Contracts.{Answers, Calls, ScanPassed, Found};
 use crate::Answer;
 use crate::finish;
+use crate::finish_slot;
 use crate::refusal;
 use board::Meter;
 use checks::Checked;
@@ -81,16 +82,17 @@ fn visit_at(
     next: Registers,
     undo: LogState,
     k: usize,
+    was: bool,
     target: u64,
     allowance: u32,
 ) -> Answer
     requires { ⌜ SlotReady (now board) (now work) undo k ⌝ }
+    requires { ⌜ Found (now work) next k was ⌝ }
     ensures { λ r. ⌜ Answers allowance registers (now (board .entry)) (now (work .entry))
-        (due (carried 0 next (visiting undo (now (work .entry)) k target))) (now (board .exit)) (now (work .exit)) r ⌝ }
+        (due (carriedAt 0 next (now (work .entry)) k (visiting undo (now (work .entry)) k target))) (now (board .exit)) (now (work .exit)) r ⌝ }
 {
     let done = steps::visit(board, work, undo, k, target, Meter::new(allowance));
-    let meter = done.meter;
-    finish(work, meter, allowance, 0, next.leaving(done))
+    finish_slot(work, k, was, done, allowance, 0, next)
 }
 
 // The end of a pass; `next` are the registers with the cursor moved back.
@@ -126,13 +128,16 @@ fn scan_passed(
     let undo = view.undo(registers);
     let target = steps::scan_target(view.control.persisted);
     if registers.cursor < view.slots as u64 {
+        let k = registers.cursor as usize;
+        let was = slots::is_dirty_at(work, k);
         return visit_at(
             board,
             work,
             registers,
             registers.stepped(),
             undo,
-            registers.cursor as usize,
+            k,
+            was,
             target,
             allowance,
         );

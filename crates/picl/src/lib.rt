@@ -7,7 +7,9 @@ mod memory;
 ghost use Prim.Native.Nat.{_+_, _≤_};
 ghost use mathlib.Core.Path.{_≡_};
 ghost use Rattle.picl.specs.Answers.{refusal as refused};
-ghost use Rattle.picl.specs.Contracts.{Finishes};
+ghost use Rattle.slots.specs.Slots.{dirtyAt};
+ghost use Rattle.checks.specs.Registers.{recounted, leaving};
+ghost use Rattle.picl.specs.Contracts.{Finishes, FinishReady};
 use board::Meter;
 use checks::Registers;
 pub use epochs::commit;
@@ -20,6 +22,7 @@ pub use memory::filter_bits;
 pub use memory::format;
 pub use memory::tally;
 use status::Status;
+use undo::Progress;
 
 // What a call answers: the paper's number, the value, the number of board stores made and the new registers.
 pub struct Answer {
@@ -74,4 +77,28 @@ fn finish(
         stores: meter.made(allowance),
         registers,
     }
+}
+
+// The end of a call that has worked on slot k, which it had found dirty or not: the count of dirty slots changes as the slot has.
+fn finish_slot(
+    work: &mut [u64],
+    k: usize,
+    was: bool,
+    done: Progress,
+    allowance: u32,
+    value: u64,
+    registers: Registers,
+) -> Answer
+    requires { ⌜ FinishReady (now work) k was done allowance registers ⌝ }
+    ensures { λ r. ⌜ Finishes (now (work .entry)) (done .meter) allowance value (leaving (recounted registers was (dirtyAt (now (work .entry)) k)) (done .undo)) (now (work .exit)) r ⌝ }
+{
+    let is = slots::is_dirty_at(work, k);
+    let meter = done.meter;
+    finish(
+        work,
+        meter,
+        allowance,
+        value,
+        registers.leaving_slot(done, was, is),
+    )
 }

@@ -9,9 +9,9 @@ ghost use Rattle.steps.specs.Contracts.{FillReady, SlotReady, StoreReady};
 ghost use Rattle.board.specs.Verdict.{due};
 ghost use Rattle.picl.specs.Calls as call;
 ghost use Rattle.picl.specs.Calls.{loadAt, storeAt, evictAt, loadOutcome, storeOutcome, evictOutcome};
-ghost use Rattle.picl.specs.Contracts.{Answers, Calls, LinePassed, StorePassed};
+ghost use Rattle.picl.specs.Contracts.{Answers, Calls, LinePassed, StorePassed, Found};
 use crate::Answer;
-use crate::finish;
+use crate::finish_slot;
 use crate::refusal;
 use board::Meter;
 use checks::Checked;
@@ -28,17 +28,18 @@ fn load_at(
     undo: LogState,
     address: u64,
     spot: Spot,
+    was: bool,
     allowance: u32,
 ) -> Answer
     requires { ⌜ FillReady (now board) (now work) undo (spot .slot) address ⌝ }
+    requires { ⌜ Found (now work) registers (spot .slot) was ⌝ }
     ensures { λ r. ⌜ Answers allowance registers (now (board .entry)) (now (work .entry))
         (due (loadAt (now (board .entry)) (now (work .entry)) registers undo address spot)) (now (board .exit)) (now (work .exit)) r ⌝ }
 {
     let at = SLOT_WORDS * spot.slot + 1;
     let done = steps::load(board, work, undo, address, spot, Meter::new(allowance));
-    let meter = done.meter;
     let value = work[at];
-    finish(work, meter, allowance, value, registers.leaving(done))
+    finish_slot(work, spot.slot, was, done, allowance, value, registers)
 }
 
 fn load_passed(
@@ -55,7 +56,8 @@ fn load_passed(
 {
     let spot = slots::find(work, view.slots, address);
     let undo = view.undo(registers);
-    load_at(board, work, registers, undo, address, spot, allowance)
+    let was = slots::is_dirty_at(work, spot.slot);
+    load_at(board, work, registers, undo, address, spot, was, allowance)
 }
 
 fn load_running(
@@ -119,10 +121,12 @@ fn store_at(
     undo: LogState,
     address: u64,
     spot: Spot,
+    was: bool,
     value: u64,
     allowance: u32,
 ) -> Answer
     requires { ⌜ StoreReady (now board) (now work) undo address spot (registers .epoch) ⌝ }
+    requires { ⌜ Found (now work) registers (spot .slot) was ⌝ }
     ensures { λ r. ⌜ Answers allowance registers (now (board .entry)) (now (work .entry))
         (due (storeAt (now (board .entry)) (now (work .entry)) registers undo address spot value)) (now (board .exit)) (now (work .exit)) r ⌝ }
 {
@@ -136,8 +140,7 @@ fn store_at(
         value,
         Meter::new(allowance),
     );
-    let meter = done.meter;
-    finish(work, meter, allowance, 0, registers.leaving(done))
+    finish_slot(work, spot.slot, was, done, allowance, 0, registers)
 }
 
 fn store_passed(
@@ -155,6 +158,7 @@ fn store_passed(
 {
     let spot = slots::find(work, view.slots, address);
     let undo = view.undo(registers);
+    let was = slots::is_dirty_at(work, spot.slot);
     store_at(
         board,
         work,
@@ -162,6 +166,7 @@ fn store_passed(
         undo,
         address,
         spot,
+        was,
         value,
         allowance,
     )
@@ -257,15 +262,16 @@ fn evict_at(
     registers: Registers,
     undo: LogState,
     spot: Spot,
+    was: bool,
     allowance: u32,
 ) -> Answer
     requires { ⌜ SlotReady (now board) (now work) undo (spot .slot) ⌝ }
+    requires { ⌜ Found (now work) registers (spot .slot) was ⌝ }
     ensures { λ r. ⌜ Answers allowance registers (now (board .entry)) (now (work .entry)) (due (evictAt (now (work .entry)) registers undo spot)) (now (board .exit)) (now (work .exit)) r ⌝ }
 {
     let done = steps::evict(board, work, undo, spot, Meter::new(allowance));
-    let meter = done.meter;
     let held = layout::bit(spot.held);
-    finish(work, meter, allowance, held, registers.leaving(done))
+    finish_slot(work, spot.slot, was, done, allowance, held, registers)
 }
 
 fn evict_passed(
@@ -281,7 +287,8 @@ fn evict_passed(
 {
     let spot = slots::find(work, view.slots, address);
     let undo = view.undo(registers);
-    evict_at(board, work, registers, undo, spot, allowance)
+    let was = slots::is_dirty_at(work, spot.slot);
+    evict_at(board, work, registers, undo, spot, was, allowance)
 }
 
 fn evict_running(

@@ -1,15 +1,13 @@
-// Format, tally and the number of filter bits: each reads or writes one of the two memories, without registers or an allowance.
-ghost use Prim.Native.Nat.{_+_, _*_, _<_, _≤_};
-ghost use lib.ListN.{length};
+// Format, tally and the number of filter bits: each takes no allowance and returns no registers.
 ghost use mathlib.Core.Path.{_≡_};
 ghost use Rattle.status.specs.declared.Status.the-variants as status;
-ghost use Rattle.layout.specs.Memory.{slotWords};
-ghost use Rattle.picl.specs.Calls.{report as reported, dirtySlots, tallyReport, filterBitsReport};
-ghost use Rattle.picl.specs.Contracts.{Formats, CountsDirty};
+ghost use Rattle.picl.specs.Calls.{report as reported, tallyReport, filterBitsReport};
+ghost use Rattle.picl.specs.Contracts.{Formats};
 use crate::Report;
+use checks::Checked;
+use checks::Registers;
 use layout::BOARD_VERSION;
 use layout::SHAPE_AT;
-use layout::SLOT_WORDS;
 use layout::Shape;
 use status::Status;
 
@@ -41,29 +39,6 @@ pub fn format(board: &mut [u64], lines: u64, entries: u64) -> Report
     reporting(Status::Ok, 0)
 }
 
-// 1 for the word of a dirty slot, 0 for any other.
-fn dirty_at(work: &[u64], at: usize) -> u64
-    requires { ⌜ at < length (now work) ⌝ }
-    ensures { λ r. ⌜ CountsDirty (now (work .entry)) at r ⌝ }
-{
-    layout::bit(layout::is_dirty_word(work[at]))
-}
-
-// The dirty ones of the first slots.
-fn count_dirty(work: &[u64], slots: usize) -> u64
-    requires { ⌜ slotWords * slots ≤ length (now work) ⌝ }
-    ensures { λ r. ⌜ r ≡ dirtySlots (now (work .entry)) slots ⌝ }
-{
-    let end = SLOT_WORDS * slots;
-    let mut count: u64 = 0;
-    let mut at: usize = 0;
-    while at < end {
-        count += dirty_at(work, at);
-        at += SLOT_WORDS;
-    }
-    count
-}
-
 // The number of bits that are set in the undo buffer's filter.
 pub fn filter_bits(work: &[u64]) -> Report
     ensures { λ r. ⌜ r ≡ filterBitsReport (now (work .entry)) ⌝ }
@@ -76,12 +51,18 @@ pub fn filter_bits(work: &[u64]) -> Report
 }
 
 // The number of dirty lines that the cache holds.
-pub fn tally(work: &[u64]) -> Report
-    ensures { λ r. ⌜ r ≡ tallyReport (now (work .entry)) ⌝ }
+pub fn tally(board: &[u64], work: &[u64], registers: Registers) -> Report
+    ensures { λ r. ⌜ r ≡ tallyReport (now (board .entry)) (now (work .entry)) registers ⌝ }
 {
-    if !checks::is_good_work(work.len()) {
-        return reporting(Status::Work, 0);
+    let memories = checks::check_memories(board, work);
+    match memories {
+        Checked::Refused(status) => reporting(status, 0),
+        Checked::Passed(view) => {
+            let running = checks::check_registers(view, registers);
+            match running {
+                Checked::Refused(status) => reporting(status, 0),
+                Checked::Passed(_) => reporting(Status::Ok, registers.dirty),
+            }
+        }
     }
-    let slots = layout::slots_of(work.len());
-    reporting(Status::Ok, count_dirty(work, slots))
 }

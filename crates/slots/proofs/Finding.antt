@@ -14,7 +14,7 @@ use Rattle.layout.specs.Memory.{slotIn}
 use Rattle.layout.specs.Words.{Decoded, SlotFits, decodeSlot}
 use Rattle.slots.specs.declared.Bounds.{Bounds}
 use Rattle.slots.specs.declared.Spot.{Spot}
-use Rattle.slots.specs.Slots.{homeOf, IsHome, properTag, properFull, properSlot, properAt, properFor, holds, spotOf, entryDue, undoDue}
+use Rattle.slots.specs.Slots.{homeOf, IsHome, properTag, properFull, properSlot, properAt, properFor, dirtyAt, dirtyFor, holds, spotOf, entryDue, undoDue}
 use Rattle.slots.specs.Contracts.{SlotsReady}
 
 -- an address belongs in a slot that there is
@@ -79,6 +79,13 @@ pub proper-for : (b : Bounds) (work : List ℕ) (address k : ℕ) (t : Bool) →
     → t ≡ properFor b work address
 unfolding properFor
 proper-for b work address k t h a = rw (h .is) at a
+
+pub dirty-at : (work : List ℕ) (k : ℕ) (s : Slot) → Decoded SlotFits (slotIn work k) s → s .dirty ≡ dirtyAt work k
+dirty-at work k s d = rw (d .is)
+
+pub dirty-for : (work : List ℕ) (slots address k : ℕ) (t : Bool) → IsHome slots address k → t ≡ dirtyAt work k → t ≡ dirtyFor work slots address
+unfolding dirtyFor
+dirty-for work slots address k t h a = rw (h .is) at a
 
 module _ (work : List ℕ) (k address : ℕ) (s : Slot) (d : Decoded SlotFits (slotIn work k) s) where
   pub holds-none : not (s .valid) ≡ true → false ≡ holds work k address

@@ -1,5 +1,5 @@
 -- The slots of the write-back cache: which are proper, where an address belongs, and what a slot's two words become.
-use Prim.Native.Nat.{ℕ, _%_, _<_}
+use Prim.Native.Nat.{ℕ, zero, suc, _+_, _%_, _<_}
 use mathlib.Core.Path.{_≡_}
 use mathlib.Core.Bool.{Bool, true, false, cond, _&&_, _||_, not}
 use mathlib.Core.List.{List}
@@ -10,7 +10,7 @@ use Rattle.layout.specs.declared.Slot.{Slot}
 use Rattle.slots.specs.declared.Bounds.{Bounds}
 use Rattle.slots.specs.declared.Spot.{Spot}
 use Rattle.layout.specs.Memory.{slotIn, slotAt}
-use Rattle.layout.specs.Words.{encodeSlot, decodeSlot}
+use Rattle.layout.specs.Words.{encodeSlot, decodeSlot, bit}
 
 -- "Address a belongs in slot a mod S."
 unfoldable pub homeOf : (slots address : ℕ) → ℕ
@@ -46,6 +46,18 @@ holds work k address = slotIn work k .valid && eqb (slotIn work k .address) addr
 -- the slot that an address takes, and whether it is held there
 unfoldable pub spotOf : List ℕ → (slots address : ℕ) → Spot
 spotOf work slots address = record { slot = homeOf slots address; held = holds work (homeOf slots address) address }
+
+-- the line that stands in slot k is dirty, or the one in the slot of an address
+abbrev pub dirtyAt : List ℕ → (k : ℕ) → Bool
+dirtyAt work k = slotIn work k .dirty
+
+unfoldable pub dirtyFor : List ℕ → (slots address : ℕ) → Bool
+dirtyFor work slots address = dirtyAt work (homeOf slots address)
+
+-- "the number of slot words whose valid and dirty bits are both 1, whatever else they hold", of the first so many slots
+unfoldable pub dirtySlots : List ℕ → ℕ → ℕ
+dirtySlots work zero = 0
+dirtySlots work (suc k) = dirtySlots work k + bit (slotIn work k .valid && slotIn work k .dirty)
 
 -- a slot that holds a line as memory has it, and one whose line was stored to in an epoch
 abbrev pub cleanSlot : ℕ → Slot

@@ -6,7 +6,7 @@ ghost use mathlib.Core.Path.{_≡_};
 ghost use Rattle.layout.specs.Limits.{addressBits, epochBits};
 ghost use Rattle.layout.specs.Memory.{slotAt, slotWords, slotIn};
 ghost use Rattle.layout.specs.Words.{Decoded, SlotFits, encodeSlot};
-ghost use Rattle.slots.specs.Slots.{IsHome, properTag, properFull, properSlot, properAt, properFor, holds, spotOf};
+ghost use Rattle.slots.specs.Slots.{IsHome, properTag, properFull, properSlot, properAt, properFor, holds, spotOf, dirtyAt, dirtyFor};
 ghost use Rattle.slots.specs.Slots.{cleanSlot, dirtySlot, entryDue, undoDue};
 ghost use Rattle.slots.specs.Contracts.{SlotsReady, SpotReady};
 use layout::SLOT_WORDS;
@@ -103,6 +103,23 @@ pub fn slot_at(work: &[u64], k: usize) -> Slot
     ensures { λ r. ⌜ Decoded SlotFits (slotIn (now (work .entry)) k) r ⌝ }
 {
     Slot::decode(work[SLOT_WORDS * k])
+}
+
+// Whether the line in slot k is dirty.
+pub fn is_dirty_at(work: &[u64], k: usize) -> bool
+    requires { ⌜ slotAt k + slotWords ≤ length (now work) ⌝ }
+    ensures { λ r. ⌜ r ≡ dirtyAt (now (work .entry)) k ⌝ }
+{
+    let slot = slot_at(work, k);
+    slot.dirty
+}
+
+// Whether the line is dirty that stands in the slot of an address.
+pub fn is_dirty_for(work: &[u64], slots: usize, address: u64) -> bool
+    requires { ⌜ SpotReady (now work) slots address ⌝ }
+    ensures { λ r. ⌜ r ≡ dirtyFor (now (work .entry)) slots address ⌝ }
+{
+    is_dirty_at(work, home(slots, address))
 }
 
 // Whether slot k holds the line at an address.

@@ -1,4 +1,4 @@
-use Rattle.checks.proofs.Rows.{cursor-end, cursor-refused, cursor-passed, bounds-slots, cursor-within}
+use Rattle.checks.proofs.Rows.{cursor-end, cursor-refused, cursor-miscounted, cursor-passed, bounds-slots, cursor-within}
 use borrow.Author.Needs.{needs}
 use Rattle.checks.proofs.refusals.check_cursor.Statement.{statement}
 use Rattle.checks.proofs.refusals.check_cursor.Tie as tie
@@ -15,9 +15,27 @@ is-proper-at-requires c κs = search (bounds-slots, cursor-within)
 returns-2 : tie.Need-returns-2
 returns-2 c = search (cursor-refused)
 
+is-dirty-at-requires : tie.Need-is-dirty-at-requires
+is-dirty-at-requires c κs = search needs
+
+is-miscounted-requires : tie.Need-is-miscounted-requires
+is-miscounted-requires c κs = search needs
+
 returns-3 : tie.Need-returns-3
-returns-3 c = search (cursor-passed)
+returns-3 c = search (cursor-miscounted)
+
+returns-4 : tie.Need-returns-4
+returns-4 c = search (cursor-passed)
 
 pub check-cursor-spec : {M : Type 1} → statement M
 check-cursor-spec =
-    tie.close (tie.spec returns bounds-requires is-proper-at-requires returns-2 returns-3)
+    tie.close
+    (tie.spec
+    returns
+    bounds-requires
+    is-proper-at-requires
+    returns-2
+    is-dirty-at-requires
+    is-miscounted-requires
+    returns-3
+    returns-4)

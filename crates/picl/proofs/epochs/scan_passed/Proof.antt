@@ -1,4 +1,4 @@
-use Rattle.picl.proofs.Passing.{visit-ready, persist-ready}
+use Rattle.picl.proofs.Passing.{visit-ready, visit-found, persist-ready}
 use Rattle.picl.proofs.Calling.{scan-visits, scan-persists}
 use borrow.Author.Needs.{needs}
 use Rattle.picl.proofs.epochs.scan_passed.Statement.{statement}
@@ -10,11 +10,14 @@ undo-requires c κs = search needs
 scan-target-requires : tie.Need-scan-target-requires
 scan-target-requires c κs = search needs
 
+is-dirty-at-requires : tie.Need-is-dirty-at-requires
+is-dirty-at-requires c κs = search needs
+
 stepped-requires : tie.Need-stepped-requires
 stepped-requires c κs = search needs
 
 visit-at-requires : tie.Need-visit-at-requires
-visit-at-requires c κs = search (visit-ready)
+visit-at-requires c κs = (search (visit-ready), search (visit-found))
 
 same-length : tie.Need-same-length
 same-length c = search needs
@@ -46,6 +49,7 @@ scan-passed-spec =
     (tie.spec
     undo-requires
     scan-target-requires
+    is-dirty-at-requires
     stepped-requires
     visit-at-requires
     same-length

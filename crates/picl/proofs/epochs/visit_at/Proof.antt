@@ -1,4 +1,4 @@
-use Rattle.picl.proofs.Finishing.{acts-within}
+use Rattle.picl.proofs.Finishing.{acts-ready}
 use Rattle.picl.proofs.Calling.{visit-done}
 use borrow.Author.Needs.{needs}
 use Rattle.picl.proofs.epochs.visit_at.Statement.{statement}
@@ -10,11 +10,8 @@ new-requires c κs = search needs
 visit-requires : tie.Need-visit-requires
 visit-requires c κs = search needs
 
-leaving-requires : tie.Need-leaving-requires
-leaving-requires c κs = search needs
-
-finish-requires : tie.Need-finish-requires
-finish-requires c κs = search (acts-within)
+finish-slot-requires : tie.Need-finish-slot-requires
+finish-slot-requires c κs = search (acts-ready)
 
 same-length : tie.Need-same-length
 same-length c = search needs
@@ -28,11 +25,4 @@ returns c = search (visit-done)
 pub visit-at-spec : {M : Type 1} → statement M
 visit-at-spec =
     tie.close
-    (tie.spec
-    new-requires
-    visit-requires
-    leaving-requires
-    finish-requires
-    same-length
-    same-length-2
-    returns)
+    (tie.spec new-requires visit-requires finish-slot-requires same-length same-length-2 returns)

@@ -1,4 +1,4 @@
-use Rattle.picl.proofs.Finishing.{acts-within}
+use Rattle.picl.proofs.Finishing.{acts-ready}
 use Rattle.picl.proofs.Calling.{evict-done}
 use borrow.Author.Needs.{needs}
 use Rattle.picl.proofs.lines.evict_at.Statement.{statement}
@@ -13,11 +13,8 @@ evict-requires c κs = search needs
 bit-requires : tie.Need-bit-requires
 bit-requires c κs = search needs
 
-leaving-requires : tie.Need-leaving-requires
-leaving-requires c κs = search needs
-
-finish-requires : tie.Need-finish-requires
-finish-requires c κs = search (acts-within)
+finish-slot-requires : tie.Need-finish-slot-requires
+finish-slot-requires c κs = search (acts-ready)
 
 same-length : tie.Need-same-length
 same-length c = search needs
@@ -35,8 +32,7 @@ evict-at-spec =
     new-requires
     evict-requires
     bit-requires
-    leaving-requires
-    finish-requires
+    finish-slot-requires
     same-length
     same-length-2
     returns)

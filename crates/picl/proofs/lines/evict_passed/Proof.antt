@@ -1,4 +1,4 @@
-use Rattle.picl.proofs.Passing.{evict-ready}
+use Rattle.picl.proofs.Passing.{evict-ready, line-within, line-found}
 use Rattle.picl.proofs.Calling.{evict-found}
 use borrow.Author.Needs.{needs}
 use Rattle.picl.proofs.lines.evict_passed.Statement.{statement}
@@ -10,8 +10,11 @@ find-requires c κs = search needs
 undo-requires : tie.Need-undo-requires
 undo-requires c κs = search needs
 
+is-dirty-at-requires : tie.Need-is-dirty-at-requires
+is-dirty-at-requires c κs = search (line-within)
+
 evict-at-requires : tie.Need-evict-at-requires
-evict-at-requires c κs = search (evict-ready)
+evict-at-requires c κs = (search (evict-ready), search (line-found))
 
 same-length : tie.Need-same-length
 same-length c = search needs
@@ -25,4 +28,11 @@ returns c = search (evict-found)
 pub evict-passed-spec : {M : Type 1} → statement M
 evict-passed-spec =
     tie.close
-    (tie.spec find-requires undo-requires evict-at-requires same-length same-length-2 returns)
+    (tie.spec
+    find-requires
+    undo-requires
+    is-dirty-at-requires
+    evict-at-requires
+    same-length
+    same-length-2
+    returns)

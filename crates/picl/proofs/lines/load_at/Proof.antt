@@ -1,4 +1,4 @@
-use Rattle.picl.proofs.Finishing.{carries-within}
+use Rattle.picl.proofs.Finishing.{carries-ready}
 use Rattle.picl.proofs.Calling.{load-done}
 use borrow.Author.Needs.{needs}
 use Rattle.picl.proofs.lines.load_at.Statement.{statement}
@@ -22,11 +22,8 @@ mul-value c = search needs
 slice-read-value : tie.Need-slice-read-value
 slice-read-value c = search needs
 
-leaving-requires : tie.Need-leaving-requires
-leaving-requires c κs = search needs
-
-finish-requires : tie.Need-finish-requires
-finish-requires c κs = search (carries-within)
+finish-slot-requires : tie.Need-finish-slot-requires
+finish-slot-requires c κs = search (carries-ready, c .before .before .before .before .before .before .before .before .before .before .before .before .before .pre .0 .slot, c .before .before .before .before .before .before .before .before .before .before .before .before .before .pre .1)
 
 same-length : tie.Need-same-length
 same-length c = search needs
@@ -35,7 +32,7 @@ same-length-2 : tie.Need-same-length-2
 same-length-2 c = search needs
 
 returns : tie.Need-returns
-returns c = search (load-done)
+returns c = search (load-done, c .before .before .before .before .before .before .before .before .before .before .before .before .before .before .before .before .pre .1)
 
 pub load-at-spec : {M : Type 1} → statement M
 load-at-spec =
@@ -47,8 +44,7 @@ load-at-spec =
     load-requires
     mul-value
     slice-read-value
-    leaving-requires
-    finish-requires
+    finish-slot-requires
     same-length
     same-length-2
     returns)

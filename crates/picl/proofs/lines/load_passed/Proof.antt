@@ -1,4 +1,4 @@
-use Rattle.picl.proofs.Passing.{fill-ready}
+use Rattle.picl.proofs.Passing.{fill-ready, line-within, line-found}
 use Rattle.picl.proofs.Calling.{load-found}
 use borrow.Author.Needs.{needs}
 use Rattle.picl.proofs.lines.load_passed.Statement.{statement}
@@ -10,8 +10,11 @@ find-requires c κs = search needs
 undo-requires : tie.Need-undo-requires
 undo-requires c κs = search needs
 
+is-dirty-at-requires : tie.Need-is-dirty-at-requires
+is-dirty-at-requires c κs = search (line-within)
+
 load-at-requires : tie.Need-load-at-requires
-load-at-requires c κs = search (fill-ready)
+load-at-requires c κs = (search (fill-ready), search (line-found))
 
 same-length : tie.Need-same-length
 same-length c = search needs
@@ -25,4 +28,11 @@ returns c = search (load-found)
 pub load-passed-spec : {M : Type 1} → statement M
 load-passed-spec =
     tie.close
-    (tie.spec find-requires undo-requires load-at-requires same-length same-length-2 returns)
+    (tie.spec
+    find-requires
+    undo-requires
+    is-dirty-at-requires
+    load-at-requires
+    same-length
+    same-length-2
+    returns)

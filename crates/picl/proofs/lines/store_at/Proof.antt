@@ -1,4 +1,4 @@
-use Rattle.picl.proofs.Finishing.{carries-within}
+use Rattle.picl.proofs.Finishing.{carries-ready}
 use Rattle.picl.proofs.Calling.{store-done}
 use borrow.Author.Needs.{needs}
 use Rattle.picl.proofs.lines.store_at.Statement.{statement}
@@ -10,11 +10,8 @@ new-requires c κs = search needs
 store-requires : tie.Need-store-requires
 store-requires c κs = search needs
 
-leaving-requires : tie.Need-leaving-requires
-leaving-requires c κs = search needs
-
-finish-requires : tie.Need-finish-requires
-finish-requires c κs = search (carries-within)
+finish-slot-requires : tie.Need-finish-slot-requires
+finish-slot-requires c κs = search (carries-ready)
 
 same-length : tie.Need-same-length
 same-length c = search needs
@@ -28,11 +25,4 @@ returns c = search (store-done)
 pub store-at-spec : {M : Type 1} → statement M
 store-at-spec =
     tie.close
-    (tie.spec
-    new-requires
-    store-requires
-    leaving-requires
-    finish-requires
-    same-length
-    same-length-2
-    returns)
+    (tie.spec new-requires store-requires finish-slot-requires same-length same-length-2 returns)

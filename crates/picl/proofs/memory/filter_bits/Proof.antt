@@ -1,5 +1,4 @@
-use Rattle.picl.proofs.Asking.{asked-refused, filter-counted, buffer-within, buffer-lent}
-use Rattle.picl.specs.Calls.{filterBitsVerdict, filterBitsReport}
+use Rattle.picl.proofs.Asking.{filter-refused, filter-counted, buffer-within, buffer-lent}
 use borrow.Author.Needs.{needs}
 use Rattle.picl.proofs.memory.filter_bits.Statement.{statement}
 use Rattle.picl.proofs.memory.filter_bits.Tie as tie
@@ -11,8 +10,7 @@ reporting-requires : tie.Need-reporting-requires
 reporting-requires c κs = search needs
 
 returns : tie.Need-returns
-unfolding filterBitsReport filterBitsVerdict
-returns c = search (asked-refused)
+returns c = search (filter-refused)
 
 buffer-at-requires : tie.Need-buffer-at-requires
 buffer-at-requires c κs = search (buffer-within)

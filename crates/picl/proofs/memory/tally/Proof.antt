@@ -1,39 +1,58 @@
-use Rattle.picl.proofs.Asking.{asked-refused, tally-counted, buffer-within}
-use Rattle.picl.specs.Calls.{tallyVerdict, tallyReport}
+use Rattle.checks.specs.Stages.{memories-fits, memories-refused, registers-refused}
+use Rattle.picl.proofs.Asking.{tally-refused, tally-answered}
 use borrow.Author.Needs.{needs}
 use Rattle.picl.proofs.memory.tally.Statement.{statement}
 use Rattle.picl.proofs.memory.tally.Tie as tie
 
-is-good-work-requires : tie.Need-is-good-work-requires
-is-good-work-requires c κs = search needs
+check-memories-requires : tie.Need-check-memories-requires
+check-memories-requires c κs = search needs
+
+enum-known-memories : tie.Need-enum-known-memories
+enum-known-memories c = search needs
 
 reporting-requires : tie.Need-reporting-requires
 reporting-requires c κs = search needs
 
-returns : tie.Need-returns
-unfolding tallyReport tallyVerdict
-returns c = search (asked-refused)
+enum-known-memories-2 : tie.Need-enum-known-memories-2
+enum-known-memories-2 c = search needs
 
-slots-of-requires : tie.Need-slots-of-requires
-slots-of-requires c κs = search (buffer-within)
+check-registers-requires : tie.Need-check-registers-requires
+check-registers-requires c κs = search (memories-fits)
 
-count-dirty-requires : tie.Need-count-dirty-requires
-count-dirty-requires c κs = search needs
+enum-known-running : tie.Need-enum-known-running
+enum-known-running c = search needs
 
 reporting-requires-2 : tie.Need-reporting-requires-2
 reporting-requires-2 c κs = search needs
 
+enum-told : tie.Need-enum-told
+enum-told c = search needs
+
+reporting-requires-3 : tie.Need-reporting-requires-3
+reporting-requires-3 c κs = search needs
+
+returns : tie.Need-returns
+returns c = search (tally-refused, memories-refused)
+
 returns-2 : tie.Need-returns-2
-returns-2 c = search (tally-counted)
+returns-2 c = search (tally-refused, registers-refused)
+
+returns-3 : tie.Need-returns-3
+returns-3 c = search (tally-answered)
 
 pub tally-spec : {M : Type 1} → statement M
 tally-spec =
     tie.close
     (tie.spec
-    is-good-work-requires
+    check-memories-requires
+    enum-known-memories
     reporting-requires
-    returns
-    slots-of-requires
-    count-dirty-requires
+    enum-known-memories-2
+    check-registers-requires
+    enum-known-running
     reporting-requires-2
-    returns-2)
+    enum-told
+    reporting-requires-3
+    returns
+    returns-2
+    returns-3)
