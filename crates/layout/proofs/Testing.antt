@@ -1,14 +1,14 @@
 -- The tests on a packed word as it is: a comparison of whole words is one of their topmost fields.
 use Prim.Native.Nat.{ℕ, _+_, _-_, _*_, _/_, _%_, _^_, _<_, _≤_}
 use mathlib.Core.Path.{_≡_, refl, sym, ap₂, _∙_}
-use mathlib.Core.Bool.{Bool, true, false, _&&_}
+use mathlib.Core.Bool.{Bool, true, false}
 use native.Mathlib.Omega.{arith}
-use borrow.Author.Tests.{ltb-true, ltb-false, leb-true, leb-false, eqb-true, eqb-false, lt-ltb, le-ltb, le-leb, lt-leb}
-use lib.Dec.{ltb, leb, eqb}
+use borrow.Author.Tests.{ltb-true, ltb-false, leb-true, leb-false, lt-ltb, le-ltb, le-leb, lt-leb}
+use lib.Dec.{ltb, leb}
 use lib.Pow.{mod-pow-add}
-use Rattle.layout.specs.Limits.{wordBits, epochBits, addressBits, flagBits}
+use Rattle.layout.specs.Limits.{wordBits, epochBits, addressBits}
 use Rattle.layout.specs.Fields.{width, unpack, decode}
-use Rattle.layout.specs.Words.{decodeEntry, decodeSlot}
+use Rattle.layout.specs.Words.{decodeEntry}
 use Rattle.layout.specs.Laws.{entry-laws}
 
 -- tests that hold together and fail together
@@ -58,23 +58,3 @@ below-first from till h =
 
 pub range : (w : ℕ) → ltb (fromTop w) (tillTop w) ≡ ltb (decodeEntry w .from) (decodeEntry w .till)
 range w = ap₂ ltb (from-first w) (till-alone w) ∙ below-first (decodeEntry w .from) (decodeEntry w .till) (entry-laws .decoded-fits w .till)
-
--- a slot word's two flags are its topmost fields
-abbrev bothFlags : ℕ
-bothFlags = 2 ^ (wordBits - flagBits) + 2 ^ (wordBits - flagBits - flagBits)
-
-module _ (w : ℕ) (h : w < 2 ^ wordBits) where
-  abbrev validBit : ℕ
-  validBit = w / 2 ^ (wordBits - flagBits) % 2 ^ flagBits
-
-  abbrev dirtyBit : ℕ
-  dirtyBit = w / 2 ^ (wordBits - flagBits - flagBits) % 2 ^ flagBits
-
-  flags : (valid dirty : Bool) → eqb validBit 1 ≡ valid → eqb dirtyBit 1 ≡ dirty → leb bothFlags w ≡ valid && dirty
-  flags true true v d = le-leb bothFlags w (omega (arith, eqb-true validBit 1 v, eqb-true dirtyBit 1 d))
-  flags true false v d = lt-leb bothFlags w (omega (arith, eqb-false dirtyBit 1 d))
-  flags false dirty v d = lt-leb bothFlags w (omega (arith, eqb-false validBit 1 v))
-
-  pub dirty-word : leb bothFlags w ≡ decodeSlot w .valid && decodeSlot w .dirty
-  unfolding decode unpack width
-  dirty-word = flags _ _ refl refl

@@ -12,7 +12,6 @@ ghost use Rattle.layout.specs.Limits.{epochBits, mostLines, mostEntries,
 ghost use Rattle.layout.specs.Memory.{linesAt, boardWords, bufferWords, workWords, slotsOf, bufferAt};
 ghost use Prim.Native.Nat.{_^_, _<_, _≤_};
 ghost use lib.Dec.{ltb, leb};
-ghost use mathlib.Core.Bool.{_&&_};
 ghost use mathlib.Core.Path.{_≡_};
 pub use word_bytes::BYTES_OF_WORD;
 pub use word_bytes::bytes_of;
@@ -310,13 +309,6 @@ impl Slot {
             + self.tag * SLOT_TAG
             + self.spare
     }
-}
-
-// Whether a slot word's valid and dirty bits are both 1: they are its topmost.
-pub fn is_dirty_word(word: u64) -> bool
-    ensures { λ r. ⌜ r ≡ decodeSlot word .valid && decodeSlot word .dirty ⌝ }
-{
-    word >= SLOT_VALID + SLOT_DIRTY
 }
 
 // The first word of a trace's record: the call's kind, the line's address, and the bits that are kept zero.
