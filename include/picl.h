@@ -47,6 +47,10 @@
  *     word 0                s         the running epoch
  *     word 1                b         how many undo entries are buffered, 0 to 31
  *     word 2                c         the scan's cursor, 0 to S
+ *     word 3                d         how many slots are dirty, 0 to S
+ *
+ * A program that was built with a header in which PICL_REGISTER_WORDS was 3 has to be built anew: picl_tally's arguments are
+ * others, and every other call that takes registers answers PICL_TOO_SHORT where it is lent three words.
  *
  * THE ANSWER is PICL_ANSWER_WORDS words that each call fills, and the number that it returns:
  *
@@ -126,7 +130,7 @@ extern "C" {
 /* The words of each lent memory. */
 #define PICL_BOARD_WORDS(lines, entries) (2 + 2 * (size_t)(entries) + (size_t)(lines))
 #define PICL_WORK_WORDS(slots) (2 * (size_t)(slots) + 2 * PICL_BUFFER_ENTRIES + PICL_FILTER_WORDS)
-#define PICL_REGISTER_WORDS 3
+#define PICL_REGISTER_WORDS 4
 #define PICL_ANSWER_WORDS 2
 
 /* The bytes of a record, and of a text that has room for every name. */
@@ -137,6 +141,7 @@ extern "C" {
 #define PICL_EPOCH 0
 #define PICL_BUFFERED 1
 #define PICL_CURSOR 2
+#define PICL_DIRTY 3
 #define PICL_VALUE 0
 #define PICL_STORES 1
 
@@ -149,20 +154,24 @@ extern "C" {
  *
  *     format                1
  *     power-up              1 2 3 12
- *     load, evict           1 2 4 5 6 7 14 12
- *     store                 1 2 4 5 6 7 14 8 12
+ *     load, evict           1 2 4 5 6 4 7 14 12
+ *     store                 1 2 4 5 6 4 7 14 8 12
  *     commit                1 2 4 7 14 9 10
- *     scan                  1 2 4 6 7 14 11 12
- *     tally, filter_bits    2
+ *     scan                  1 2 4 6 4 7 14 11 12
+ *     tally                 1 2 4
+ *     filter_bits           2
  *     trace_write           13
  *     name                  none: it refuses no number
+ *
+ * The second 4 holds the count to the slot that the call visits: d is 0 and the slot is dirty, or d is S and it is not. A scan
+ * with c = S visits no slot, and tests neither 6 nor that.
  */
 enum {
     PICL_OK = 0,
     PICL_SHAPE = 1,      /* the board's first two words or its length are not those of a board; format: N, L or the length */
     PICL_WORK = 2,       /* the work memory's length is not PICL_WORK_WORDS(S), S from 1 to 256 */
     PICL_ENTRY = 3,      /* power-up: a log entry is not proper (see THE BOARD MEMORY); value says which, the oldest counted 0 */
-    PICL_REGS = 4,       /* the registers are not proper for this board and work memory */
+    PICL_REGS = 4,       /* the registers are not proper for this board and work memory, or d not for the slot visited */
     PICL_ADDRESS = 5,    /* there is no such line */
     PICL_SLOT = 6,       /* the slot that the call visits is not proper */
     PICL_BUFFER = 7,     /* a buffered undo entry is not proper */
@@ -226,8 +235,10 @@ uint64_t picl_commit(const uint64_t *board, size_t board_words, const uint64_t *
 uint64_t picl_scan(uint64_t *board, size_t board_words, uint64_t *work, size_t work_words, uint64_t *registers,
                    size_t register_words, uint32_t allowance, uint64_t *answer, size_t answer_words);
 
-/* The number of dirty lines that the cache holds, as value. */
-uint64_t picl_tally(const uint64_t *work, size_t work_words, uint64_t *answer, size_t answer_words);
+/* The number of dirty lines that the cache holds, for a display, as value. It is read from the registers, which it leaves as they
+ * are: it costs the same for every S. Stores are 0. */
+uint64_t picl_tally(const uint64_t *board, size_t board_words, const uint64_t *work, size_t work_words,
+                    const uint64_t *registers, size_t register_words, uint64_t *answer, size_t answer_words);
 
 /* How many bits of the filter are set, 0 to 4,096, as value. Many set bits mean many false hits: with b entries there are at
  * most 2b of a controller's own. */

@@ -61,6 +61,9 @@ enum {
     TENSION_SPAN = 50,
 
     BITS_AN_ENTRY = 2,
+    SLOT_WORDS = 2,
+    DIRTY_SLOT = 3, /* the two topmost bits of a slot's first word: a line is held, and it is dirty */
+    TOP_BITS_AT = 62,
 
     PICKS_AN_EPOCH = 20,
     EPOCHS = 40,
@@ -265,12 +268,27 @@ static void check_filter(void)
         fail("the filter has more bits than the buffered entries", bits[PICL_VALUE]);
 }
 
+/* What the panel shows: how many lines are dirty. It is read from the registers, and every slot agrees with it. */
+static void check_panel(void)
+{
+    uint64_t shown[PICL_ANSWER_WORDS], dirty = 0;
+    uint64_t number = picl_tally(LENT_BOARD, LENT_WORK, LENT_REGISTERS, shown, PICL_ANSWER_WORDS);
+    if (number != PICL_OK)
+        fail("tally answered", number);
+    for (size_t slot = 0; slot < SLOTS; slot++)
+        dirty += work[SLOT_WORDS * slot] >> TOP_BITS_AT == DIRTY_SLOT;
+    if (shown[PICL_VALUE] != dirty)
+        fail("the panel shows another number of dirty lines than the slots have", shown[PICL_VALUE]);
+}
+
 /* Commits the running epoch, in which so many picks were woven. */
 static uint64_t end_epoch(uint64_t picks, uint64_t halvings)
 {
     uint64_t number = commit();
     if (number == PICL_OK) {
         check_filter();
+    check_panel();
+        check_panel();
         uint64_t committed = registers[PICL_EPOCH] - 1;
         noted[committed].picks = noted[committed - 1].picks + picks;
         noted[committed].halvings = halvings;
@@ -313,6 +331,7 @@ static uint64_t check_lines(void)
 {
     uint64_t number = PICL_OK, persisted = registers[PICL_EPOCH] - 1;
     check_filter();
+    check_panel();
     for (uint64_t address = 0; number == PICL_OK && address < LINES; address++) {
         uint64_t value;
         number = load(address, &value);

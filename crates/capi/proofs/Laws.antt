@@ -12,15 +12,20 @@ use Rattle.checks.specs.declared.Registers.{Registers}
 use Rattle.picl.specs.declared.Answer.{Answer}
 use Rattle.picl.specs.declared.Report.{Report}
 use Rattle.picl.specs.Answers.{Verdict}
-use Rattle.picl.specs.Calls.{formatReport, formatAfter}
+use Rattle.picl.specs.Calls.{formatReport, formatAfter, tallyReport}
 use Rattle.picl.specs.Contracts.{Answers, Formats}
-use Rattle.capi.specs.Places.{epochAt, bufferedAt, registerWords, answerWords, hasAnswer, hasPlaces}
+use Rattle.capi.specs.Places.{epochAt, bufferedAt, cursorAt, registerWords, answerWords, hasAnswer, hasPlaces, readRegisters}
 use Rattle.capi.specs.Contracts.{Gives, Reports}
-use Rattle.capi.specs.Crossing.{tooShort, back, crossing}
+use Rattle.capi.specs.Crossing.{tooShort, back, crossing, tallyCrossing}
 use Rattle.capi.specs.Crossing.{reported, reporting, formatCrossing}
 
 pub buffered-within : (registers : List ℕ) (epoch : ℕ) → registerWords ≤ length registers → bufferedAt < length (set registers epochAt epoch)
 buffered-within registers epoch h = rw (length-set registers epochAt epoch) (omega arith)
+
+pub cursor-within : (registers : List ℕ) (epoch buffered : ℕ) → registerWords ≤ length registers
+    → cursorAt < length (set (set registers epochAt epoch) bufferedAt buffered)
+cursor-within registers epoch buffered h =
+    rw (length-set (set registers epochAt epoch) bufferedAt buffered, length-set registers epochAt epoch) (omega arith)
 
 module _ (registers answer : List ℕ) where
   pub registers-lent : hasPlaces registers answer ≡ true → registerWords ≤ length registers
@@ -77,6 +82,21 @@ module _ (answer answer′ : List ℕ) (t : Bool) (is : t ≡ hasAnswer answer) 
       reporting-made (formatReport board lines entries) board (formatAfter board lines entries) answer t is given board′ answer′ number lent
       (x .report) (x .board-left) gave
 
-  -- tally and the number of filter bits
+  -- the number of filter bits
   pub asked-made : (work : List ℕ) (told : Report) → given ≡ told → reported number work answer′ ≡ reporting told work work answer
   asked-made work told x = reporting-made told work work answer t is given work answer′ number lent x refl gave
+
+-- the tally
+module _ (board work registers answer : List ℕ) (t : Bool) (is : t ≡ hasPlaces registers answer) where
+  pub tally-short : not t ≡ true → back tooShort board work registers answer ≡ tallyCrossing board work registers answer
+  unfolding tallyCrossing
+  tally-short e = let p = sym is ∙ not-true t e in rw p
+
+  pub tally-made : (given : Report) (answer′ : List ℕ) (number : ℕ) → not t ≡ false → given ≡ tallyReport board work (readRegisters registers)
+      → Reports answer given answer′ number → back number board work registers answer′ ≡ tallyCrossing board work registers answer
+  unfolding tallyCrossing
+  tally-made given answer′ number e x g = let p = sym is ∙ not-false t e in rw (p, g .number-is, g .answer-left, x)
+
+  pub tally-lent : not t ≡ false → hasAnswer answer ≡ true
+  unfolding hasPlaces
+  tally-lent e = and-right (leb registerWords (length registers)) (hasAnswer answer) (places-lent registers answer t is e)

@@ -52,7 +52,14 @@ abbrev pub powerUpCrossing : (allowance : ℕ) → (board work registers answer 
 powerUpCrossing allowance board work registers answer =
     crossing allowance zero (powerUpVerdict board work) board work registers answer
 
--- "format and tally do neither" take nor return registers, nor does the status question: the one memory that the call is lent, and the answer
+-- request 5/13: the tally reads board, work memory and registers, and leaves all three as they are
+unfoldable pub tallyCrossing : (board work registers answer : List ℕ) → Crossing
+tallyCrossing board work registers answer =
+    let a = tallyReport board work (readRegisters registers) in
+    cond (hasPlaces registers answer) (back (numberOf (a .status)) board work registers (writeAnswer answer (a .value) (a .stores)))
+    (back tooShort board work registers answer)
+
+-- format and the status question are lent one memory and no registers
 pub record Reported : Type 0 where
   pub number : ℕ
   pub memory : List ℕ
@@ -68,9 +75,6 @@ reporting r memory memory′ answer =
 abbrev pub formatCrossing : (board answer : List ℕ) → (lines entries : ℕ) → Reported
 formatCrossing board answer lines entries =
     reporting (formatReport board lines entries) board (formatAfter board lines entries) answer
-
-abbrev pub tallyCrossing : (work answer : List ℕ) → Reported
-tallyCrossing work answer = reporting (tallyReport work) work work answer
 
 abbrev pub filterBitsCrossing : (work answer : List ℕ) → Reported
 filterBitsCrossing work answer = reporting (filterBitsReport work) work work answer

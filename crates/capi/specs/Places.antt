@@ -18,8 +18,11 @@ bufferedAt = 1
 abbrev pub cursorAt : ℕ
 cursorAt = 2
 
+abbrev pub dirtyAt : ℕ
+dirtyAt = 3
+
 abbrev pub registerWords : ℕ
-registerWords = 3
+registerWords = 4
 
 abbrev pub valueAt : ℕ
 valueAt = 0
@@ -41,10 +44,11 @@ unfoldable pub hasRecordPlaces : (bytes answer : List ℕ) → Bool
 hasRecordPlaces bytes answer = leb recordBytes (length bytes) && hasAnswer answer
 
 unfoldable pub readRegisters : List ℕ → Registers
-readRegisters words = given (getD words epochAt 0) (getD words bufferedAt 0) (getD words cursorAt 0)
+readRegisters words = given (getD words epochAt 0) (getD words bufferedAt 0) (getD words cursorAt 0) (getD words dirtyAt 0)
 
 abbrev pub writeRegisters : List ℕ → Registers → List ℕ
-writeRegisters words r = set (set (set words epochAt (r .epoch)) bufferedAt (r .buffered)) cursorAt (r .cursor)
+writeRegisters words r =
+    set (set (set (set words epochAt (r .epoch)) bufferedAt (r .buffered)) cursorAt (r .cursor)) dirtyAt (r .dirty)
 
 abbrev pub writeAnswer : List ℕ → (value stores : ℕ) → List ℕ
 writeAnswer words value stores = set (set words valueAt value) storesAt stores

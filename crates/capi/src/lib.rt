@@ -147,13 +147,19 @@ pub extern "C" fn picl_scan(
 }
 
 #[no_mangle]
-pub extern "C" fn picl_tally(work: &[u64], answer: &mut [u64]) -> u64
-    ensures { λ r. ⌜ reported r (now (work .entry)) (now (answer .exit)) ≡ tallyCrossing (now (work .entry)) (now (answer .entry)) ⌝ }
+pub extern "C" fn picl_tally(
+    board: &[u64],
+    work: &[u64],
+    registers: &[u64],
+    answer: &mut [u64],
+) -> u64
+    ensures { λ r. ⌜ back r (now (board .entry)) (now (work .entry)) (now (registers .entry)) (now (answer .exit))
+        ≡ tallyCrossing (now (board .entry)) (now (work .entry)) (now (registers .entry)) (now (answer .entry)) ⌝ }
 {
-    if !has_answer(answer) {
+    if !has_places(registers, answer) {
         return TOO_SHORT;
     }
-    let counted = picl::tally(work);
+    let counted = reading::tally(board, work, registers);
     report(answer, counted)
 }
 

@@ -15,7 +15,9 @@ const BUFFERED_AT: usize = 1;
 
 const CURSOR_AT: usize = 2;
 
-const REGISTER_WORDS: usize = 3;
+const DIRTY_AT: usize = 3;
+
+const REGISTER_WORDS: usize = 4;
 
 const VALUE_AT: usize = 0;
 
@@ -49,6 +51,7 @@ pub fn read_registers(registers: &[u64]) -> Registers
         registers[EPOCH_AT],
         registers[BUFFERED_AT],
         registers[CURSOR_AT],
+        registers[DIRTY_AT],
     )
 }
 
@@ -59,6 +62,7 @@ fn write_registers(registers: &mut [u64], new: Registers)
     registers[EPOCH_AT] = new.epoch;
     registers[BUFFERED_AT] = new.buffered;
     registers[CURSOR_AT] = new.cursor;
+    registers[DIRTY_AT] = new.dirty;
 }
 
 fn write_answer(answer: &mut [u64], value: u64, stores: u32)

@@ -1,11 +1,14 @@
 // The calls on registers that are read from their places: each is the call of `picl` of the same name.
 ghost use Prim.Native.Nat.{_≤_};
 ghost use lib.ListN.{length};
+ghost use mathlib.Core.Path.{_≡_};
 ghost use Rattle.picl.specs.Calls as call;
+ghost use Rattle.picl.specs.Calls.{tallyReport};
 ghost use Rattle.picl.specs.Contracts.{Calls};
 ghost use Rattle.capi.specs.Places.{registerWords, readRegisters};
 use crate::places::read_registers;
 use picl::Answer;
+use picl::Report;
 
 pub fn load(
     board: &mut [u64],
@@ -66,4 +69,11 @@ pub fn scan(board: &mut [u64], work: &mut [u64], registers: &[u64], allowance: u
     ensures { λ r. ⌜ Calls call.scan allowance (readRegisters (now (registers .entry))) (now (board .entry)) (now (work .entry)) (now (board .exit)) (now (work .exit)) r ⌝ }
 {
     picl::scan(board, work, read_registers(registers), allowance)
+}
+
+pub fn tally(board: &[u64], work: &[u64], registers: &[u64]) -> Report
+    requires { ⌜ registerWords ≤ length (now registers) ⌝ }
+    ensures { λ r. ⌜ r ≡ tallyReport (now (board .entry)) (now (work .entry)) (readRegisters (now (registers .entry))) ⌝ }
+{
+    picl::tally(board, work, read_registers(registers))
 }

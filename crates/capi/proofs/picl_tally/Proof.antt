@@ -1,34 +1,34 @@
-use Rattle.capi.proofs.Laws.{answer-tested, reporting-short, asked-made}
+use Rattle.capi.proofs.Laws.{registers-tested, tally-short, tally-made, tally-lent}
 use borrow.Author.Needs.{needs}
 use Rattle.capi.proofs.picl_tally.Statement.{statement}
 use Rattle.capi.proofs.picl_tally.Tie as tie
 
-has-answer-requires : tie.Need-has-answer-requires
-has-answer-requires c κs = search needs
+has-places-requires : tie.Need-has-places-requires
+has-places-requires c κs = search needs
 
 same-length : tie.Need-same-length
 same-length c = search needs
 
 returns : tie.Need-returns
-returns c = search (reporting-short)
+returns c = search (tally-short)
 
 tally-requires : tie.Need-tally-requires
-tally-requires c κs = search needs
+tally-requires c κs = search (registers-tested)
 
 report-requires : tie.Need-report-requires
-report-requires c κs = search (answer-tested)
+report-requires c κs = search (tally-lent)
 
 same-length-2 : tie.Need-same-length-2
 same-length-2 c = search needs
 
 returns-2 : tie.Need-returns-2
-returns-2 c = search (asked-made)
+returns-2 c = search (tally-made)
 
 pub picl-tally-spec : {M : Type 1} → statement M
 picl-tally-spec =
     tie.close
     (tie.spec
-    has-answer-requires
+    has-places-requires
     same-length
     returns
     tally-requires

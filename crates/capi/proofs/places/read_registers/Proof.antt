@@ -12,6 +12,9 @@ shared-slice-read-given-2 c = search needs
 shared-slice-read-given-3 : tie.Need-shared-slice-read-given-3
 shared-slice-read-given-3 c = search needs
 
+shared-slice-read-given-4 : tie.Need-shared-slice-read-given-4
+shared-slice-read-given-4 c = search needs
+
 given-requires : tie.Need-given-requires
 given-requires c κs = search needs
 
@@ -26,5 +29,6 @@ read-registers-spec =
     shared-slice-read-given
     shared-slice-read-given-2
     shared-slice-read-given-3
+    shared-slice-read-given-4
     given-requires
     returns)

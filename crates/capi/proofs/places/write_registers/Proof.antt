@@ -1,4 +1,4 @@
-use Rattle.capi.proofs.Laws.{buffered-within}
+use Rattle.capi.proofs.Laws.{buffered-within, cursor-within}
 use borrow.Author.Needs.{needs}
 use Rattle.capi.proofs.places.write_registers.Statement.{statement}
 use Rattle.capi.proofs.places.write_registers.Tie as tie
@@ -10,7 +10,10 @@ slice-write-registers-2 : tie.Need-slice-write-registers-2
 slice-write-registers-2 c = search (buffered-within)
 
 slice-write-registers-3 : tie.Need-slice-write-registers-3
-slice-write-registers-3 c = search needs
+slice-write-registers-3 c = search (cursor-within)
+
+slice-write-registers-4 : tie.Need-slice-write-registers-4
+slice-write-registers-4 c = search needs
 
 same-length : tie.Need-same-length
 same-length c = search needs
@@ -25,5 +28,6 @@ write-registers-spec =
     slice-write-registers
     slice-write-registers-2
     slice-write-registers-3
+    slice-write-registers-4
     same-length
     returns)
