@@ -1,5 +1,5 @@
 -- What each call comes to on a controller at work, once its tests have passed.
-use Prim.Native.Nat.{ℕ, _+_, _*_, _≤_, _<_}
+use Prim.Native.Nat.{ℕ, _+_, _-_, _*_, _≤_, _<_}
 use mathlib.Core.Path.{_≡_, refl, sym, ap, subst, _∙_}
 use mathlib.Core.Bool.{Bool, true, false, not, cond, _&&_, _||_}
 use mathlib.Core.List.{List}
@@ -23,20 +23,22 @@ use Rattle.steps.specs.Effects.{Effect, nothing, flushing, flushingIf, writingO
 use Rattle.slots.specs.Slots.{entryDue, undoDue}
 use Rattle.steps.specs.Effects.{storing, evicting, cleaning, visiting, persisting}
 use Rattle.slots.specs.Laws.{spot-below}
-use Rattle.slots.specs.Slots.{spotOf, holds, dirtied}
+use Rattle.slots.specs.Slots.{spotOf, holds, dirtied, dirtyAt, dirtySlots}
 use Rattle.checks.specs.declared.Registers.{Registers}
 use Rattle.checks.specs.declared.View.{View}
 use Rattle.checks.specs.Contracts.{Running}
-use Rattle.checks.specs.Registers.{leaving, committed, stepped, restarted}
+use Rattle.checks.specs.Registers.{leaving, recounted, committed, stepped, restarted}
 use Rattle.checks.specs.View.{viewOf, boundsOf, undoOf}
 use Rattle.picl.specs.Calls as calls
-use Rattle.picl.specs.Calls.{Call, carried, loadAt, loadOutcome, storeAt, storeOutcome, evictAt, evictOutcome, commitOutcome}
+use Rattle.picl.specs.Calls.{Call, carried, carriedAt, loadAt, loadOutcome, storeAt, storeOutcome, evictAt, evictOutcome, commitOutcome}
 use Rattle.steps.specs.Effects.{scanTarget}
 use Rattle.picl.specs.Calls.{scanOutcome}
 use Rattle.picl.specs.Answers.{Outcome, success, cutOff, answerOf}
 use Rattle.board.specs.Verdict.{due}
 use Rattle.reference.specs.Machine.{Reference, stores, commits, persists, does}
 use Rattle.volatile.specs.Cache.{spot-belongs, spot-holds}
+use Rattle.volatile.specs.Dirty.{dirty-changed, dirty-kept}
+use Rattle.volatile.specs.Moves.{Moved, moved-load, moved-evict, moved-store, moved-visit, moved-persist}
 use Rattle.volatile.specs.Proper.{AtHome, FullSlot}
 use Rattle.refine.specs.Along.{Along, along-none, along-then}
 use Rattle.refine.specs.Flush.{Keeps, nothing-keeps}
@@ -56,14 +58,15 @@ down-stays {m = m} d v r = omega (arith, r .ahead, ap (λ (x : Registers). x .ep
 -- an effect that keeps the invariant, as a call's outcome
 carried-goes : {N L : ℕ} {b : Bounds} {cursor : ℕ} {m : Machine} {g : Reference} {e : Effect} {cursor′ : ℕ} {g′ : Reference} (c : Call)
     (base : Registers) (value : ℕ) → b .lines ≡ N → Keeps L b cursor (m .board) g e cursor′ g′ → base .epoch ≡ b .epoch → base .cursor ≡ cursor′
-    → e .undo .buffered < bufferPlaces → does g (seenCall c value) ≡ g′ → length (m .work) ≡ workWords (b .slots)
+    → e .undo .buffered < bufferPlaces → base .dirty ≡ dirtySlots (e .work) (b .slots) → does g (seenCall c value) ≡ g′
+    → length (m .work) ≡ workWords (b .slots)
     → g′ .persisted * (slotsOf (length (m .work)) + 1) + base .cursor
     ≡ progress (slotsOf (length (m .work))) m g + countScan (seenCall c value)
     → Fares N L m g c (due (carried value base e))
-carried-goes {N} {L} {b} {m = m} {g} {e} {g′ = g′} c base value lines x epoch at few moves words further =
+carried-goes {N} {L} {b} {m = m} {g} {e} {g′ = g′} c base value lines x epoch at few count moves words further =
     goes (carried value base e) (subst (λ (n : ℕ). Along n L (m .board) g (e .stores)) lines (x .along))
     (rw moves
-    (is-up (subst (λ (n : ℕ). Up n L (carriedOut m (carried value base e)) g′) lines (up-of (x .after) (leaving base (e .undo)) epoch refl at few))))
+    (is-up (subst (λ (n : ℕ). Up n L (carriedOut m (carried value base e)) g′) lines (up-of (x .after) (leaving base (e .undo)) epoch refl at few count))))
     (x .after .slotted .words ∙ sym words) (rw moves further)
 
 still : (p c : ℕ) → p + c ≡ p + c + 0
@@ -135,6 +138,22 @@ module _ {N L : ℕ} {m : Machine} {g : Reference} (up : Up N L m g) where
   words : length (m .work) ≡ workWords (b .slots)
   words = up .ok .slotted .words
 
+  -- the count, before a call and after an effect on slot k
+  count-before : m .registers .dirty ≡ dirtySlots (m .work) (b .slots)
+  unfolding viewOf
+  count-before = up .counted
+
+  slot-goes : {cursor′ : ℕ} {g′ : Reference} {e : Effect} (c : Call) (base : Registers) (value k : ℕ) → k < b .slots
+      → Keeps L b (m .registers .cursor) (m .board) g e cursor′ g′ → Moved (b .slots) k (m .work) (e .work) → base .epoch ≡ b .epoch
+      → base .dirty ≡ m .registers .dirty → base .cursor ≡ cursor′ → e .undo .buffered < bufferPlaces → does g (seenCall c value) ≡ g′
+      → g′ .persisted * (slotsOf (length (m .work)) + 1) + base .cursor
+      ≡ progress (slotsOf (length (m .work))) m g + countScan (seenCall c value)
+      → Fares N L m g c (due (carriedAt value base (m .work) k e))
+  slot-goes {e = e} c base value k below x moved epoch dirty at few seen further =
+      let count : base .dirty - bit (dirtyAt (m .work) k) + bit (dirtyAt (e .work) k) ≡ dirtySlots (e .work) (b .slots) =
+      rw (dirty, count-before) (dirty-changed (up .ok .slotted) k below (x .after .slotted) refl (moved .others)) in
+      carried-goes c (recounted base (dirtyAt (m .work) k) (dirtyAt (e .work) k)) value lines x epoch at few count seen words further
+
   all : ltb (m .registers .cursor) (v .slots) ≡ false → m .registers .cursor ≡ v .slots
   all e = omega (arith, ltb-false (m .registers .cursor) (v .slots) e, up .ok .pass .within)
 
@@ -168,7 +187,9 @@ module _ {N L : ℕ} {m : Machine} {g : Reference} (up : Up N L m g) where
     pub load-goes : Fares N L m g (calls.load a) (due (loadOutcome (m .board) (m .work) (m .registers) a v))
     unfolding loadOutcome loadAt
     load-goes =
-        carried-goes (calls.load a) (m .registers) _ lines loads refl refl (omega (arith, fewer .buffered, up .few)) refl words (still _ _)
+        slot-goes (calls.load a) (m .registers) _ (spot .slot) below loads
+        (moved-load (b .slots) (spot .slot) (m .work) words u (m .board) a (spot .held)) refl refl refl
+        (omega (arith, fewer .buffered, up .few)) refl (still _ _)
 
     pub load-up-value : (allowance : ℕ)
         → answered allowance (m .registers) (m .board) (m .work) (due (loadOutcome (m .board) (m .work) (m .registers) a v)) .status ≡ status.Ok
@@ -186,11 +207,15 @@ module _ {N L : ℕ} {m : Machine} {g : Reference} (up : Up N L m g) where
     evict-goes = go (spot .held)
       where
         go : (t : Bool)
-            → Fares N L m g (calls.evict a) (due (carried (bit t) (m .registers) (cond t (emptying u (m .work) (spot .slot)) (nothing u (m .work)))))
+            → Fares N L m g (calls.evict a)
+            (due (carriedAt (bit t) (m .registers) (m .work) (spot .slot) (cond t (emptying u (m .work) (spot .slot)) (nothing u (m .work)))))
         go true =
-            carried-goes (calls.evict a) (m .registers) 1 lines (emptying-keeps (up .ok) (spot .slot) below) refl refl
-            (omega (arith, emptying-fewer u (m .work) (spot .slot) .buffered, up .few)) refl words (still _ _)
-        go false = carried-goes (calls.evict a) (m .registers) 0 lines (nothing-keeps (up .ok)) refl refl (up .few) refl words (still _ _)
+            slot-goes (calls.evict a) (m .registers) 1 (spot .slot) below (emptying-keeps (up .ok) (spot .slot) below)
+            (moved-evict (b .slots) (spot .slot) (m .work) words u true) refl refl refl
+            (omega (arith, emptying-fewer u (m .work) (spot .slot) .buffered, up .few)) refl (still _ _)
+        go false =
+            slot-goes (calls.evict a) (m .registers) 0 (spot .slot) below (nothing-keeps (up .ok))
+            (moved-evict (b .slots) (spot .slot) (m .work) words u false) refl refl refl (up .few) refl (still _ _)
 
     -- "Store .. as load if not held. Then ..": the board and the reference machine go on from where the load left them
     store-keeps : (value : ℕ)
@@ -216,8 +241,9 @@ module _ {N L : ℕ} {m : Machine} {g : Reference} (up : Up N L m g) where
         → Fares N L m g (calls.store a value) (due (storeOutcome (m .board) (m .work) (m .registers) a value v))
     unfolding storeOutcome storeAt
     store-goes value room =
-        carried-goes (calls.store a value) (m .registers) 0 lines (store-keeps value room) refl refl
-        (storing-few (m .board) (m .work) u a (m .registers .epoch) value spot (omega (arith, fewer .buffered, up .few))) refl words (still _ _)
+        slot-goes (calls.store a value) (m .registers) 0 (spot .slot) below (store-keeps value room)
+        (moved-store (b .slots) (spot .slot) (m .work) words u (m .board) a (spot .held) (m .registers .epoch) value) refl refl refl
+        (storing-few (m .board) (m .work) u a (m .registers .epoch) value spot (omega (arith, fewer .buffered, up .few))) refl (still _ _)
 
   pub commit-goes : m .registers .epoch < lastEpoch → m .registers .epoch < v .control .persisted + mostAhead
       → Fares N L m g calls.commit (due (commitOutcome (m .work) (m .registers)))
@@ -226,7 +252,7 @@ module _ {N L : ℕ} {m : Machine} {g : Reference} (up : Up N L m g) where
       goes (commitOutcome (m .work) (m .registers)) (along-none N L (m .board) g)
       (is-up
       (subst (λ (n : ℕ). Up n L (record { board = m .board; work = m .work; registers = committed (m .registers) }) (commits g)) lines
-      (up-of (commit-ok (up .ok) early window) (committed (m .registers)) refl refl refl (up .few))))
+      (up-of (commit-ok (up .ok) early window) (committed (m .registers)) refl refl refl (up .few) count-before)))
       refl (still _ _)
 
   -- the epoch that the scan persists is the uncached machine's next
@@ -235,7 +261,9 @@ module _ {N L : ℕ} {m : Machine} {g : Reference} (up : Up N L m g) where
   next = ap scanTarget (up .ok .persisted ∙ up .ok .safe .named)
 
   abbrev pub visit : Outcome
-  visit = carried 0 (stepped (m .registers)) (visiting u (m .work) (m .registers .cursor) (scanTarget (v .control .persisted)))
+  visit =
+      carriedAt 0 (stepped (m .registers)) (m .work) (m .registers .cursor)
+      (visiting u (m .work) (m .registers .cursor) (scanTarget (v .control .persisted)))
 
   abbrev pub persist : Outcome
   persist =
@@ -249,18 +277,21 @@ module _ {N L : ℕ} {m : Machine} {g : Reference} (up : Up N L m g) where
     where
       go : (t : Bool) → ltb (m .registers .cursor) (v .slots) ≡ t → Fares N L m g calls.scan (due (cond t visit persist))
       go true e =
-          carried-goes calls.scan (stepped (m .registers)) 0 lines
-          (visiting-keeps (up .ok) waits (ltb-true (m .registers .cursor) (v .slots) e)) refl refl
-          (omega (arith, visiting-fewer u (m .work) (m .registers .cursor) (scanTarget (v .control .persisted)) .buffered, up .few)) refl words
-          (omega arith)
+          let target = scanTarget (v .control .persisted) in
+          let below = ltb-true (m .registers .cursor) (v .slots) e in
+          slot-goes calls.scan (stepped (m .registers)) 0 (m .registers .cursor) below (visiting-keeps (up .ok) waits below)
+          (moved-visit (b .slots) (m .registers .cursor) (m .work) words u target) refl refl refl
+          (omega (arith, visiting-fewer u (m .work) (m .registers .cursor) target .buffered, up .few)) refl (omega arith)
       go false e =
           let target = scanTarget (v .control .persisted) in
           let some : eqb target 0 ≡ false = ne-eqb target 0 (omega arith) in
           let done = persisting-ok (up .ok) waits (all e) in
+          let kept = moved-persist (b .slots) (b .slots) (m .work) words u (m .board) target in
           goes persist (subst (λ (n : ℕ). Along n L (m .board) g (persist .stores)) lines (persisting-along (up .ok) waits))
           (rw some
           (is-up
           (subst (λ (n : ℕ). Up n L (carriedOut m persist) (persists g target)) lines
-          (up-of done (persist .registers) refl (persisting-none (m .board) (m .work) u target) refl (omega arith)))))
+          (up-of done (persist .registers) refl (persisting-none (m .board) (m .work) u target) refl (omega arith)
+          (count-before ∙ sym (dirty-kept (m .work) (persist .work) (b .slots) (kept .others)))))))
           (done .slotted .words ∙ sym words)
           (rw (some, next, all e) (round (g .persisted) (v .slots)))

@@ -33,9 +33,11 @@ use Rattle.history.specs.Restore.{power-up-lines}
 use Rattle.bounds.specs.Costs.{recover-most}
 use Rattle.durable.specs.Proper.{reads-passes, reads-proper}
 use Rattle.durable.specs.View.{Sized, undoWith}
+use Rattle.volatile.specs.Dirty.{dirty-none}
 use Rattle.refine.specs.State.{Off, Ok}
 use Rattle.refine.specs.Wake.{waking-along, waking-reads, waking-ok}
 use Rattle.crash.specs.Statement.{powerUp, Machine, Result, answered, made, fed, logOn}
+use Rattle.crash.specs.Fares.{NoneDirty, cut-none, not-cut-ok}
 use Rattle.crash.specs.State.{Up, Holds, is-up, is-down, up-of, holds-off, holds-ended}
 
 -- ---- the tests
@@ -116,10 +118,11 @@ module _ {N L : ℕ} {board : List ℕ} {g : Reference} (off : Off N L board g) 
     wake-up =
         rw (passed .work-words)
         (up-of (waking-ok off (viewOf board lent .slots) (passed .slots-some) (passed .slots-most)) (registers.woken (off .control .persisted)) refl refl
-        refl (omega arith))
+        refl (omega arith) (sym (dirty-none (viewOf board lent .slots))))
 
 pub record PoweredUp (N L : ℕ) (g : Reference) (lent : List ℕ) (k : ℕ) (x : Result) : Type 0 where
   pub holds : Holds N L (x .left) (does g (fed (powerUp lent k) x))
+  pub cut : x .status ≡ status.Cut → NoneDirty (x .left)
 
 module _ {N L : ℕ} {m : Machine} {g : Reference} (h : Holds N L m g) (lent : List ℕ) (allowance : ℕ) where
   off : Off N L (m .board) g
@@ -128,7 +131,12 @@ module _ {N L : ℕ} {m : Machine} {g : Reference} (h : Holds N L m g) (lent : L
   refused-kept : (s : Status) → s ≡ status.Work
       → PoweredUp N L g lent allowance (answered allowance registers.zero (m .board) lent (refused s 0))
   unfolding answerOf boardAfter workAfter
-  refused-kept s e = rw e (record { holds = is-down (record { off = off; registers = refl; ended = holds-ended h }) })
+  refused-kept s e =
+      rw e
+      (record {
+        holds = is-down (record { off = off; registers = refl; ended = holds-ended h });
+        cut = λ same. let z : _≡_ {A = ℕ} 0 1 = cc in absurd (differ z);
+      })
 
   due-kept : Shaped (m .board) lent (viewOf (m .board) lent)
       → PoweredUp N L g lent allowance (answered allowance registers.zero (m .board) lent (due (wakeAt (m .board) lent (undoWith (off .control) L))))
@@ -140,9 +148,16 @@ module _ {N L : ℕ} {m : Machine} {g : Reference} (h : Holds N L m g) (lent : L
 
       go : (t : Bool) → leb (length ss) allowance ≡ t
           → PoweredUp N L g lent allowance (answered allowance registers.zero (m .board) lent (due (wakeAt (m .board) lent (undoWith (off .control) L))))
-      go true e = record { holds = rw (e, take-all allowance ss (leb-true _ _ e)) (is-up (wake-up off lent passed)) }
+      go true e =
+          record {
+            holds = rw (e, take-all allowance ss (leb-true _ _ e)) (is-up (wake-up off lent passed));
+            cut = rw e (λ same. absurd (not-cut-ok same));
+          }
       go false e =
-          record { holds = rw e (is-down (record { off = waking-along off allowance (leb-false _ _ e); registers = refl; ended = holds-ended h })) }
+          record {
+            holds = rw e (is-down (record { off = waking-along off allowance (leb-false _ _ e); registers = refl; ended = holds-ended h }));
+            cut = rw e (λ same. (refl, cut-none (length lent)));
+          }
 
   pub power-up-kept : PoweredUp N L g lent allowance (made m (powerUp lent allowance))
   unfolding made powerUpVerdict

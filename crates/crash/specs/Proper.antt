@@ -13,21 +13,22 @@ use Rattle.status.specs.declared.Status.{Status}
 use Rattle.status.specs.declared.Status.the-variants as status
 use Rattle.slots.specs.Slots.{undoDue}
 use Rattle.slots.specs.Laws.{spot-below}
-use Rattle.slots.specs.Slots.{spotOf, properAt, properFor}
+use Rattle.slots.specs.Slots.{spotOf, properAt, properFor, dirtyAt, dirtyFor}
 use Rattle.checks.specs.declared.Checked.the-variants.{Refused, Passed}
 use Rattle.checks.specs.declared.Registers.{Registers}
 use Rattle.checks.specs.declared.View.{View}
 use Rattle.checks.specs.Refusals.{then, roomRows, memoriesChecked, runningChecked, lineChecked, storeChecked, commitChecked, scanChecked}
-use Rattle.checks.specs.View.{viewOf, boundsOf, goodShape, goodWork, properEpoch, properCounts, properRegisters, goodBuffer, goodFilter}
+use Rattle.checks.specs.View.{viewOf, boundsOf, goodShape, goodWork, properEpoch, properCounts, properRegisters, miscounted, goodBuffer, goodFilter}
 use Rattle.reference.specs.Machine.{Reference}
 use Rattle.history.specs.Lines.{entries-proper}
 use Rattle.volatile.specs.Buffer.{entries-buffer-proper}
+use Rattle.volatile.specs.Dirty.{dirty-most, dirty-some, dirty-not-all}
 use Rattle.volatile.specs.Filter.{Exact, exact-marked}
 use Rattle.picl.specs.Answers as picl
 use Rattle.board.specs.Verdict.{refused, due}
 use Rattle.picl.specs.Answers.{success, cutOff, answerOf}
 use Rattle.picl.specs.Calls as calls
-use Rattle.picl.specs.Calls.{Call, asked, tallyVerdict, filterBitsVerdict, judged, loadOutcome, loadVerdict, storeOutcome, storeVerdict, evictOutcome, evictVerdict, commitOutcome, commitVerdict}
+use Rattle.picl.specs.Calls.{Call, tallyVerdict, filterBitsVerdict, judged, loadOutcome, loadVerdict, storeOutcome, storeVerdict, evictOutcome, evictVerdict, commitOutcome, commitVerdict}
 use Rattle.picl.specs.Calls.{scanOutcome, scanVerdict}
 use Rattle.crash.specs.Statement.{call, Machine, Both, made, Awake, Expected, ok, address, room, waiting, last, none, cut}
 use Rattle.crash.specs.State.{Up, Holds, is-up, is-down}
@@ -58,6 +59,14 @@ due-not-room k r o = go (leb (length (o .stores)) k)
     go : (t : Bool) → cond t (success o) (cutOff k) .status ≡ status.Room → ⊥
     go true e = let z : _≡_ {A = ℕ} 0 1 = cc in omega arith
     go false e = let z : _≡_ {A = ℕ} 0 1 = cc in omega arith
+
+and-none : (t : Bool) → t && false ≡ false
+and-none true = refl
+and-none false = refl
+
+or-none : (t : Bool) → t && false || false ≡ false
+or-none true = refl
+or-none false = refl
 
 module _ {N L : ℕ} {m : Machine} {g : Reference} (up : Up N L m g) where
   abbrev v : View
@@ -102,7 +111,10 @@ module _ {N L : ℕ} {m : Machine} {g : Reference} (up : Up N L m g) where
   unfolding properCounts viewOf
   counts =
       and-true _ _
-      (and-true _ _ (and-true _ _ (lt-ltb (r .buffered) bufferPlaces (up .few)) (le-leb (r .cursor) (slotsOf (length (m .work))) (up .ok .pass .within)))
+      (and-true _ _
+      (and-true _ _
+      (and-true _ _ (lt-ltb (r .buffered) bufferPlaces (up .few)) (le-leb (r .cursor) (slotsOf (length (m .work))) (up .ok .pass .within)))
+      (le-leb (r .dirty) (slotsOf (length (m .work))) (omega (arith, up .counted, dirty-most (m .work) (slotsOf (length (m .work)))))))
       (idle (r .cursor) (up .ok .pass .waits)))
       (le-leb (controlIn (m .board) .length + r .buffered) (shapeIn (m .board) .entries) (omega (arith, up .ok .room, up .ok .ring)))
 
@@ -117,6 +129,23 @@ module _ {N L : ℕ} {m : Machine} {g : Reference} (up : Up N L m g) where
   home : (a : ℕ) → properFor (boundsOf v r) (m .work) a ≡ true
   unfolding properFor spotOf
   home a = slots (spotOf (m .work) (v .slots) a .slot) (spot-below (m .work) (v .slots) a (up .ok .slotted .some))
+
+  -- and the count beside a slot
+  counted-at : (k : ℕ) → k < v .slots → miscounted v r (dirtyAt (m .work) k) ≡ false
+  unfolding miscounted viewOf
+  counted-at k h = go (dirtyAt (m .work) k) refl
+    where
+      go : (d : Bool) → dirtyAt (m .work) k ≡ d → eqb (r .dirty) 0 && d || eqb (r .dirty) (slotsOf (length (m .work))) && not d ≡ false
+      go true e =
+          let some = dirty-some (up .ok .slotted) k h e in
+          rw (ne-eqb (r .dirty) 0 (λ x. omega (arith, up .counted))) (and-none (eqb (r .dirty) (slotsOf (length (m .work)))))
+      go false e =
+          let not-all = dirty-not-all (up .ok .slotted) k h e in
+          rw (ne-eqb (r .dirty) (slotsOf (length (m .work))) (λ x. omega (arith, up .counted))) (or-none (eqb (r .dirty) 0))
+
+  counted-for : (a : ℕ) → miscounted v r (dirtyFor (m .work) (v .slots) a) ≡ false
+  unfolding dirtyFor spotOf
+  counted-for a = counted-at (spotOf (m .work) (v .slots) a .slot) (spot-below (m .work) (v .slots) a (up .ok .slotted .some))
 
   -- 7
   buffered : goodBuffer v (m .work) r ≡ true
@@ -134,7 +163,7 @@ module _ {N L : ℕ} {m : Machine} {g : Reference} (up : Up N L m g) where
 
   line-answered : (a k : ℕ) (f : View → picl.Outcome) → Expected (answerOf k r (judged (lineChecked (m .board) (m .work) r a) f) .status)
   unfolding lineChecked runningChecked memoriesChecked
-  line-answered a k f = rw (shaped, worked, proper, home a, buffered, filtered) (go (leb (v .shape .lines) a))
+  line-answered a k f = rw (shaped, worked, proper, home a, counted-for a, buffered, filtered) (go (leb (v .shape .lines) a))
     where
       go : (t : Bool) → Expected (answerOf k r (judged (cond t (Refused status.Address) (Passed v)) f) .status)
       go true = refusal-answered k r status.Address address
@@ -145,7 +174,7 @@ module _ {N L : ℕ} {m : Machine} {g : Reference} (up : Up N L m g) where
 
   store-answered : (a k : ℕ) (f : View → picl.Outcome) → Expected (answerOf k r (judged (storeChecked (m .board) (m .work) r a) f) .status)
   unfolding storeChecked lineChecked runningChecked memoriesChecked
-  store-answered a k f = rw (shaped, worked, proper, home a, buffered, filtered) (go (leb (v .shape .lines) a) (crowded a) refl)
+  store-answered a k f = rw (shaped, worked, proper, home a, counted-for a, buffered, filtered) (go (leb (v .shape .lines) a) (crowded a) refl)
     where
       go : (t c : Bool) → crowded a ≡ c
           → Expected (answerOf k r (judged (then (cond t (Refused status.Address) (Passed v)) (λ w. roomRows w (m .work) r a)) f) .status)
@@ -171,9 +200,16 @@ module _ {N L : ℕ} {m : Machine} {g : Reference} (up : Up N L m g) where
       go true e = rw (slots (r .cursor) (ltb-true _ _ e))
       go false e = refl
 
+  cursor-counted : ltb (r .cursor) (v .slots) && miscounted v r (dirtyAt (m .work) (r .cursor)) ≡ false
+  cursor-counted = go (ltb (r .cursor) (v .slots)) refl
+    where
+      go : (t : Bool) → ltb (r .cursor) (v .slots) ≡ t → t && miscounted v r (dirtyAt (m .work) (r .cursor)) ≡ false
+      go true e = counted-at (r .cursor) (ltb-true _ _ e)
+      go false e = refl
+
   scan-answered : (k : ℕ) (f : View → picl.Outcome) → Expected (answerOf k r (judged (scanChecked (m .board) (m .work) r) f) .status)
   unfolding scanChecked runningChecked memoriesChecked
-  scan-answered k f = rw (shaped, worked, proper, cursor-proper, buffered, filtered) (go (eqb (r .epoch) (v .control .persisted + 1)))
+  scan-answered k f = rw (shaped, worked, proper, cursor-proper, cursor-counted, buffered, filtered) (go (eqb (r .epoch) (v .control .persisted + 1)))
     where
       go : (t : Bool) → Expected (answerOf k r (judged (cond t (Refused status.None) (Passed v)) f) .status)
       go true = refusal-answered k r status.None none
@@ -183,7 +219,7 @@ module _ {N L : ℕ} {m : Machine} {g : Reference} (up : Up N L m g) where
   store-full : (a k : ℕ) (f : View → picl.Outcome) → answerOf k r (judged (storeChecked (m .board) (m .work) r a) f) .status ≡ status.Room
       → v .control .length + r .buffered ≡ L
   unfolding storeChecked lineChecked runningChecked memoriesChecked
-  store-full a k f = rw (shaped, worked, proper, home a, buffered, filtered) (go (leb (v .shape .lines) a) (crowded a) refl)
+  store-full a k f = rw (shaped, worked, proper, home a, counted-for a, buffered, filtered) (go (leb (v .shape .lines) a) (crowded a) refl)
     where
       go : (t c : Bool) → crowded a ≡ c
           → answerOf k r (judged (then (cond t (Refused status.Address) (Passed v)) (λ w. roomRows w (m .work) r a)) f) .status ≡ status.Room
@@ -197,18 +233,23 @@ module _ {N L : ℕ} {m : Machine} {g : Reference} (up : Up N L m g) where
       go true false e = λ same. absurd (refusal-not-room k r same)
       go false false e = rw e (λ same. absurd (due-not-room k r (f v) same))
 
-  asked-expected : (value k : ℕ) → Expected (answerOf k r (asked (m .work) r value) .status)
-  asked-expected value k = rw worked (due-answered k r _)
+  tally-answered : (k : ℕ) → Expected (answerOf k r (tallyVerdict (m .board) (m .work) r) .status)
+  unfolding tallyVerdict runningChecked memoriesChecked
+  tally-answered k = rw (shaped, worked, proper) (due-answered k r _)
+
+  filter-bits-answered : (k : ℕ) → Expected (answerOf k r (filterBitsVerdict (m .work) r) .status)
+  unfolding filterBitsVerdict
+  filter-bits-answered k = rw worked (due-answered k r _)
 
   pub call-expected : (c : Call) (k : ℕ) → Expected (made m (call c k) .status)
-  unfolding made loadVerdict storeVerdict evictVerdict commitVerdict scanVerdict tallyVerdict filterBitsVerdict
+  unfolding made loadVerdict storeVerdict evictVerdict commitVerdict scanVerdict
   call-expected (calls.load a) k = line-answered a k (loadOutcome (m .board) (m .work) r a)
   call-expected (calls.store a w) k = store-answered a k (storeOutcome (m .board) (m .work) r a w)
   call-expected (calls.evict a) k = line-answered a k (evictOutcome (m .work) r a)
   call-expected calls.commit k = commit-answered k (λ w. commitOutcome (m .work) r)
   call-expected calls.scan k = scan-answered k (scanOutcome (m .board) (m .work) r)
-  call-expected calls.tally k = asked-expected _ k
-  call-expected calls.filterBits k = asked-expected _ k
+  call-expected calls.tally k = tally-answered k
+  call-expected calls.filterBits k = filter-bits-answered k
 
   -- the filter is exactly the bits of the buffered entries
   pub filter-exact : Exact (bufferIn (m .work)) (r .buffered)

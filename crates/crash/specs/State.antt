@@ -11,6 +11,7 @@ use Rattle.layout.specs.Limits.{bufferPlaces}
 use Rattle.layout.specs.Memory.{slotsOf, workWords, shapeIn, controlIn}
 use Rattle.undo.specs.declared.LogState.{LogState}
 use Rattle.slots.specs.declared.Bounds.{Bounds}
+use Rattle.slots.specs.Slots.{dirtySlots}
 use Rattle.checks.specs.declared.Registers.{Registers}
 use Rattle.checks.specs.Registers.{zero}
 use Rattle.checks.specs.View.{viewOf, boundsOf, undoOf}
@@ -18,7 +19,7 @@ use Rattle.reference.specs.Machine.{Reference}
 use Rattle.durable.specs.Reads.{reads-persisted}
 use Rattle.refine.specs.State.{Off, Ok}
 use Rattle.refine.specs.Flush.{ok-off}
-use Rattle.crash.specs.Statement.{Machine}
+use Rattle.crash.specs.Statement.{Machine, dirtyIn}
 
 pub record Up (N L : ℕ) (m : Machine) (g : Reference) : Type 0 where
   pub lines : shapeIn (m .board) .lines ≡ N
@@ -26,6 +27,8 @@ pub record Up (N L : ℕ) (m : Machine) (g : Reference) : Type 0 where
       Ok L (boundsOf (viewOf (m .board) (m .work)) (m .registers)) (m .registers .cursor) (m .board) (m .work)
       (undoOf (viewOf (m .board) (m .work)) (m .registers)) g
   pub few : m .registers .buffered < bufferPlaces
+  -- request 5/13
+  pub counted : m .registers .dirty ≡ dirtyIn (m .work)
 
 pub record Down (N L : ℕ) (m : Machine) (g : Reference) : Type 0 where
   pub off : Off N L (m .board) g
@@ -41,10 +44,10 @@ slots-same slots words e = omega arith
 
 -- a controller at work, by the words that it has
 pub up-of : {L : ℕ} {b : Bounds} {c : ℕ} {board work : List ℕ} {u : LogState} {g : Reference} → Ok L b c board work u g → (r : Registers)
-    → r .epoch ≡ b .epoch → r .buffered ≡ u .buffered → r .cursor ≡ c → u .buffered < bufferPlaces
+    → r .epoch ≡ b .epoch → r .buffered ≡ u .buffered → r .cursor ≡ c → u .buffered < bufferPlaces → r .dirty ≡ dirtySlots work (b .slots)
     → Up (b .lines) L (record { board = board; work = work; registers = r }) g
 unfolding viewOf
-up-of {L} {b} {c} {board} {work} {u} {g} o r e n k few =
+up-of {L} {b} {c} {board} {work} {u} {g} o r e n k few count =
     let shape = o .reads .sized .shape in
     let lines : b .lines ≡ shapeIn board .lines = sym (ap (λ (s : Shape). s .lines) shape) in
     let entries : u .entries ≡ shapeIn board .entries = o .ring ∙ sym (ap (λ (s : Shape). s .entries) shape) in
@@ -62,6 +65,7 @@ up-of {L} {b} {c} {board} {work} {u} {g} o r e n k few =
           (subst (λ (x : ℕ). Ok L (boundsOf (viewOf board work) r) x board work u g) (sym k)
           (subst (λ (x : Bounds). Ok L x c board work u g) bounds o));
       few = omega (arith, n);
+      counted = rw slots at count;
     }
 
 pub holds-off : {N L : ℕ} {m : Machine} {g : Reference} → Holds N L m g → Off N L (m .board) g

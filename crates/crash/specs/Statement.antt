@@ -15,6 +15,7 @@ use Rattle.status.specs.Numbers.{numberOf}
 use Rattle.undo.specs.declared.LogState.{LogState}
 use Rattle.undo.specs.Filter.{isSet}
 use Rattle.undo.specs.Log.{properAt, isBitBuffered}
+use Rattle.slots.specs.Slots.{dirtySlots}
 use Rattle.checks.specs.declared.Registers.{Registers}
 use Rattle.checks.specs.Registers.{zero}
 use Rattle.checks.specs.View.{goodWork}
@@ -174,6 +175,10 @@ pub data Expected : Status → Type 0 where
   none : Expected status.None
   cut : Expected status.Cut
 
+-- the old tally: the number of dirty slots of a work memory
+abbrev pub dirtyIn : List ℕ → ℕ
+dirtyIn work = dirtySlots work (slotsOf (length work))
+
 -- ---- what holds after every list
 
 pub record Consistent (N L : ℕ) (s : Both) : Type 0 where
@@ -211,6 +216,13 @@ pub record Consistent (N L : ℕ) (s : Both) : Type 0 where
   -- and, of request 3/13, the filter is exactly the bits of the buffered entries
   pub filter-exact : Awake s → (i : ℕ) → i < filterSize
       → isSet (bufferIn (s .machine .work)) i ≡ isBitBuffered (bufferIn (s .machine .work)) (s .machine .registers .buffered) i
+  -- request 5/13: "Keep the count of dirty slots in the registers, in demand 3's lists true after each accepted call and each cut"
+  pub count-true : Awake s → s .machine .registers .dirty ≡ dirtyIn (s .machine .work)
+  pub none-after-cut : (x : Step) → made (s .machine) x .status ≡ status.Cut
+      → (made (s .machine) x .left .registers .dirty ≡ 0) × (dirtyIn (made (s .machine) x .left .work) ≡ 0)
+  -- "and an accepted one in these lists equals the old count"
+  pub tallies : (k : ℕ) → made (s .machine) (call calls.tally k) .status ≡ status.Ok
+      → made (s .machine) (call calls.tally k) .value ≡ dirtyIn (s .machine .work)
 
 -- "Demand 3 is one claim about the whole list."
 abbrev pub Demand3 : Type 0

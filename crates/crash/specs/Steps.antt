@@ -2,30 +2,33 @@
 use Prim.Native.Nat.{ℕ}
 use mathlib.Core.Path.{_≡_, refl, sym}
 use mathlib.Core.Bool.{Bool, true, false, cond, false≢true}
-use mathlib.Core.List.{List, [], _++_}
+use mathlib.Core.List.{List, _++_}
 use native.Mathlib.Omega.{arith}
+use lib.Dec.{leb}
 use lib.ListN.{length}
 use Rattle.board.specs.Stores.{applied}
+use Rattle.layout.specs.Memory.{bufferIn}
+use Rattle.undo.specs.Filter.{bitsSet}
 use Rattle.board.specs.Verdict.{refused, due}
 use Rattle.status.specs.declared.Status.the-variants as status
 use Rattle.checks.specs.declared.Checked.{Checked}
 use Rattle.checks.specs.declared.Checked.the-variants.{Refused, Passed}
 use Rattle.checks.specs.declared.Registers.{Registers}
-use Rattle.checks.specs.Laws.{line-running, line-named, store-line, store-room}
+use Rattle.checks.specs.Laws.{running, line-running, line-named, store-line, store-room}
 use Rattle.checks.specs.Laws.{commit-running, commit-window, commit-early, scan-running, scan-waiting}
 use Rattle.checks.specs.Refusals.{boardRows, workRows, registerRows, lineRows, roomRows, bufferRows, epochRows, cursorRows, waitingRows}
 use Rattle.checks.specs.Refusals.{memoriesChecked, runningChecked, lineChecked, storeChecked, commitChecked, scanChecked}
 use Rattle.checks.specs.View.{viewOf, goodWork}
-use Rattle.picl.specs.Answers.{Outcome, answerOf}
+use Rattle.picl.specs.Answers.{answerOf, success, cutOff}
 use Rattle.picl.specs.Calls as calls
-use Rattle.picl.specs.Calls.{Call, verdictOf, judged, asked, tallyVerdict, filterBitsVerdict}
+use Rattle.picl.specs.Calls.{Call, verdictOf, judged, unstored, tallyVerdict, filterBitsVerdict}
 use Rattle.picl.specs.Calls.{loadOutcome, loadVerdict, storeOutcome, storeVerdict, evictOutcome, evictVerdict, commitOutcome, commitVerdict}
 use Rattle.picl.specs.Calls.{scanOutcome, scanVerdict}
 use Rattle.reference.specs.Machine.{Reference, nothing}
 use Rattle.refine.specs.Along.{along-none}
-use Rattle.crash.specs.Statement.{call, Machine, answered, made, seenCall}
+use Rattle.crash.specs.Statement.{call, Machine, answered, made, seenCall, dirtyIn}
 use Rattle.crash.specs.State.{Holds, is-up, is-down}
-use Rattle.crash.specs.Fares.{Refuses, tested-refuses, then-refuses, Fares, refuses, goes, Kept, fares-kept}
+use Rattle.crash.specs.Fares.{Refuses, tested-refuses, then-refuses, not-ok, not-cut-ok, Fares, refuses, goes, Kept, fares-kept}
 use Rattle.crash.specs.Calls.{down-stays, load-goes, load-up-value, store-goes, evict-goes, commit-goes, scan-goes}
 
 -- ---- no check refuses as 0
@@ -126,30 +129,55 @@ module _ {N L : ℕ} {m : Machine} {g : Reference} (h : Holds N L m g) where
           rw same (scan-goes u (rw same at (scan-waiting board work r v (sym e))))
 
   -- a question leaves all as it is, with the current on or off
-  asked-fares : (c : Call) (value : ℕ) → seenCall c value ≡ nothing → Fares N L m g c (asked work r value)
+  asked-goes : (c : Call) (value : ℕ) → seenCall c value ≡ nothing → Fares N L m g c (due (unstored value r work))
   unfolding applied
-  asked-fares c value unseen = go (goodWork (length work))
-    where
-      told : Outcome
-      told = record { value = value; registers = r; work = work; stores = [] }
+  asked-goes c value unseen = goes (unstored value r work) (along-none N L board g) (rw unseen h) refl (rw unseen (omega arith))
 
-      go : (t : Bool) → Fares N L m g c (cond t (due told) (refused status.Work 0))
-      go true = goes told (along-none N L board g) (rw unseen h) refl (rw unseen (omega arith))
+  tally-fares : Fares N L m g calls.tally (tallyVerdict board work r)
+  unfolding tallyVerdict
+  tally-fares = go (runningChecked board work r) refl
+    where
+      go : (x : Checked) → runningChecked board work r ≡ x → Fares N L m g calls.tally (judged x (λ v. unstored (r .dirty) r work))
+      go (Refused s) e = refuses s 0 (running-refuses board work r s (sym e))
+      go (Passed v) e = asked-goes calls.tally (r .dirty) refl
+
+  filter-bits-fares : Fares N L m g calls.filterBits (filterBitsVerdict work r)
+  unfolding filterBitsVerdict
+  filter-bits-fares = go (goodWork (length work))
+    where
+      go : (t : Bool) → Fares N L m g calls.filterBits (cond t (due (unstored (bitsSet (bufferIn work)) r work)) (refused status.Work 0))
+      go true = asked-goes calls.filterBits (bitsSet (bufferIn work)) refl
       go false = refuses status.Work 0 refl
 
   call-fares : (c : Call) → Fares N L m g c (verdictOf board work r c)
-  unfolding tallyVerdict filterBitsVerdict
   call-fares (calls.load a) = load-fares a
   call-fares (calls.store a value) = store-fares a value
   call-fares (calls.evict a) = evict-fares a
   call-fares calls.commit = commit-fares
   call-fares calls.scan = scan-fares
-  call-fares calls.tally = asked-fares calls.tally _ refl
-  call-fares calls.filterBits = asked-fares calls.filterBits _ refl
+  call-fares calls.tally = tally-fares
+  call-fares calls.filterBits = filter-bits-fares
 
   pub call-kept : (c : Call) (k : ℕ) → Kept N L m g c k (made m (call c k))
   unfolding made
   call-kept c k = fares-kept h (call-fares c) k
+
+  -- an accepted tally gives the number of dirty slots
+  pub tally-value : (k : ℕ) → made m (call calls.tally k) .status ≡ status.Ok → made m (call calls.tally k) .value ≡ dirtyIn work
+  unfolding made tallyVerdict answerOf
+  tally-value k = go (runningChecked board work r) refl h
+    where
+      told : (t : Bool) → r .dirty ≡ dirtyIn work → cond t (success (unstored (r .dirty) r work)) (cutOff k) .status ≡ status.Ok
+          → cond t (success (unstored (r .dirty) r work)) (cutOff k) .value ≡ dirtyIn work
+      told true counted ok = counted
+      told false counted ok = absurd (not-cut-ok (sym ok))
+
+      go : (x : Checked) → runningChecked board work r ≡ x → Holds N L m g
+          → answered k r board work (judged x (λ v. unstored (r .dirty) r work)) .status ≡ status.Ok
+          → answered k r board work (judged x (λ v. unstored (r .dirty) r work)) .value ≡ dirtyIn work
+      go (Refused s) e h = λ ok. absurd (false≢true (sym (rw ok at (not-ok s (running-refuses board work r s (sym e))))))
+      go (Passed v) e (is-down d) = absurd (down-stays d v (running board work r v (sym e)))
+      go (Passed v) e (is-up u) = told (leb 0 k) (u .counted)
 
   -- an accepted load gives the uncached machine's line
   pub load-value : (a k : ℕ) → made m (call (calls.load a) k) .status ≡ status.Ok → made m (call (calls.load a) k) .value ≡ g .lines a
@@ -159,7 +187,7 @@ module _ {N L : ℕ} {m : Machine} {g : Reference} (h : Holds N L m g) where
       go : (x : Checked) → lineChecked board work r a ≡ x → Holds N L m g
           → answered k r board work (judged x (loadOutcome board work r a)) .status ≡ status.Ok
           → answered k r board work (judged x (loadOutcome board work r a)) .value ≡ g .lines a
-      go (Refused s) e h = λ ok. absurd (false≢true (sym (rw ok at (line-refuses board work r a s (sym e)))))
+      go (Refused s) e h = λ ok. absurd (false≢true (sym (rw ok at (not-ok s (line-refuses board work r a s (sym e))))))
       go (Passed v) e (is-down d) = absurd (down-stays d v (line-running board work r a v (sym e)))
       go (Passed v) e (is-up u) =
           let same = line-running board work r a v (sym e) .shaped .is in

@@ -5,11 +5,13 @@ use mathlib.Core.List.{List}
 use Rattle.layout.specs.declared.Control.{Control}
 use Rattle.layout.specs.Limits.{mostLines, mostEntries}
 use Rattle.layout.specs.Memory.{formatted}
+use Rattle.status.specs.declared.Status.the-variants as status
 use Rattle.durable.specs.Reads.{reads-persisted}
-use Rattle.crash.specs.Statement.{Step, Both, run, start, persistedOn, Consistent, Demand3}
+use Rattle.crash.specs.Statement.{Step, call, powerUp, made, Both, run, start, persistedOn, Consistent, Demand3}
 use Rattle.crash.specs.State.{Holds, holds-off, holds-ended}
-use Rattle.crash.specs.Steps.{load-value}
-use Rattle.crash.specs.Power.{log-proper-of, power-up-lines-of, power-up-shape, power-up-entry, power-up-ok}
+use Rattle.crash.specs.Fares.{NoneDirty}
+use Rattle.crash.specs.Steps.{load-value, tally-value, call-kept}
+use Rattle.crash.specs.Power.{power-up-kept, log-proper-of, power-up-lines-of, power-up-shape, power-up-entry, power-up-ok}
 use Rattle.crash.specs.Format.{formatted-rests}
 use Rattle.crash.specs.Runs.{run-holds, start-holds}
 use Rattle.crash.specs.Progress.{persisted-risen}
@@ -19,6 +21,11 @@ same-epoch : {N L : ℕ} (s : Both) → Holds N L (s .machine) (s .reference) �
 same-epoch s h =
     let off = holds-off h in
     ap (λ (c : Control). c .persisted) (off .reads .control) ∙ reads-persisted (off .reads) ∙ off .safe .named
+
+cut-counts : {N L : ℕ} (s : Both) → Holds N L (s .machine) (s .reference) → (x : Step) → made (s .machine) x .status ≡ status.Cut
+    → NoneDirty (made (s .machine) x .left)
+cut-counts s h (call c k) = call-kept h c k .cut
+cut-counts s h (powerUp lent k) = power-up-kept h lent k .cut
 
 -- what the invariant says
 consistent : {N L : ℕ} (s : Both) → Holds N L (s .machine) (s .reference) → Consistent N L s
@@ -39,6 +46,9 @@ consistent {N} {L} s h =
       answers = λ awake c k. call-expected (awake-up s h awake) c k;
       full = λ awake a v k. room-full (awake-up s h awake) a v k;
       filter-exact = λ awake. filter-exact (awake-up s h awake);
+      count-true = λ awake. awake-up s h awake .counted;
+      none-after-cut = cut-counts s h;
+      tallies = λ k ok. tally-value h k ok;
     }
 
 pub demand-3 : Demand3

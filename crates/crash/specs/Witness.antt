@@ -23,12 +23,12 @@ use Rattle.undo.specs.Log.{bufferedMarked, bufferMarked, pushed, entryStores, f
 use Rattle.undo.specs.Log.{restoreStores, restoreTurn, recoverStores}
 use Rattle.slots.specs.Slots as slots
 use Rattle.steps.specs.Effects as steps
-use Rattle.checks.specs.View.{viewOf, goodSizes, goodControl, goodShape, goodWork, properEpoch, properCounts, properRegisters, goodBuffer, goodFilter}
+use Rattle.checks.specs.View.{viewOf, goodSizes, goodControl, goodShape, goodWork, properEpoch, properCounts, properRegisters, miscounted, goodBuffer, goodFilter}
 use Rattle.checks.specs.Refusals.{memoriesChecked, runningChecked, lineChecked, storeChecked, commitChecked, scanChecked}
 use Rattle.picl.specs.Answers.{answerOf}
 use Rattle.picl.specs.Calls as calls
 use Rattle.reference.specs.Machine.{upTo}
-use Rattle.crash.specs.Statement.{Step, call, powerUp, made, Both, run, persistedOn, lineOn, logOn, start, Stretch, scans}
+use Rattle.crash.specs.Statement.{Step, call, powerUp, made, Both, after, run, persistedOn, lineOn, logOn, start, Stretch, scans}
 
 -- "n 4 8 2", with allowances as large as a call can need
 abbrev entries : ℕ
@@ -53,8 +53,11 @@ abbrev pub pass : List Step
 pass = call calls.scan many ∷ call calls.scan many ∷ call calls.scan many ∷ []
 
 -- line 0 leaves the cache; line 1 is stored to, and its eviction is cut behind the first of four stores
-abbrev pub cutOff : List Step
-cutOff = call (calls.evict 0) many ∷ call (calls.store 1 5) many ∷ call (calls.evict 1) 1 ∷ []
+abbrev pub changed : List Step
+changed = call (calls.evict 0) many ∷ call (calls.store 1 5) many ∷ []
+
+abbrev pub cutStep : Step
+cutStep = call (calls.evict 1) 1
 
 abbrev pub begun : Both
 begun = run (start entries (formatted 4 entries)) worked
@@ -62,8 +65,11 @@ begun = run (start entries (formatted 4 entries)) worked
 abbrev pub scanned : Both
 scanned = run begun pass
 
+abbrev pub stored : Both
+stored = run scanned changed
+
 abbrev pub cut : Both
-cut = run scanned cutOff
+cut = after stored cutStep
 
 -- 15 epochs wait, line 0 is stored to in the 16th, and its eviction is cut before the last of four stores
 abbrev pub fifteen : List Step
@@ -93,6 +99,10 @@ pub record Met : Type 0 where
   pub awake : begun .machine .registers .epoch ≡ 3
   pub marked : (isSet (bufferIn (begun .machine .work)) 0 ≡ true) × (isSet (bufferIn (begun .machine .work)) 1 ≡ false)
   pub cleared : isSet (bufferIn (scanned .machine .work)) 0 ≡ false
+  -- the premises of `count-true`, `tallies` and `none-after-cut`: awake with one dirty slot, a tally that tells it, and a call that is cut
+  pub one-dirty : (stored .machine .registers .epoch ≡ 3) × (stored .machine .registers .dirty ≡ 1)
+  pub tallied : (made (stored .machine) (call calls.tally 0) .status ≡ status.Ok) × (made (stored .machine) (call calls.tally 0) .value ≡ 1)
+  pub cut-short : made (stored .machine) cutStep .status ≡ status.Cut
 
 differ : _≡_ {A = ℕ} 0 1 → ⊥
 differ e = omega arith
@@ -102,14 +112,14 @@ unfolding update firstFrom applied each shifted boardAfter workAfter width pack 
     encode decode
     covers properEntry properBuffered placeOf entryIn oldIn olderTill properAt firstImproper bufferedIn bufferedProper bufferProper
     firstBit secondBit isSet withBit marking marks hits bufferedMarked bufferMarked pushed entryStores flushed flushStores flushedBuffer expired dropped advanceStores restoreStores restoreTurn recoverStores
-    slots.homeOf slots.properTag slots.properFull slots.properSlot slots.properAt slots.properFor slots.holds slots.spotOf slots.zeroed
+    slots.homeOf slots.properTag slots.properFull slots.properSlot slots.properAt slots.properFor slots.dirtyFor slots.holds slots.spotOf slots.zeroed
     slots.filled slots.dirtied slots.cleaned slots.entryDue slots.undoDue
     steps.flushingIf steps.writingOut steps.writingBack steps.emptying steps.lineIn steps.bringing steps.entryFor steps.logged
     steps.storingHeld steps.loading steps.storing steps.evicting steps.cleaning steps.visiting steps.persisting
-    viewOf goodSizes goodControl goodShape goodWork properEpoch properCounts properRegisters goodBuffer goodFilter
+    viewOf goodSizes goodControl goodShape goodWork properEpoch properCounts properRegisters miscounted goodBuffer goodFilter
     memoriesChecked runningChecked lineChecked storeChecked commitChecked scanChecked answerOf
     calls.storeAt calls.storeOutcome calls.storeVerdict calls.evictAt calls.evictOutcome calls.evictVerdict calls.commitOutcome
-    calls.commitVerdict calls.scanOutcome calls.scanVerdict calls.wakeAt calls.wakeVerdict calls.powerUpVerdict
+    calls.commitVerdict calls.scanOutcome calls.scanVerdict calls.tallyVerdict calls.wakeAt calls.wakeVerdict calls.powerUpVerdict
     upTo made run scans
 met =
     record {
@@ -128,4 +138,7 @@ met =
       awake = refl;
       marked = (refl, refl);
       cleared = refl;
+      one-dirty = (refl, refl);
+      tallied = (refl, refl);
+      cut-short = refl;
     }

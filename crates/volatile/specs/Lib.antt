@@ -11,3 +11,5 @@ pub mod Buffer
 pub mod Filter
 pub mod View
 pub mod Swept
+pub mod Dirty
+pub mod Moves
