@@ -46,7 +46,7 @@ pub record Leaves (l : Left) (board′ work′ : List ℕ) (a : Answer) : Type 0
 abbrev pub powered : (allowance : ℕ) → (board work : List ℕ) → Left
 powered allowance board work = left allowance registers.zero board work (picl.powerUpVerdict board work)
 
--- a report as an answer: "format and tally do neither" take nor return the registers, which are zero
+-- a report as an answer: format neither takes nor returns registers, which are zero
 abbrev pub reported : Report → Answer
 reported r = record { status = r .status; value = r .value; stores = r .stores; registers = registers.zero }
 

@@ -1,4 +1,5 @@
 pub mod Bench
 pub mod Recorded
 pub mod Filtered
+pub mod Counted
 pub mod Table

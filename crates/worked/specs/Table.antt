@@ -20,13 +20,14 @@ use Rattle.slots.specs.Slots as slots
 use Rattle.layout.specs.Memory.{withBuffer, shapeFor, formatted}
 use Rattle.steps.specs.Effects.{flushingIf, writingOut, writingBack, emptying, entryFor, logged, storingHeld}
 use Rattle.slots.specs.Slots.{entryDue, undoDue}
-use Rattle.steps.specs.Effects.{bringing, loading, storing, evicting, cleaning, visiting, persisting}
+use Rattle.steps.specs.Effects as steps
+use Rattle.steps.specs.Effects.{bringing, cleaning, visiting, persisting}
 use Rattle.checks.specs.Registers.{zero, given}
-use Rattle.checks.specs.View.{viewOf, goodSizes, goodControl, goodShape, goodWork, properEpoch, properCounts, properRegisters, goodBuffer, goodFilter}
+use Rattle.checks.specs.View.{viewOf, goodSizes, goodControl, goodShape, goodWork, properEpoch, properCounts, properRegisters, miscounted, goodBuffer, goodFilter}
 use Rattle.checks.specs.Refusals.{memoriesChecked, runningChecked, lineChecked, storeChecked, commitChecked, scanChecked}
 use Rattle.picl.specs.Answers.{cutOff, answerOf}
 use Rattle.board.specs.Verdict.{refused, boardAfter, workAfter}
-use Rattle.picl.specs.Calls.{report, filterBitsVerdict, filterBitsReport, formatReport, formatAfter, loadAt, loadOutcome, loadVerdict}
+use Rattle.picl.specs.Calls.{report, tallyVerdict, tallyReport, filterBitsVerdict, filterBitsReport, formatReport, formatAfter, loadAt, loadOutcome, loadVerdict}
 use Rattle.picl.specs.Calls.{storeAt, storeOutcome, storeVerdict, evictAt, evictOutcome, evictVerdict, commitOutcome, commitVerdict}
 use Rattle.picl.specs.Calls.{scanOutcome, scanVerdict, wakeAt, wakeVerdict, powerUpVerdict}
 use Rattle.layout.specs.Bytes.{bytesOf, wordOf}
@@ -43,6 +44,7 @@ use Rattle.worked.specs.Recorded.{zeros, wrote, bad, listing, broken}
 use Rattle.worked.specs.Bench.{control, entry, slot, clean, dirty, undo, twice, board, work, quiet, unmarked, filter, marked1, marked3, marked13}
 use Rattle.worked.specs.Bench.{ending, endingLast, wake, store, evict, commit, scan, still, ok, improper}
 use Rattle.worked.specs.Filtered.{buffer, full, store14, commit14, scan14, wide, evictShared}
+use Rattle.worked.specs.Counted.{holding, loading, storing, evicting, scanning, committing, badEntry, before7, before11}
 
 pub record Worked : Type 0 where
   -- "W1 entry 5, 1, 2: hexadecimal 0005000001000002."
@@ -57,36 +59,36 @@ pub record Worked : Type 0 where
   pub w5-covers : (covers (entry 3 1 3) 1 ≡ true) × (covers (entry 3 1 3) 2 ≡ true)
   pub w5-not : (covers (entry 3 1 3) 0 ≡ false) × (covers (entry 3 1 3) 3 ≡ false)
   -- "W6 P = 1 and, oldest first, 0, 2 data 4 and 0, 2 data 6 for one line: it wakes as 4."
-  pub w6-ok : answerOf 3 zero (wake (control 1 0 2) twice) ≡ ok 0 3 (given 2 0 0)
+  pub w6-ok : answerOf 3 zero (wake (control 1 0 2) twice) ≡ ok 0 3 (given 2 0 0 0)
   pub w6-board : boardAfter 3 (board (control 1 0 2) twice 7) (wake (control 1 0 2) twice) ≡ board (control 1 0 0) twice 4
   -- "W7 clean store at P 0, s 2 gives 0, 2."
-  pub w7 : store 0 2 clean ≡ still (given 2 1 0) (work (dirty 2) 9 (undo 3 0 2 7) marked3)
+  pub w7 : store 0 2 clean ≡ still (given 2 1 0 1) (work (dirty 2) 9 (undo 3 0 2 7) marked3)
   -- "W8 tag 1 at s 3 gives 1, 3."
-  pub w8 : store 0 3 (dirty 1) ≡ still (given 3 1 0) (work (dirty 3) 9 (undo 3 1 3 7) marked3)
+  pub w8 : store 0 3 (dirty 1) ≡ still (given 3 1 0 1) (work (dirty 3) 9 (undo 3 1 3 7) marked3)
   -- "W9 tag 3 at s 3: none."
-  pub w9 : store 0 3 (dirty 3) ≡ still (given 3 0 0) (work (dirty 3) 9 [] unmarked)
+  pub w9 : store 0 3 (dirty 3) ≡ still (given 3 0 0 1) (work (dirty 3) 9 [] unmarked)
   -- "W10 eviction of a dirty line with b = 1 and its own entry buffered: 4 stores; allowance 4 ok."
-  pub w10-ok : answerOf 4 (given 2 1 0) (evict (undo 3 0 2 7) marked3) ≡ ok 1 4 (given 2 0 0)
+  pub w10-ok : answerOf 4 (given 2 1 0 1) (evict (undo 3 0 2 7) marked3) ≡ ok 1 4 (given 2 0 0 0)
   pub w10-board : boardAfter 4 (quiet 0) (evict (undo 3 0 2 7) marked3) ≡ board (control 0 0 1) (undo 3 0 2 7) 9
   -- "W11 allowance 3: cut, log length up by one, line unchanged."
-  pub w11-cut : answerOf 3 (given 2 1 0) (evict (undo 3 0 2 7) marked3) ≡ cutOff 3
+  pub w11-cut : answerOf 3 (given 2 1 0 1) (evict (undo 3 0 2 7) marked3) ≡ cutOff 3
   pub w11-board : boardAfter 3 (quiet 0) (evict (undo 3 0 2 7) marked3) ≡ board (control 0 0 1) (undo 3 0 2 7) 7
   -- "W12 s − P = 15 commits; 16 answers 9."
-  pub w12-ok : commit 1 16 ≡ still (given 17 0 0) (work clean 7 [] unmarked)
-  pub w12-waits : numberOf (answerOf 0 (given 17 0 0) (commit 1 17) .status) ≡ 9
+  pub w12-ok : commit 1 16 ≡ still (given 17 0 0 0) (work clean 7 [] unmarked)
+  pub w12-waits : numberOf (answerOf 0 (given 17 0 0 0) (commit 1 17) .status) ≡ 9
   -- "A scan's write-out is an in-place store too: it must flush a matching buffer first."
-  pub scan-flushes : answerOf 4 (given 2 1 1) (scan 1) ≡ ok 0 4 (given 2 0 2)
+  pub scan-flushes : answerOf 4 (given 2 1 1 1) (scan 1) ≡ ok 0 4 (given 2 0 2 0)
   pub scan-flushes-first : boardAfter 3 (quiet 0) (scan 1) ≡ board (control 0 0 1) (undo 3 0 1 7) 7
   -- "The control word stored before the entries it counts."
   pub entries-first : boardAfter 2 (quiet 0) (evict (undo 3 0 2 7) marked3) ≡ board (control 0 0 0) (undo 3 0 2 7) 7
   -- "Clearing the log before the last line is restored, or not at all"
   pub lines-first : boardAfter 2 (board (control 1 0 2) twice 7) (wake (control 1 0 2) twice) ≡ board (control 1 0 2) twice 4
   -- "ValidFrom 0 for a clean line instead of P."
-  pub valid-from : store 1 2 clean ≡ still (given 2 1 0) (work (dirty 2) 9 (undo 3 1 2 7) marked3)
+  pub valid-from : store 1 2 clean ≡ still (given 2 1 0 1) (work (dirty 2) 9 (undo 3 1 2 7) marked3)
   -- "Then the control word: same P, start 0, length 0, always stored."
-  pub always-stored : answerOf 1 zero (wake (control 1 0 0) []) ≡ ok 0 1 (given 2 0 0)
+  pub always-stored : answerOf 1 zero (wake (control 1 0 0) []) ≡ ok 0 1 (given 2 0 0 0)
   -- "if dirty and tagged with the target": a line of another tag is left alone
-  pub other-tag : scan 2 ≡ still (given 2 1 2) (work (dirty 2) 9 (undo 3 0 2 7) marked3)
+  pub other-tag : scan 2 ≡ still (given 2 1 2 1) (work (dirty 2) 9 (undo 3 0 2 7) marked3)
   -- 3/13: "bit a mod 4,096 and bit (a × 40503 mod 65,536) divided by 16, rounded down": 4,095 × 40503 = 2,530 × 65,536 + 53,705, and
   -- 65,535 × 40503 = 40,502 × 65,536 + 25,033
   pub bits-3 : (firstBit 3 ≡ 3) × (secondBit 3 ≡ 3498)
@@ -102,23 +104,23 @@ pub record Worked : Type 0 where
   pub corner-4095 : withBit (buffer 0 0) 4095 ≡ buffer 63 1
   pub corner-read : (isSet (buffer 63 1) 4095 ≡ true) × (isSet (buffer 63 1) 4094 ≡ false)
   -- "A write-out flushes exactly when b > 0 and both bits of its address are set": not where line 1 alone is buffered ..
-  pub no-flush : answerOf 1 (given 2 1 0) (evict (undo 1 0 2 7) marked1) ≡ ok 1 1 (given 2 1 0)
+  pub no-flush : answerOf 1 (given 2 1 0 1) (evict (undo 1 0 2 7) marked1) ≡ ok 1 1 (given 2 1 0 0)
   -- .. nor with one bit, nor where b is 0 ..
-  pub one-bit : answerOf 1 (given 2 1 0) (evict (undo 1 0 2 7) (set marked13 54 0)) ≡ ok 1 1 (given 2 1 0)
-  pub none-buffered : answerOf 1 (given 2 0 0) (evictVerdict (quiet 0) (work (dirty 2) 9 [] full) (given 2 0 0) 3) ≡ ok 1 1 (given 2 0 0)
+  pub one-bit : answerOf 1 (given 2 1 0 1) (evict (undo 1 0 2 7) (set marked13 54 0)) ≡ ok 1 1 (given 2 1 0 0)
+  pub none-buffered : answerOf 1 (given 2 0 0 1) (evictVerdict (quiet 0) (work (dirty 2) 9 [] full) (given 2 0 0 1) 3) ≡ ok 1 1 (given 2 0 0 0)
   -- .. but also where other lines have set them: a false hit
-  pub false-hit : answerOf 4 (given 2 1 0) (evict (undo 1 0 2 7) marked13) ≡ ok 1 4 (given 2 0 0)
+  pub false-hit : answerOf 4 (given 2 1 0 1) (evict (undo 1 0 2 7) marked13) ≡ ok 1 4 (given 2 0 0 0)
   pub false-hit-board : boardAfter 4 (quiet 0) (evict (undo 1 0 2 7) marked13) ≡ board (control 0 0 1) (undo 1 0 2 7) 9
   pub false-hit-shared : boardAfter 4 (wide 0 [] 7) evictShared ≡ wide 1 (undo 233 0 2 5) 9
   -- "The filter is cleared at each flush with b > 0."
   pub flush-clears : workAfter 4 (work (dirty 2) 9 (undo 3 0 2 7) marked3) (evict (undo 3 0 2 7) marked3) ≡ replicate (2 * 2 + 128) 0
-  pub flush-keeps : workAfter 1 (work (dirty 2) 9 [] full) (evictVerdict (quiet 0) (work (dirty 2) 9 [] full) (given 2 0 0) 3)
+  pub flush-keeps : workAfter 1 (work (dirty 2) 9 [] full) (evictVerdict (quiet 0) (work (dirty 2) 9 [] full) (given 2 0 0 1) 3)
       ≡ replicate (2 * 2 + 64) 0 ++ full
   -- "14 filter, a buffered entry with either bit unset"
   pub lacks-first : evict (undo 3 0 2 7) (filter 54 0x200000) ≡ refused status.Filter 0
   pub lacks-second : evict (undo 3 0 2 7) (filter 0 0x1000000000000000) ≡ refused status.Filter 0
   -- "tested right after 7": all of 7 precedes any of 14; and 14 precedes 8, 9, 10 and 11
-  pub seven-first : evictVerdict (quiet 0) (work (dirty 2) 9 (undo 3 0 2 7 ++ undo 3 2 2 7) unmarked) (given 2 2 0) 3 ≡ refused status.Buffer 0
+  pub seven-first : evictVerdict (quiet 0) (work (dirty 2) 9 (undo 3 0 2 7 ++ undo 3 2 2 7) unmarked) (given 2 2 0 1) 3 ≡ refused status.Buffer 0
   pub before-room : store14 ≡ refused status.Filter 0
   pub before-waiting : commit14 0 16 ≡ refused status.Filter 0
   pub before-last : commit14 (lastEpoch - 1) lastEpoch ≡ refused status.Filter 0
@@ -130,7 +132,7 @@ pub record Worked : Type 0 where
   -- a work memory of 2S + 64 words, made for 33 slots before, is one of 1 slot
   pub bits-of-old : filterBitsReport (replicate (2 * 33 + 64) 0) ≡ report status.Ok 0
   -- 2/13: "A log entry is now proper only if ValidTill ≤ P + 16 as well." P is 1: 17 is taken, and the line wakes as the oldest has it ..
-  pub till-16 : answerOf 3 zero (wake (control 1 0 2) (ending 2 17)) ≡ ok 0 3 (given 2 0 0)
+  pub till-16 : answerOf 3 zero (wake (control 1 0 2) (ending 2 17)) ≡ ok 0 3 (given 2 0 0 0)
   pub till-16-board : boardAfter 3 (board (control 1 0 2) (ending 2 17) 7) (wake (control 1 0 2) (ending 2 17)) ≡ board (control 1 0 0) (ending 2 17) 4
   -- .. 18 is refused as 3, with its place as value, and so is "a ValidTill 4,000 above P"
   pub till-17 : answerOf 3 zero (wake (control 1 0 2) (ending 2 18)) ≡ improper 1
@@ -139,8 +141,8 @@ pub record Worked : Type 0 where
   -- the bound is P's, and not the next older entry's: 18 is 1 above that one's 17, and 17 above P
   pub till-older : answerOf 3 zero (wake (control 1 0 2) (ending 17 18)) ≡ improper 1
   -- near the last epoch: where P + 16 is no epoch, and where it is the last, nothing that has a place in the field is refused
-  pub till-last : answerOf 2 zero (wake (control (lastEpoch - 1) 0 1) endingLast) ≡ ok 0 2 (given lastEpoch 0 0)
-  pub till-last-16 : answerOf 2 zero (wake (control (lastEpoch - 16) 0 1) endingLast) ≡ ok 0 2 (given (lastEpoch - 15) 0 0)
+  pub till-last : answerOf 2 zero (wake (control (lastEpoch - 1) 0 1) endingLast) ≡ ok 0 2 (given lastEpoch 0 0 0)
+  pub till-last-16 : answerOf 2 zero (wake (control (lastEpoch - 16) 0 1) endingLast) ≡ ok 0 2 (given (lastEpoch - 15) 0 0 0)
   pub till-last-17 : answerOf 2 zero (wake (control (lastEpoch - 17) 0 1) endingLast) ≡ improper 0
   -- Recorded traces: "two words, most significant byte first: kind 3 bits .., address 16, zero 45; then the value"
   pub record-store : written storeKind 5 9 ≡ wrote (0x20 ∷ 0x00 ∷ 0xA0 ∷ zeros 12 ++ (9 ∷ []))
@@ -179,6 +181,38 @@ pub record Worked : Type 0 where
   pub text-filled : withName (nameOf 12) (1 ∷ 2 ∷ 3 ∷ []) ≡ bytes "cut"
   pub text-too-short : withName (nameOf 12) (1 ∷ 2 ∷ []) ≡ 1 ∷ 2 ∷ []
   pub text-unnamed : (withName (nameOf 15) [] ≡ []) × (withName (nameOf 15) (1 ∷ []) ≡ 1 ∷ [])
+  -- 5/13: "Registers are also improper when the count exceeds S": 3 does, 2 does not
+  pub count-beyond : committing clean 3 ≡ refused status.Regs 0
+  pub count-all : committing clean 2 ≡ still (given 3 0 0 2) (holding clean)
+  -- "a count of 0 with the visited slot dirty", in each call that has 6
+  pub none-load : loading (dirty 2) 0 3 ≡ refused status.Regs 0
+  pub none-store : storing (dirty 2) 0 3 ≡ refused status.Regs 0
+  pub none-evict : evicting (dirty 2) 0 3 ≡ refused status.Regs 0
+  pub none-scan : scanning (dirty 1) 0 1 ≡ refused status.Regs 0
+  -- where the line is another's: line 1 belongs in slot 1 too
+  pub none-other : (loading (dirty 2) 0 1 ≡ refused status.Regs 0) × (evicting (dirty 2) 0 1 ≡ refused status.Regs 0)
+  -- "or of S with it not": a clean slot, or an empty one, as line 2's
+  pub all-load : (loading clean 2 3 ≡ refused status.Regs 0) × (loading clean 2 2 ≡ refused status.Regs 0)
+  pub all-store : (storing clean 2 3 ≡ refused status.Regs 0) × (storing clean 2 2 ≡ refused status.Regs 0)
+  pub all-evict : (evicting clean 2 3 ≡ refused status.Regs 0) × (evicting clean 2 2 ≡ refused status.Regs 0)
+  pub all-scan : (scanning clean 2 1 ≡ refused status.Regs 0) × (scanning clean 2 0 ≡ refused status.Regs 0)
+  -- "Right after 6": 5 and 6 come first, 7 and 11 later; a tag of 3 is after the running epoch
+  pub five-first : loading (dirty 2) 0 5 ≡ refused status.Address 0
+  pub six-first : (loading (dirty 3) 0 3 ≡ refused status.Slot 0) × (scanning (dirty 3) 0 1 ≡ refused status.Slot 0)
+  pub four-first : (before7 ≡ refused status.Regs 0) × (before11 ≡ refused status.Regs 0)
+  -- a scan's last step visits no slot, and commit none
+  pub no-visit : answerOf 1 (given 2 0 2 0) (scanning (dirty 2) 0 2) ≡ ok 1 1 (given 2 0 0 0)
+  pub no-visit-commit : committing (dirty 2) 0 ≡ still (given 3 0 0 0) (holding (dirty 2))
+  -- a fill over a dirty line lowers the count, and a store's does not; a wrong count goes on as wrong
+  pub fill-lowers : answerOf 1 (given 2 0 0 1) (loading (dirty 2) 1 1) ≡ ok 0 1 (given 2 0 0 0)
+  pub store-over : answerOf 1 (given 2 0 0 1) (storing (dirty 2) 1 1) ≡ ok 0 1 (given 2 1 0 1)
+  pub wrong-on : answerOf 1 (given 2 0 0 2) (evicting (dirty 2) 2 3) ≡ ok 1 1 (given 2 0 0 1)
+  -- "The tally is then read from the registers", and "refuses as commit does up to 4", so not by 7
+  pub tally-told : (tallyReport (quiet 0) (holding (dirty 2)) (given 2 0 0 1) ≡ report status.Ok 1) × (tallyReport (quiet 0) badEntry (given 2 1 0 1) ≡ report status.Ok 1)
+  pub tally-wrong : tallyReport (quiet 0) (holding (dirty 2)) (given 2 0 0 2) ≡ report status.Ok 2
+  pub tally-1 : tallyReport [] (replicate 129 0) zero ≡ report status.Shape 0
+  pub tally-2 : tallyReport (quiet 0) (replicate 129 0) zero ≡ report status.Work 0
+  pub tally-4 : (tallyReport (quiet 0) (holding clean) zero ≡ report status.Regs 0) × (tallyReport (quiet 0) (holding clean) (given 2 0 0 3) ≡ report status.Regs 0)
 
 -- a filter of which every word has all its bits
 all-counted : (word : ℕ) → ones word ≡ 64 → filterBitsReport (work clean 7 [] (replicate 64 word)) ≡ report status.Ok 4096
@@ -189,14 +223,14 @@ pub worked : Worked
 unfolding width pack unpack encode decode
     firstFrom applied each shifted covers properEntry properBuffered placeOf entryIn oldIn olderTill properAt firstImproper bufferedIn
     bufferedProper bufferProper firstBit secondBit isSet withBit marking marks hits onesOf ones onesIn bufferedMarked bufferMarked pushed entryStores flushed flushStores flushedBuffer restoreStores restoreTurn recoverStores
-    slots.homeOf slots.properTag slots.properFull slots.properSlot slots.properAt slots.properFor slots.holds slots.spotOf slots.zeroed
+    slots.homeOf slots.properTag slots.properFull slots.properSlot slots.properAt slots.properFor slots.dirtyFor slots.holds slots.spotOf slots.zeroed
     slots.dirtied slots.cleaned withBuffer flushingIf writingOut writingBack emptying slots.entryDue slots.undoDue entryFor logged storingHeld
-    loading storing evicting cleaning visiting viewOf goodSizes goodControl goodShape goodWork properEpoch properCounts
-    properRegisters goodBuffer goodFilter memoriesChecked runningChecked lineChecked storeChecked commitChecked scanChecked answerOf boardAfter
+    steps.loading steps.storing steps.evicting steps.lineIn cleaning visiting viewOf goodSizes goodControl goodShape goodWork properEpoch properCounts
+    properRegisters miscounted goodBuffer goodFilter memoriesChecked runningChecked lineChecked storeChecked commitChecked scanChecked answerOf boardAfter
     storeAt storeOutcome storeVerdict evictAt evictOutcome evictVerdict commitOutcome commitVerdict scanOutcome scanVerdict
     wakeAt wakeVerdict powerUpVerdict
     bytesOf wordOf hasPlace callOf firstWord written wordsReading reading
-    filterBitsVerdict filterBitsReport formatReport formatAfter loadAt loadOutcome loadVerdict workAfter bringing slots.filled persisting expired dropped advanceStores
+    tallyVerdict tallyReport filterBitsVerdict filterBitsReport formatReport formatAfter loadAt loadOutcome loadVerdict workAfter bringing slots.filled persisting expired dropped advanceStores
     benchSized formatted woken begun called taken turn after ran lineText nameText rowOf nameOf withName numbersText decimalOf placesOf
 worked =
     record {
@@ -289,4 +323,28 @@ worked =
       text-filled = refl;
       text-too-short = refl;
       text-unnamed = (refl, refl);
+      count-beyond = refl;
+      count-all = refl;
+      none-load = refl;
+      none-store = refl;
+      none-evict = refl;
+      none-scan = refl;
+      none-other = (refl, refl);
+      all-load = (refl, refl);
+      all-store = (refl, refl);
+      all-evict = (refl, refl);
+      all-scan = (refl, refl);
+      five-first = refl;
+      six-first = (refl, refl);
+      four-first = (refl, refl);
+      no-visit = refl;
+      no-visit-commit = refl;
+      fill-lowers = refl;
+      store-over = refl;
+      wrong-on = refl;
+      tally-told = (refl, refl);
+      tally-wrong = refl;
+      tally-1 = refl;
+      tally-2 = refl;
+      tally-4 = (refl, refl);
     }

@@ -1,0 +1,38 @@
+-- Request 5/13 on the bench of the worked examples: two slots, the first empty, the second with line 3; epoch 2 runs and 0 is persisted.
+use Prim.Native.Nat.{ℕ}
+use mathlib.Core.List.{List, []}
+use Rattle.layout.specs.declared.Slot.{Slot}
+use Rattle.checks.specs.Registers.{given}
+use Rattle.picl.specs.Answers.{Verdict}
+use Rattle.picl.specs.Calls.{loadVerdict, storeVerdict, evictVerdict, commitVerdict, scanVerdict}
+use Rattle.worked.specs.Bench.{work, quiet, clean, dirty, undo, unmarked}
+
+abbrev pub holding : Slot → List ℕ
+holding s = work s 9 [] unmarked
+
+-- calls with a count of dirty slots
+abbrev pub loading : Slot → (count address : ℕ) → Verdict
+loading s count address = loadVerdict (quiet 0) (holding s) (given 2 0 0 count) address
+
+abbrev pub storing : Slot → (count address : ℕ) → Verdict
+storing s count address = storeVerdict (quiet 0) (holding s) (given 2 0 0 count) address 5
+
+abbrev pub evicting : Slot → (count address : ℕ) → Verdict
+evicting s count address = evictVerdict (quiet 0) (holding s) (given 2 0 0 count) address
+
+abbrev pub scanning : Slot → (count cursor : ℕ) → Verdict
+scanning s count cursor = scanVerdict (quiet 0) (holding s) (given 2 0 cursor count)
+
+abbrev pub committing : Slot → (count : ℕ) → Verdict
+committing s count = commitVerdict (quiet 0) (holding s) (given 2 0 0 count)
+
+-- an entry that is not proper is buffered, and the count is wrong: 4 comes before 7
+abbrev pub badEntry : List ℕ
+badEntry = work (dirty 2) 9 (undo 3 2 2 7) unmarked
+
+abbrev pub before7 : Verdict
+before7 = evictVerdict (quiet 0) badEntry (given 2 1 0 0) 3
+
+-- no epoch waits, and the count is wrong: 4 comes before 11
+abbrev pub before11 : Verdict
+before11 = scanVerdict (quiet 1) (holding clean) (given 2 0 0 2)
