@@ -104,6 +104,11 @@ impl Call {
         }
     }
 
+    /// Format and the status question alone do not.
+    pub fn takes_registers(self) -> bool {
+        !matches!(self, Call::Format { .. } | Call::FilterBits)
+    }
+
     #[inline(always)]
     pub fn make<C: CacheLog>(self, board: &mut [u64], work: &mut [u64], registers: &mut C::Registers) -> Answer {
         match self {
@@ -118,7 +123,7 @@ impl Call {
             Call::Evict { address, allowance } => C::evict(board, work, registers, address, allowance),
             Call::Commit { allowance } => C::commit(board, work, registers, allowance),
             Call::Scan { allowance } => C::scan(board, work, registers, allowance),
-            Call::Tally => C::tally(work),
+            Call::Tally => C::tally(board, work, registers),
             Call::FilterBits => C::filter_bits(work),
         }
     }

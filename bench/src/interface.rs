@@ -12,8 +12,14 @@ pub struct Answer {
 // Some of the paper's numbers; handwritten/names.rs has the names of all.
 pub const OK: u64 = 0;
 pub const SHAPE: u64 = 1;
+pub const WORK: u64 = 2;
 /// A log entry is not proper; the value is its place, the oldest counted 0.
 pub const ENTRY: u64 = 3;
+pub const REGS: u64 = 4;
+pub const ADDRESS: u64 = 5;
+pub const SLOT: u64 = 6;
+pub const BUFFER: u64 = 7;
+pub const CUT: u64 = 12;
 /// A record of a trace that breaks its layout or ends early, or what has no place in one.
 pub const TRACE: u64 = 13;
 /// A buffered entry has a bit in the filter that is not set.
@@ -22,7 +28,7 @@ pub const FILTER: u64 = 14;
 /// The words of the registers as they stand in an array, and their names.
 pub type RegisterWords = [u64; REGISTER_WORDS];
 pub const REGISTER_WORDS: usize = REGISTER_NAMES.len();
-pub const REGISTER_NAMES: [&str; 3] = ["s", "b", "c"];
+pub const REGISTER_NAMES: [&str; 4] = ["s", "b", "c", "d"];
 pub const NO_REGISTERS: RegisterWords = [0; REGISTER_WORDS];
 
 /// The words of an answer as they stand in an array: value, stores.
@@ -73,7 +79,7 @@ pub trait CacheLog {
 
     fn scan(board: &mut [u64], work: &mut [u64], registers: &mut Self::Registers, allowance: u32) -> Answer;
 
-    fn tally(work: &[u64]) -> Answer;
+    fn tally(board: &[u64], work: &[u64], registers: &Self::Registers) -> Answer;
 
     fn filter_bits(work: &[u64]) -> Answer;
 

@@ -36,7 +36,8 @@ fn possible(function: Function) -> &'static [u64] {
         Function::Call(Kind::Store) => &[0, 1, 2, 4, 5, 6, 7, 8, 12, FILTER, TOO_SHORT],
         Function::Call(Kind::Commit) => &[0, 1, 2, 4, 7, 9, 10, FILTER, TOO_SHORT],
         Function::Call(Kind::Scan) => &[0, 1, 2, 4, 6, 7, 11, 12, FILTER, TOO_SHORT],
-        Function::Call(Kind::Tally | Kind::FilterBits) => &[0, 2, TOO_SHORT],
+        Function::Call(Kind::Tally) => &[0, 1, 2, 4, TOO_SHORT],
+        Function::Call(Kind::FilterBits) => &[0, 2, TOO_SHORT],
         Function::TraceWrite => &[0, 13, TOO_SHORT],
         Function::Name => &[0, TOO_SHORT],
     }

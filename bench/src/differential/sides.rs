@@ -61,7 +61,7 @@ fn make_on_library(call: Call, lent: &mut Lent) -> u64 {
         Call::Evict { address, allowance } => library::evict(board, work, registers, address, allowance, answer),
         Call::Commit { allowance } => library::commit(board, work, registers, allowance, answer),
         Call::Scan { allowance } => library::scan(board, work, registers, allowance, answer),
-        Call::Tally => library::tally(work, answer),
+        Call::Tally => library::tally(board, work, registers, answer),
         Call::FilterBits => library::filter_bits(work, answer),
     }
 }
@@ -98,7 +98,7 @@ pub fn on_handwritten(asked: Asked, lent: &mut Lent) -> u64 {
 
 /// None where the call takes registers and there are too few words.
 fn make_on_handwritten(call: Call, lent: &mut Lent) -> Option<Answer> {
-    if matches!(call, Call::Format { .. } | Call::Tally | Call::FilterBits) {
+    if !call.takes_registers() {
         return Some(call.make::<HandWritten>(&mut lent.board, &mut lent.work, &mut Registers::default()));
     }
     if !lent.has_registers() {

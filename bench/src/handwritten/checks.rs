@@ -44,25 +44,35 @@ pub fn slot_count(work_words: usize) -> Result<usize, Refusal> {
     layout::slot_count(work_words).ok_or(Refusal::Work)
 }
 
+/// The board's head and the number of slots, once shape, work and registers are tested, in this order: what each call that
+/// takes registers begins with, but for power-up.
 #[inline]
-pub fn registers(registers: &Registers, control: Control, shape: Shape, slots: usize) -> Result<(), Refusal> {
+pub fn opening(board: &[u64], work: &[u64], registers: &Registers) -> Result<(Control, Shape, usize), Refusal> {
+    let (control, shape) = head(board)?;
+    let slots = slot_count(work.len())?;
+    if registers_are_proper(registers, control, shape, slots as u64) {
+        Ok((control, shape, slots))
+    } else {
+        Err(Refusal::Registers)
+    }
+}
+
+#[inline]
+fn registers_are_proper(registers: &Registers, control: Control, shape: Shape, slots: u64) -> bool {
     let Registers {
         epoch,
         buffered,
         cursor,
+        dirty,
     } = *registers;
     let ahead = epoch.wrapping_sub(control.persisted);
-    let proper = (1..=MOST_AHEAD).contains(&ahead)
+    (1..=MOST_AHEAD).contains(&ahead)
         && epoch <= LAST_EPOCH
         && buffered < BUFFER_ENTRIES as u64
-        && cursor <= slots as u64
+        && cursor <= slots
         && (cursor == 0 || ahead > 1)
-        && control.length as u64 + buffered <= shape.entries;
-    if proper {
-        Ok(())
-    } else {
-        Err(Refusal::Registers)
-    }
+        && control.length as u64 + buffered <= shape.entries
+        && dirty <= slots
 }
 
 /// Whether `word` may stand in slot `place` of `slots`.
@@ -83,6 +93,19 @@ pub fn slot_is_proper(word: SlotWord, place: usize, slots: usize, lines: usize, 
         && tag_is_proper
         && (address as usize) < lines
         && (address % slots as u32) as usize == place
+}
+
+/// How many slots are dirty besides one with this proper word, going by the count of all, which may be wrong. It is refused
+/// where it leaves no right number for the others: 0 with this one dirty, or all slots with this one not.
+#[inline]
+pub fn other_dirty_slots(dirty: u64, word: SlotWord, slots: usize) -> Result<u64, Refusal> {
+    // One less than 0 wraps round to more than all slots.
+    let others = dirty.wrapping_sub(u64::from(word.is_dirty()));
+    if others < slots as u64 {
+        Ok(others)
+    } else {
+        Err(Refusal::Registers)
+    }
 }
 
 /// Tests every buffered entry, and then the filter's bits of each. One pass is enough: it notes whether a bit is unset, and

@@ -50,6 +50,15 @@ impl Mains {
     }
 }
 
+/// A slot that a call visits, once it is tested.
+#[derive(Clone, Copy)]
+pub struct Visited {
+    pub place: usize,
+    pub word: SlotWord,
+    /// The other slots that are dirty, going by the registers.
+    pub dirty_besides: u64,
+}
+
 /// Each step is inlined into each call that makes it, so that these parts stay in the processor's registers.
 pub struct Machine<'a> {
     pub control: Control,
@@ -72,9 +81,7 @@ impl<'a> Machine<'a> {
         registers: &'a mut Registers,
         mains: &'a mut Mains,
     ) -> Result<Self, Refusal> {
-        let (control, shape) = checks::head(board)?;
-        let slot_count = checks::slot_count(work.len())?;
-        checks::registers(registers, control, shape, slot_count)?;
+        let (control, shape, slot_count) = checks::opening(board, work, registers)?;
         let (control_word, log, lines) = board_parts_mut(board, shape).ok_or(Refusal::Shape)?;
         let (slots, buffer, filter) = work_parts_mut(work, slot_count).ok_or(Refusal::Work)?;
         Ok(Machine {
@@ -90,32 +97,37 @@ impl<'a> Machine<'a> {
         })
     }
 
-    /// Tests the address and the slot that it belongs in, which it gives.
+    /// Tests the address, and visits the slot that it belongs in.
     #[inline]
-    pub fn slot_of(&self, address: u64) -> Result<usize, Refusal> {
+    pub fn slot_of(&self, address: u64) -> Result<Visited, Refusal> {
         if address >= self.lines.len() as u64 {
             return Err(Refusal::Address);
         }
         let place = (address as u32 % self.slots.len() as u32) as usize;
-        self.check_slot(place)?;
-        Ok(place)
+        self.visit(place)
     }
 
+    /// Tests a slot, and then the count of dirty slots.
     #[inline]
-    pub fn check_slot(&self, place: usize) -> Result<(), Refusal> {
+    pub fn visit(&self, place: usize) -> Result<Visited, Refusal> {
+        let word = SlotWord(self.slots[place][0]);
         let proper = checks::slot_is_proper(
-            self.word_of(place),
+            word,
             place,
             self.slots.len(),
             self.lines.len(),
             self.control.persisted,
             self.registers.epoch,
         );
-        if proper {
-            Ok(())
-        } else {
-            Err(Refusal::Slot)
+        if !proper {
+            return Err(Refusal::Slot);
         }
+        let dirty_besides = checks::other_dirty_slots(self.registers.dirty, word, self.slots.len())?;
+        Ok(Visited {
+            place,
+            word,
+            dirty_besides,
+        })
     }
 
     /// Tests the buffered entries, and then the filter.
@@ -123,11 +135,6 @@ impl<'a> Machine<'a> {
     pub fn check_buffer(&self) -> Result<(), Refusal> {
         let buffered = &self.buffer[..self.registers.buffered as usize];
         checks::buffer(buffered, self.filter, self.lines.len() as u64, self.registers.epoch)
-    }
-
-    #[inline]
-    pub fn word_of(&self, place: usize) -> SlotWord {
-        SlotWord(self.slots[place][0])
     }
 
     /// Stores the buffered entries at the ring's end, then the control word that counts them. Buffer and filter are empty
@@ -159,32 +166,34 @@ impl<'a> Machine<'a> {
         Ok(())
     }
 
-    /// Stores a slot's line to the board, after the buffer if that may have an entry of the line. The filter alone says so,
-    /// and a flush of an empty buffer does nothing.
+    /// Stores a dirty slot's line to the board, after the buffer if that may have an entry of the line. The filter alone says
+    /// so, and a flush of an empty buffer does nothing. The slot counts as dirty no more, and its word has to follow.
     #[inline(always)]
-    pub fn write_out(&mut self, place: usize) -> Result<(), Stop> {
-        let address = self.word_of(place).address();
+    pub fn write_out(&mut self, visited: Visited) -> Result<(), Stop> {
+        let address = visited.word.address();
         if is_marked(self.filter, address) {
             self.flush()?;
         }
-        self.mains
-            .store(&mut self.lines[address as usize], self.slots[place][1])
+        let line = &mut self.lines[address as usize];
+        self.mains.store(line, self.slots[visited.place][1])?;
+        self.registers.dirty = visited.dirty_besides;
+        Ok(())
     }
 
     #[inline(always)]
-    pub fn write_out_if_dirty(&mut self, place: usize) -> Result<(), Stop> {
-        if self.word_of(place).is_dirty() {
-            self.write_out(place)?;
+    pub fn write_out_if_dirty(&mut self, visited: Visited) -> Result<(), Stop> {
+        if visited.word.is_dirty() {
+            self.write_out(visited)?;
         }
         Ok(())
     }
 
     /// Holds the line at `address` in its slot, clean unless it was held before.
     #[inline(always)]
-    pub fn hold(&mut self, place: usize, address: u64) -> Result<(), Stop> {
-        if !self.word_of(place).holds(address) {
-            self.write_out_if_dirty(place)?;
-            self.slots[place] = [SlotWord::clean(address).0, self.lines[address as usize]];
+    pub fn hold(&mut self, visited: Visited, address: u64) -> Result<(), Stop> {
+        if !visited.word.holds(address) {
+            self.write_out_if_dirty(visited)?;
+            self.slots[visited.place] = [SlotWord::clean(address).0, self.lines[address as usize]];
         }
         Ok(())
     }

@@ -11,17 +11,14 @@ mod side;
 #[cfg(test)]
 mod tests;
 
-use crate::interface::{Answer, OK};
+use crate::interface::{Answer, CUT, OK};
 use checks::Refusal;
 use layout::{
-    board_parts_mut, buffer_and_filter_of, slots_of, Control, Range, Shape, Slot, SlotWord, LAST_EPOCH, MOST_AHEAD,
-    SHAPE_PLACE,
+    board_parts_mut, buffer_and_filter_of, Control, Range, Shape, SlotWord, LAST_EPOCH, MOST_AHEAD, SHAPE_PLACE,
 };
-use machine::{Machine, Mains, Stop};
+use machine::{Machine, Mains, Stop, Visited};
 pub use registers::Registers;
 pub use side::HandWritten;
-
-const CUT: u64 = 12;
 
 #[inline(never)]
 pub fn format(board: &mut [u64], lines: u64, entries: u64) -> Answer {
@@ -78,10 +75,10 @@ fn recover(board: &mut [u64], work: &[u64], mains: &mut Mains) -> Result<u64, St
 #[inline(never)]
 pub fn load(board: &mut [u64], work: &mut [u64], registers: &mut Registers, address: u64, allowance: u32) -> Answer {
     with_machine(board, work, registers, allowance, |machine| {
-        let place = machine.slot_of(address)?;
+        let visited = machine.slot_of(address)?;
         machine.check_buffer()?;
-        machine.hold(place, address)?;
-        Ok(machine.slots[place][1])
+        machine.hold(visited, address)?;
+        Ok(machine.slots[visited.place][1])
     })
 }
 
@@ -95,10 +92,10 @@ pub fn store(
     allowance: u32,
 ) -> Answer {
     with_machine(board, work, registers, allowance, |machine| {
-        let place = machine.slot_of(address)?;
+        let visited = machine.slot_of(address)?;
         machine.check_buffer()?;
         let epoch = machine.registers.epoch;
-        let word = machine.word_of(place);
+        let Visited { place, word, .. } = visited;
         let held_dirty = word.holds(address) && word.is_dirty();
         if held_dirty && word.tag() == epoch {
             machine.slots[place][1] = data;
@@ -108,7 +105,7 @@ pub fn store(
         if entries == machine.log.len() {
             return Err(Stop::Refused(Refusal::Room));
         }
-        machine.hold(place, address)?;
+        machine.hold(visited, address)?;
         let valid_from = if held_dirty {
             word.tag()
         } else {
@@ -116,6 +113,7 @@ pub fn store(
         };
         let old_data = machine.slots[place][1];
         machine.slots[place] = [SlotWord::dirty(address, epoch).0, data];
+        machine.registers.dirty = visited.dirty_besides + 1;
         let range = Range {
             address,
             valid_from,
@@ -129,13 +127,13 @@ pub fn store(
 #[inline(never)]
 pub fn evict(board: &mut [u64], work: &mut [u64], registers: &mut Registers, address: u64, allowance: u32) -> Answer {
     with_machine(board, work, registers, allowance, |machine| {
-        let place = machine.slot_of(address)?;
+        let visited = machine.slot_of(address)?;
         machine.check_buffer()?;
-        if !machine.word_of(place).holds(address) {
+        if !visited.word.holds(address) {
             return Ok(0);
         }
-        machine.write_out_if_dirty(place)?;
-        machine.slots[place] = [SlotWord::EMPTY.0, 0];
+        machine.write_out_if_dirty(visited)?;
+        machine.slots[visited.place] = [SlotWord::EMPTY.0, 0];
         Ok(1)
     })
 }
@@ -154,9 +152,7 @@ pub fn commit(board: &[u64], work: &[u64], registers: &mut Registers, _allowance
 
 #[inline]
 fn next_epoch(board: &[u64], work: &[u64], registers: &Registers) -> Result<u64, Refusal> {
-    let (control, shape) = checks::head(board)?;
-    let slot_count = checks::slot_count(work.len())?;
-    checks::registers(registers, control, shape, slot_count)?;
+    let (control, shape, slot_count) = checks::opening(board, work, registers)?;
     let (buffer, filter) = buffer_and_filter_of(work, slot_count).ok_or(Refusal::Work)?;
     let buffered = &buffer[..registers.buffered as usize];
     checks::buffer(buffered, filter, shape.lines, registers.epoch)?;
@@ -174,21 +170,19 @@ pub fn scan(board: &mut [u64], work: &mut [u64], registers: &mut Registers, allo
     with_machine(board, work, registers, allowance, |machine| {
         let place = machine.registers.cursor as usize;
         let at_end = place == machine.slots.len();
-        if !at_end {
-            machine.check_slot(place)?;
-        }
+        let visited = if at_end { None } else { Some(machine.visit(place)?) };
         machine.check_buffer()?;
         let target = machine.control.persisted + 1;
         if machine.registers.epoch == target {
             return Err(Stop::Refused(Refusal::None));
         }
-        if at_end {
+        let Some(visited) = visited else {
             persist(machine, target)?;
             return Ok(target);
-        }
-        let word = machine.word_of(place);
+        };
+        let word = visited.word;
         if word.is_dirty() && word.tag() == target {
-            machine.write_out(place)?;
+            machine.write_out(visited)?;
             machine.slots[place][0] = SlotWord::clean(word.address()).0;
         }
         machine.registers.cursor += 1;
@@ -215,14 +209,11 @@ fn persist(machine: &mut Machine, target: u64) -> Result<(), Stop> {
     Ok(())
 }
 
+/// How many slots are dirty, as the registers say.
 #[inline(never)]
-pub fn tally(work: &[u64]) -> Answer {
-    match checks::slot_count(work.len()) {
-        Ok(slots) => {
-            let is_dirty = |slot: &&Slot| SlotWord(slot[0]).is_valid_and_dirty();
-            let dirty = slots_of(work, slots).iter().filter(is_dirty);
-            accepted(dirty.count() as u64, 0)
-        }
+pub fn tally(board: &[u64], work: &[u64], registers: &Registers) -> Answer {
+    match checks::opening(board, work, registers) {
+        Ok(_) => accepted(registers.dirty, 0),
         Err(refusal) => refused(refusal, 0),
     }
 }

@@ -10,15 +10,18 @@ pub struct Registers {
     pub buffered: u64,
     /// The scan's cursor, c.
     pub cursor: u64,
+    /// Dirty slots, d.
+    pub dirty: u64,
 }
 
 impl From<RegisterWords> for Registers {
     #[inline]
-    fn from([epoch, buffered, cursor]: RegisterWords) -> Self {
+    fn from([epoch, buffered, cursor, dirty]: RegisterWords) -> Self {
         Registers {
             epoch,
             buffered,
             cursor,
+            dirty,
         }
     }
 }
@@ -26,6 +29,6 @@ impl From<RegisterWords> for Registers {
 impl From<Registers> for RegisterWords {
     #[inline]
     fn from(registers: Registers) -> Self {
-        [registers.epoch, registers.buffered, registers.cursor]
+        [registers.epoch, registers.buffered, registers.cursor, registers.dirty]
     }
 }

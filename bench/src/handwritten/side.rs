@@ -51,8 +51,8 @@ impl CacheLog for HandWritten {
     }
 
     #[inline]
-    fn tally(work: &[u64]) -> Answer {
-        super::tally(work)
+    fn tally(board: &[u64], work: &[u64], registers: &Registers) -> Answer {
+        super::tally(board, work, registers)
     }
 
     #[inline]

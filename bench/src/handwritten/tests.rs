@@ -1,6 +1,7 @@
 //! The paper's own examples: W1 to W12, its replay, its traps, and the latest log entry that is proper. filter.rs has those of
-//! the filter, names.rs the names.
+//! the filter, count.rs the count of dirty slots, names.rs the names.
 
+mod count;
 mod filter;
 mod names;
 
@@ -45,6 +46,14 @@ impl Loom {
 
     fn make(&mut self, call: Call) -> Answer {
         call.make::<HandWritten>(&mut self.board, &mut self.work, &mut self.registers)
+    }
+
+    /// Makes the call, which has to leave all as it was.
+    fn without_change(&mut self, call: Call) -> Answer {
+        let before = (self.board.clone(), self.work.clone(), self.registers);
+        let answer = self.make(call);
+        assert!(before == (self.board.clone(), self.work.clone(), self.registers));
+        answer
     }
 
     fn power_up(&mut self) -> Answer {

@@ -87,7 +87,16 @@ mod c {
             answer: *mut u64,
             answer_words: usize,
         ) -> u64;
-        pub fn picl_tally(work: *const u64, work_words: usize, answer: *mut u64, answer_words: usize) -> u64;
+        pub fn picl_tally(
+            board: *const u64,
+            board_words: usize,
+            work: *const u64,
+            work_words: usize,
+            registers: *const u64,
+            register_words: usize,
+            answer: *mut u64,
+            answer_words: usize,
+        ) -> u64;
         pub fn picl_filter_bits(work: *const u64, work_words: usize, answer: *mut u64, answer_words: usize) -> u64;
         pub fn picl_trace_write(
             bytes: *mut u8,
@@ -248,8 +257,19 @@ pub fn scan(board: &mut [u64], work: &mut [u64], registers: &mut [u64], allowanc
 }
 
 #[inline]
-pub fn tally(work: &[u64], answer: &mut [u64]) -> u64 {
-    unsafe { c::picl_tally(work.as_ptr(), work.len(), answer.as_mut_ptr(), answer.len()) }
+pub fn tally(board: &[u64], work: &[u64], registers: &[u64], answer: &mut [u64]) -> u64 {
+    unsafe {
+        c::picl_tally(
+            board.as_ptr(),
+            board.len(),
+            work.as_ptr(),
+            work.len(),
+            registers.as_ptr(),
+            registers.len(),
+            answer.as_mut_ptr(),
+            answer.len(),
+        )
+    }
 }
 
 #[inline]

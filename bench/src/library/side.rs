@@ -72,8 +72,8 @@ impl CacheLog for Library {
     }
 
     #[inline]
-    fn tally(work: &[u64]) -> Answer {
-        answered(|answer| super::tally(work, answer))
+    fn tally(board: &[u64], work: &[u64], registers: &RegisterWords) -> Answer {
+        answered(|answer| super::tally(board, work, registers, answer))
     }
 
     #[inline]

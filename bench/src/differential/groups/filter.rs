@@ -80,6 +80,7 @@ fn lend(player: &mut Player, sizes: Sizes) -> u64 {
         epoch,
         buffered,
         cursor,
+        dirty: 1,
     });
     for place in 0..sizes.slots as usize {
         state.set_slot(place, SlotWord::EMPTY);

@@ -128,6 +128,7 @@ fn right_shape_wild_words(player: &mut Player) -> Outcome {
         epoch,
         buffered,
         cursor: random.between(0, slots),
+        ..Registers::default()
     });
     for place in 0..entries as usize {
         let range = wild_range(random, lines, control.persisted, epoch);
