@@ -9,7 +9,7 @@ use crate::random::Random;
 
 /// Does one thing to a state with a board of at least two words.
 pub fn damage(random: &mut Random, state: &mut Lent) {
-    let kinds: [fn(&mut Random, &mut Lent); 12] = [
+    let kinds: [fn(&mut Random, &mut Lent); 14] = [
         flip_a_bit,
         damage_control,
         damage_shape,
@@ -21,6 +21,8 @@ pub fn damage(random: &mut Random, state: &mut Lent) {
         damage_filter,
         damage_filter,
         damage_registers,
+        damage_count,
+        damage_count,
         change_length,
     ];
     random.pick(&kinds)(random, state);
@@ -156,6 +158,10 @@ fn damage_slot(random: &mut Random, state: &mut Lent) {
     };
     let word = damaged_slot(random, state, place, slots);
     state.set_slot(place as usize, word);
+    // A slot that is dirty now, or is so no more, makes the count a wrong one.
+    if random.one_in(2) {
+        state.set_count(state.dirty_slots());
+    }
 }
 
 /// A slot word with its address and its tag at the edge of what is proper, most times.
@@ -201,6 +207,22 @@ fn damage_registers(random: &mut Random, state: &mut Lent) {
         }
     }
     state.set_registers(registers);
+}
+
+/// A count of dirty slots that is one more or less than it was, none, all, just more than all, as large as may be, too large
+/// by its upper bits alone, or any.
+pub fn damage_count(random: &mut Random, state: &mut Lent) {
+    let slots = state.slots() as u64;
+    let count = match random.below(9) {
+        0..3 => random.near(state.registers().dirty, 1),
+        3 => 0,
+        4 => slots,
+        5 => slots + 1,
+        6 => u64::MAX,
+        7 => random.with_an_upper_bit(slots, 32),
+        _ => random.any_width(),
+    };
+    state.set_count(count);
 }
 
 fn near_epoch(random: &mut Random, epoch: u64) -> u64 {

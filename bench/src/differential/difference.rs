@@ -19,6 +19,8 @@ pub struct Difference {
     pub library: Lent,
     pub handwritten_number: u64,
     pub handwritten: Lent,
+    /// The count of dirty slots is true, or need not be.
+    pub is_counted: bool,
 }
 
 impl fmt::Display for Difference {
@@ -38,6 +40,7 @@ impl fmt::Display for Difference {
         self.write_words(out, "answer behind", |lent| {
             lent.answer.get(ANSWER_WORDS..).unwrap_or(&[])
         })?;
+        self.write_count(out)?;
         self.write_read_back(out)
     }
 }
@@ -121,6 +124,19 @@ impl Difference {
             writeln!(out, "* {name:<12} and {more} more differ")?;
         }
         Ok(())
+    }
+
+    fn write_count(&self, out: &mut fmt::Formatter) -> fmt::Result {
+        if self.is_counted {
+            return Ok(());
+        }
+        let after = &self.handwritten;
+        writeln!(
+            out,
+            "* count        dirty slots {}, registers after {}",
+            after.dirty_slots(),
+            register_text(&after.registers)
+        )
     }
 
     fn write_read_back(&self, out: &mut fmt::Formatter) -> fmt::Result {

@@ -1,14 +1,11 @@
 //! Rare turns of the filter: what it has flush and what not, which bits are set, and what is refused for an unset one.
 
 use super::sides::Lent;
-use crate::call::{Call, Kind, NO_CUT};
-use crate::handwritten::layout::{slot_count, FilterBit, FILTER_BITS, LAST_EPOCH, MOST_AHEAD};
-use crate::interface::{FILTER, OK};
+use super::would_be::WouldBe;
+use crate::call::{Call, Kind};
+use crate::handwritten::layout::{slot_count, FilterBit, FILTER_BITS};
+use crate::interface::{ADDRESS, BUFFER, FILTER, OK, SLOT};
 use crate::write_out::WriteOut;
-
-const ADDRESS: u64 = 5;
-const SLOT: u64 = 6;
-const BUFFER: u64 = 7;
 
 /// What a call that looks at the buffer, or the status question, shows on a work memory of a right size.
 pub struct Seen {
@@ -41,15 +38,6 @@ struct Unset {
     oldest_has: [bool; 2],
     /// An entry that is not proper comes behind one with an unset bit.
     before_improper: bool,
-}
-
-#[derive(Default)]
-struct WouldBe {
-    without_room: bool,
-    waiting: bool,
-    last: bool,
-    none: bool,
-    cut: bool,
 }
 
 const CORNERS: [usize; 4] = [0, 63, 64, FILTER_BITS - 1];
@@ -206,7 +194,7 @@ impl Seen {
             self.is_exact = *before.filter() == before.exact_filter();
         }
         if self.number == FILTER {
-            self.would_be = WouldBe::of(call, before, self.write_out);
+            self.would_be = WouldBe::of(call, before);
         }
     }
 
@@ -267,13 +255,10 @@ impl Seen {
 
 impl Unset {
     fn of(lent: &Lent) -> Self {
-        let lines = lent.shape().lines;
-        let epoch = lent.registers().epoch;
         let mut unset = Unset::default();
         for (place, range) in lent.buffered_ranges().enumerate() {
-            let is_proper = range.address < lines && range.valid_from < range.valid_till && range.valid_till <= epoch;
-            unset.before_improper |= !is_proper && unset.entries > 0;
-            let has = FilterBit::both_of(range.address).map(|bit| lent.has_bit(bit));
+            unset.before_improper |= !lent.is_proper_in_buffer(range) && unset.entries > 0;
+            let has = lent.has_bits_of(range.address);
             if has == [true, true] {
                 continue;
             }
@@ -283,35 +268,6 @@ impl Unset {
             unset.entries += 1;
         }
         unset
-    }
-}
-
-impl WouldBe {
-    fn of(call: Call, lent: &Lent, write_out: Option<WriteOut>) -> Self {
-        let control = lent.control();
-        let registers = lent.registers();
-        let ahead = registers.epoch - control.persisted;
-        let none = call.kind() == Kind::Scan && ahead == 1;
-        let entries = control.length as u64 + registers.buffered;
-        let owes_entry = |address: u64| {
-            let word = lent.slot(address as usize % lent.slots());
-            !(word.holds(address) && word.is_dirty() && word.tag() == registers.epoch)
-        };
-        let (address, allowance) = match call {
-            Call::Store { address, allowance, .. } => (Some(address), allowance),
-            Call::Load { allowance, .. } | Call::Evict { allowance, .. } | Call::Scan { allowance } => {
-                (None, allowance)
-            }
-            _ => (None, NO_CUT),
-        };
-        let is_commit = call.kind() == Kind::Commit;
-        WouldBe {
-            without_room: address.is_some_and(owes_entry) && entries == lent.shape().entries,
-            waiting: is_commit && ahead == MOST_AHEAD,
-            last: is_commit && registers.epoch == LAST_EPOCH,
-            none,
-            cut: allowance == 0 && write_out.is_some() && !none,
-        }
     }
 }
 

@@ -170,11 +170,12 @@ pub fn others_with(bit: FilterBit, address: u64, lines: u64) -> Vec<u64> {
     (0..lines).filter(has_bit).collect()
 }
 
-/// Lends a board and a work memory of any words, formats the board and powers up.
+/// Lends a board and a work memory of any words, formats the board and powers up. From then on the count of dirty slots is true.
 pub fn begin(player: &mut Player, sizes: Sizes) -> Outcome {
     player.state.board = player.random.words(sizes.board_words());
     player.state.work = player.random.words(sizes.work_words());
     player.make(sizes.format())?;
+    player.is_undamaged = true;
     player.make(Call::PowerUp { allowance: NO_CUT })
 }
 

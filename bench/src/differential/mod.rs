@@ -2,6 +2,7 @@
 //! Rust, and all that they answer and leave compared word for word.
 
 mod asked;
+mod count_turns;
 mod damage;
 mod difference;
 mod filter_turns;
@@ -14,6 +15,7 @@ mod power_up_turns;
 mod record_turns;
 mod sides;
 mod words;
+mod would_be;
 
 use crate::random::Random;
 use difference::Difference;

@@ -2,7 +2,7 @@
 
 use super::asked::{Asked, Function};
 use super::sides::Lent;
-use super::{filter_turns, name_turns, power_up_turns, record_turns};
+use super::{count_turns, filter_turns, name_turns, power_up_turns, record_turns};
 use crate::call::{Call, Kind};
 use crate::handwritten::layout::Control;
 use crate::handwritten::names::{name_of, NAMES};
@@ -95,6 +95,7 @@ pub struct Occurrences {
     turns: [u64; TURNS.len()],
     power_up_turns: [u64; power_up_turns::TURNS.len()],
     filter_turns: [u64; filter_turns::TURNS.len()],
+    count_turns: count_turns::Counts,
     record_turns: [u64; record_turns::TURNS.len()],
     name_turns: name_turns::Counts,
 }
@@ -106,6 +107,7 @@ impl Default for Occurrences {
             turns: [0; TURNS.len()],
             power_up_turns: [0; power_up_turns::TURNS.len()],
             filter_turns: [0; filter_turns::TURNS.len()],
+            count_turns: count_turns::Counts::default(),
             record_turns: [0; record_turns::TURNS.len()],
             name_turns: name_turns::Counts::default(),
         }
@@ -138,6 +140,9 @@ impl Occurrences {
         if let Some(seen) = filter_turns::Seen::new(call, number, before, after) {
             let taken = filter_turns::TURNS.map(|(_, turn)| turn(&seen));
             count_taken(&mut self.filter_turns, taken);
+        }
+        if let Some(seen) = count_turns::Seen::new(call, number, before, after) {
+            self.count_turns.count(&seen);
         }
     }
 
@@ -178,10 +183,11 @@ impl Occurrences {
         let more = other.numbers.iter().flatten();
         let more = more.chain(&other.turns).chain(&other.power_up_turns);
         let more = more.chain(&other.filter_turns).chain(&other.record_turns);
-        let more = more.chain(other.name_turns.iter());
+        let more = more.chain(other.count_turns.iter()).chain(other.name_turns.iter());
         let counts = self.numbers.iter_mut().flatten();
         let counts = counts.chain(&mut self.turns).chain(&mut self.power_up_turns);
         let counts = counts.chain(&mut self.filter_turns).chain(&mut self.record_turns);
+        let counts = counts.chain(self.count_turns.iter_mut());
         let counts = counts.chain(self.name_turns.iter_mut());
         for (count, more) in counts.zip(more) {
             *count += more;
@@ -194,8 +200,9 @@ impl Occurrences {
         let of_power_ups = named(power_up_turns::TURNS, self.power_up_turns);
         let of_filters = named(filter_turns::TURNS, self.filter_turns);
         let of_records = named(record_turns::TURNS, self.record_turns);
-        let of_all_but_names = of_calls.chain(of_power_ups).chain(of_filters).chain(of_records);
-        of_all_but_names.chain(self.name_turns.named())
+        let of_memories = of_calls.chain(of_power_ups).chain(of_filters);
+        let of_counts_and_records = self.count_turns.named().chain(of_records);
+        of_memories.chain(of_counts_and_records).chain(self.name_turns.named())
     }
 
     pub fn calls(&self) -> u64 {

@@ -3,7 +3,7 @@
 use super::asked::Asked;
 use super::difference::Difference;
 use super::occurrences::Occurrences;
-use super::sides::{is_read_back, on_handwritten, on_library, Lent};
+use super::sides::{has_true_count, is_read_back, on_handwritten, on_library, Lent};
 use crate::interface::{ANSWER_WORDS, NO_REGISTERS};
 use crate::random::Random;
 
@@ -16,6 +16,8 @@ pub struct Player {
     pub state: Lent,
     /// What the last call of the history answered.
     pub last_number: u64,
+    /// Since its board was formatted and woken, the history has damaged nothing: the registers have to count the dirty slots.
+    pub is_undamaged: bool,
     pub occurrences: Occurrences,
     calls_in_history: u64,
     library: Lent,
@@ -28,6 +30,7 @@ impl Player {
             random: Random::new(0),
             state: Lent::default(),
             last_number: 0,
+            is_undamaged: false,
             occurrences: Occurrences::default(),
             calls_in_history: 0,
             library: Lent::default(),
@@ -43,6 +46,7 @@ impl Player {
             ..Lent::default()
         };
         self.last_number = 0;
+        self.is_undamaged = false;
         self.calls_in_history = 0;
     }
 
@@ -57,7 +61,8 @@ impl Player {
         let library_number = on_library(asked, &mut self.library);
         let handwritten_number = on_handwritten(asked, &mut self.handwritten);
         let is_same = library_number == handwritten_number && self.library == self.handwritten;
-        if !is_same || !is_read_back(asked, library_number, &self.library) {
+        let is_counted = !self.is_undamaged || has_true_count(asked, handwritten_number, &self.handwritten);
+        if !is_same || !is_counted || !is_read_back(asked, library_number, &self.library) {
             return Err(Box::new(Difference {
                 asked,
                 place: self.calls_in_history,
@@ -66,6 +71,7 @@ impl Player {
                 library: self.library.clone(),
                 handwritten_number,
                 handwritten: self.handwritten.clone(),
+                is_counted,
             }));
         }
         self.calls_in_history += 1;

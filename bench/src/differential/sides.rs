@@ -3,7 +3,7 @@
 use super::asked::Asked;
 use crate::call::Call;
 use crate::handwritten::{HandWritten, Registers};
-use crate::interface::{Answer, AnswerWords, CacheLog, ANSWER_WORDS, OK};
+use crate::interface::{Answer, AnswerWords, CacheLog, ANSWER_WORDS, CUT, OK};
 use crate::library;
 use crate::record::Record;
 use std::ops::Range;
@@ -122,6 +122,19 @@ pub fn is_read_back(asked: Asked, number: u64, after: &Lent) -> bool {
         Asked::TraceWrite(record) if number == OK => after.read_record().ok().and_then(Record::of) == Some(record),
         _ => true,
     }
+}
+
+/// Whether the registers count the dirty slots, once a call with registers is accepted or cut; and whether a tally does.
+pub fn has_true_count(asked: Asked, number: u64, after: &Lent) -> bool {
+    let Asked::Call(call) = asked else {
+        return true;
+    };
+    if !call.takes_registers() || ![OK, CUT].contains(&number) {
+        return true;
+    }
+    let dirty = after.dirty_slots();
+    let tally_is_true = call != Call::Tally || after.answer[0] == dirty;
+    after.registers().dirty == dirty && tally_is_true
 }
 
 #[cfg(test)]

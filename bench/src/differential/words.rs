@@ -79,6 +79,12 @@ impl Lent {
         self.work[slot_place(place)] = word.0;
     }
 
+    /// The slots that are valid and dirty, whatever else they hold. The registers' count is true where it says as many.
+    pub fn dirty_slots(&self) -> u64 {
+        let is_dirty = |&place: &usize| self.slot(place).is_valid_and_dirty();
+        (0..self.slots()).filter(is_dirty).count() as u64
+    }
+
     /// There is room for a buffer and a filter.
     pub fn has_buffer(&self) -> bool {
         self.work.len() >= work_words(0)
@@ -98,6 +104,17 @@ impl Lent {
     pub fn buffered_ranges(&self) -> impl Iterator<Item = Range> + '_ {
         let count = self.registers().buffered.min(BUFFER_ENTRIES as u64) as usize;
         (0..count).map(|place| self.buffered(place))
+    }
+
+    /// Whether the range of a buffered entry is proper on this board and beside these registers.
+    pub fn is_proper_in_buffer(&self, range: Range) -> bool {
+        let is_in_epochs = range.valid_from < range.valid_till && range.valid_till <= self.registers().epoch;
+        range.address < self.shape().lines && is_in_epochs
+    }
+
+    /// Whether the bits of an address are set, the first and the second.
+    pub fn has_bits_of(&self, address: u64) -> [bool; 2] {
+        FilterBit::both_of(address).map(|bit| self.has_bit(bit))
     }
 
     /// The filter of a work memory that has room for one.
@@ -151,6 +168,14 @@ impl Lent {
     /// Sets the first words of the array: what stands behind them stays.
     pub fn set_registers(&mut self, registers: Registers) {
         self.registers[..REGISTER_WORDS].copy_from_slice(&RegisterWords::from(registers));
+    }
+
+    /// Changes the count of dirty slots and no other register.
+    pub fn set_count(&mut self, dirty: u64) {
+        self.set_registers(Registers {
+            dirty,
+            ..self.registers()
+        });
     }
 
     /// The call whose record the bytes for one begin with.

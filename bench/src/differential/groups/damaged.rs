@@ -17,6 +17,7 @@ pub fn history(player: &mut Player) -> Outcome {
         let calls = player.random.below(12);
         go_on(player, &habit, calls)?;
         let undamaged = player.state.clone();
+        player.is_undamaged = false;
         for _ in 0..player.random.between(1, 2) {
             damage(&mut player.random, &mut player.state);
         }
@@ -25,6 +26,7 @@ pub fn history(player: &mut Player) -> Outcome {
             player.make(call)?;
         }
         player.state = undamaged;
+        player.is_undamaged = true;
     }
     Ok(())
 }

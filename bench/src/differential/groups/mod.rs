@@ -1,6 +1,7 @@
 //! The groups of inputs. Each is a function that plays one history.
 
 mod arrays;
+mod count;
 mod damaged;
 mod filter;
 mod histories;
@@ -20,15 +21,15 @@ pub struct Group {
     pub history: fn(&mut Player) -> Outcome,
 }
 
-pub const GROUPS: [Group; 10] = [
+pub const GROUPS: [Group; 11] = [
     Group {
         name: "histories",
-        share: 360,
+        share: 330,
         history: histories::history,
     },
     Group {
         name: "damaged",
-        share: 209,
+        share: 199,
         history: damaged::history,
     },
     Group {
@@ -38,13 +39,18 @@ pub const GROUPS: [Group; 10] = [
     },
     Group {
         name: "log-edges",
-        share: 100,
+        share: 80,
         history: log_edges::history,
     },
     Group {
         name: "filter",
         share: 60,
         history: filter::history,
+    },
+    Group {
+        name: "count",
+        share: 60,
+        history: count::history,
     },
     Group {
         name: "last-epochs",

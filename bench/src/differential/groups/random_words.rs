@@ -1,7 +1,7 @@
 //! Memories and arguments that no history leads to.
 
 use crate::call::{Call, NO_CUT};
-use crate::differential::damage::damage_filter;
+use crate::differential::damage::{damage_count, damage_filter};
 use crate::differential::player::{Outcome, Player};
 use crate::differential::sides::Lent;
 use crate::handwritten::layout::{
@@ -143,6 +143,10 @@ fn right_shape_wild_words(player: &mut Player) -> Outcome {
         player.state.set_buffered(place, range);
     }
     wild_filter(random, &mut player.state);
+    player.state.set_count(player.state.dirty_slots());
+    if random.one_in(4) {
+        damage_count(random, &mut player.state);
+    }
     for _ in 0..player.random.between(1, 8) {
         let call = any_call(&mut player.random, lines + 1);
         player.make(call)?;

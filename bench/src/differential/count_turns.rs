@@ -1,0 +1,214 @@
+//! Rare turns of the count of dirty slots: what is refused for it and in which place among the tests, which calls do not test
+//! it, and, in steps.rs, how each step changes it.
+
+mod seen;
+mod steps;
+
+use crate::call::Kind;
+pub use seen::Seen;
+
+type Turn = fn(&Seen) -> bool;
+
+/// What each of some kinds of calls has to do.
+struct List {
+    kinds: &'static [Kind],
+    turns: &'static [(&'static str, Turn)],
+}
+
+/// The calls that visit the slot of an address, those that visit a slot, and those that test the registers.
+const WITH_ADDRESS: &[Kind] = &[Kind::Load, Kind::Store, Kind::Evict];
+const VISITING: &[Kind] = &[Kind::Load, Kind::Store, Kind::Evict, Kind::Scan];
+const TESTING: &[Kind] = &[
+    Kind::Load,
+    Kind::Store,
+    Kind::Evict,
+    Kind::Commit,
+    Kind::Scan,
+    Kind::Tally,
+];
+
+const LISTS: [List; 7] = [
+    List {
+        kinds: WITH_ADDRESS,
+        turns: &OF_AN_ADDRESS,
+    },
+    List {
+        kinds: VISITING,
+        turns: &OF_A_VISIT,
+    },
+    List {
+        kinds: TESTING,
+        turns: &OF_THE_REGISTERS,
+    },
+    List {
+        kinds: &[Kind::Store],
+        turns: &[("regs for the count, before room", |seen| {
+            seen.is_by_test() && seen.would_be().without_room
+        })],
+    },
+    List {
+        kinds: &[Kind::Scan],
+        turns: &OF_A_SCAN,
+    },
+    List {
+        kinds: &[Kind::Commit, Kind::Tally],
+        turns: &WITHOUT_THE_TEST,
+    },
+    List {
+        kinds: &[Kind::Tally],
+        turns: &OF_A_TALLY,
+    },
+];
+
+const OF_AN_ADDRESS: [(&str, Turn); 7] = [
+    ("regs for a count of 0 beside its own line, dirty", |seen| {
+        seen.is_by_test() && seen.is_none_beside_dirty() && seen.is_held()
+    }),
+    ("regs for a count of 0 beside another line, dirty", |seen| {
+        seen.is_by_test() && seen.is_none_beside_dirty() && !seen.is_held()
+    }),
+    ("regs for a count of S beside its own line, clean", |seen| {
+        seen.is_by_test() && seen.is_all_beside_not_dirty() && seen.visits_clean() && seen.is_held()
+    }),
+    ("regs for a count of S beside another line, clean", |seen| {
+        seen.is_by_test() && seen.is_all_beside_not_dirty() && seen.visits_clean() && !seen.is_held()
+    }),
+    ("address, and a count of 0 beside a dirty slot", |seen| {
+        seen.is_for_address() && seen.is_none_beside_dirty()
+    }),
+    ("address, and a count of S beside a slot that is not dirty", |seen| {
+        seen.is_for_address() && seen.is_all_beside_not_dirty()
+    }),
+    ("regs for a count above S, before address", |seen| {
+        seen.is_for_excess() && seen.is_beyond()
+    }),
+];
+
+const OF_A_VISIT: [(&str, Turn); 7] = [
+    ("regs for a count above S, before slot", |seen| {
+        seen.is_for_excess() && seen.visits_invalid()
+    }),
+    ("regs for a count of S beside an empty slot", |seen| {
+        seen.is_by_test() && seen.is_all_beside_not_dirty() && seen.visits_empty()
+    }),
+    ("slot, and a count of 0 beside a dirty slot", |seen| {
+        seen.is_for_slot() && seen.is_none_beside_dirty()
+    }),
+    ("slot, and a count of S beside a slot that is not dirty", |seen| {
+        seen.is_for_slot() && seen.is_all_beside_not_dirty()
+    }),
+    ("regs for the count, before buffer", |seen| {
+        seen.is_by_test() && seen.would_be().with_improper_entry
+    }),
+    ("regs for the count, before filter", |seen| {
+        seen.is_by_test() && seen.would_be().with_unset_bit
+    }),
+    ("regs for the count, before a cut", |seen| {
+        seen.is_by_test() && seen.would_be().cut
+    }),
+];
+
+/// A count that is cut to so many bits may be a proper one.
+const HALF_A_WORD: u32 = 32;
+
+const OF_THE_REGISTERS: [(&str, Turn); 5] = [
+    ("regs for a count of S + 1 alone", |seen| {
+        seen.is_for_excess() && seen.excess() == 1
+    }),
+    ("regs for a count of 2^64 - 1 alone", |seen| {
+        seen.is_for_excess() && seen.counts(u64::MAX)
+    }),
+    ("regs for a count whose upper 32 bits alone are too much", |seen| {
+        seen.is_for_excess() && seen.is_proper_in(HALF_A_WORD)
+    }),
+    ("is accepted with a count of S", |seen| {
+        seen.is_ok() && seen.counts_all()
+    }),
+    ("is accepted with a wrong count", |seen| seen.is_ok() && !seen.is_true()),
+];
+
+const OF_A_SCAN: [(&str, Turn); 5] = [
+    ("regs for a count of 0 beside a dirty slot", |seen| {
+        seen.is_by_test() && seen.is_none_beside_dirty()
+    }),
+    ("regs for a count of S beside a clean slot", |seen| {
+        seen.is_by_test() && seen.is_all_beside_not_dirty() && seen.visits_clean()
+    }),
+    ("regs for the count, before none", |seen| {
+        seen.is_by_test() && seen.would_be().none
+    }),
+    ("ends with a count of 0 and every slot dirty", |seen| {
+        seen.is_scan_end() && seen.keeps() && seen.counts(0) && seen.every_slot_is_dirty()
+    }),
+    ("ends with a count of S and no slot dirty", |seen| {
+        seen.is_scan_end() && seen.keeps() && seen.counts_all() && seen.no_slot_is_dirty()
+    }),
+];
+
+const WITHOUT_THE_TEST: [(&str, Turn); 3] = [
+    ("is accepted with a count of 0 and every slot dirty", |seen| {
+        seen.keeps() && seen.counts(0) && seen.every_slot_is_dirty()
+    }),
+    ("is accepted with a count of S and no slot dirty", |seen| {
+        seen.keeps() && seen.counts_all() && seen.no_slot_is_dirty()
+    }),
+    ("is accepted beside an invalid slot", |seen| {
+        seen.is_ok() && seen.has_invalid_slot()
+    }),
+];
+
+const OF_A_TALLY: [(&str, Turn); 4] = [
+    ("is accepted where commit answers buffer", |seen| {
+        seen.is_ok() && seen.would_be().with_improper_entry
+    }),
+    ("is accepted where commit answers filter", |seen| {
+        seen.is_ok() && seen.would_be().with_unset_bit && !seen.would_be().with_improper_entry
+    }),
+    ("is accepted where commit answers waiting", |seen| {
+        seen.is_ok() && seen.would_be().waiting
+    }),
+    ("is accepted where commit answers last", |seen| {
+        seen.is_ok() && seen.would_be().last
+    }),
+];
+
+/// Each turn, with the kind of call that has to take it.
+fn all() -> impl Iterator<Item = (Kind, &'static str, Turn)> {
+    let of_list = |list: &'static List| {
+        let of_kind = |&kind| list.turns.iter().map(move |&(what, turn)| (kind, what, turn));
+        list.kinds.iter().flat_map(of_kind)
+    };
+    LISTS.iter().chain(&steps::LISTS).flat_map(of_list)
+}
+
+/// How often each turn was taken.
+#[derive(Clone)]
+pub struct Counts(Vec<u64>);
+
+impl Default for Counts {
+    fn default() -> Self {
+        Counts(vec![0; all().count()])
+    }
+}
+
+impl Counts {
+    pub fn count(&mut self, seen: &Seen) {
+        for (count, (kind, _, turn)) in self.0.iter_mut().zip(all()) {
+            *count += u64::from(kind == seen.kind && turn(seen));
+        }
+    }
+
+    pub fn iter(&self) -> impl Iterator<Item = &u64> {
+        self.0.iter()
+    }
+
+    pub fn iter_mut(&mut self) -> impl Iterator<Item = &mut u64> {
+        self.0.iter_mut()
+    }
+
+    /// What each turn is, and its count.
+    pub fn named(&self) -> impl Iterator<Item = (String, u64)> + '_ {
+        let names = all().map(|(kind, what, _)| format!("{}: {what}", kind.name()));
+        names.zip(self.0.iter().copied())
+    }
+}

@@ -1,0 +1,258 @@
+//! What a call that takes registers shows of the count of dirty slots.
+
+use crate::call::{Call, Kind};
+use crate::differential::sides::Lent;
+use crate::differential::would_be::WouldBe;
+use crate::handwritten::layout::{Control, SlotWord, BUFFER_ENTRIES, LAST_EPOCH, MOST_AHEAD};
+use crate::handwritten::Registers;
+use crate::interface::{ADDRESS, CUT, OK, REGS, SHAPE, SLOT, WORK};
+use crate::library::TOO_SHORT;
+
+/// A call on a board and a work memory of right sizes.
+pub struct Seen {
+    pub kind: Kind,
+    number: u64,
+    slots: u64,
+    /// The epoch that a scan persists, P + 1, and the running one.
+    target: u64,
+    epoch: u64,
+    /// What the registers count, before and after.
+    before: u64,
+    after: u64,
+    /// The slots that are dirty before, however many are counted.
+    dirty_slots: u64,
+    /// One of the slots has a word that is neither empty nor valid.
+    has_invalid_slot: bool,
+    others_are_proper: bool,
+    visited: Option<Visited>,
+    /// What the call would be refused for behind the count, or be cut; for a tally, what a commit would be.
+    would_be: WouldBe,
+}
+
+/// The slot visited, before the call.
+struct Visited {
+    word: SlotWord,
+    /// It holds the line that the call has the address of.
+    is_held: bool,
+    /// There is no line with that address.
+    is_beyond: bool,
+}
+
+impl Seen {
+    /// None where the call takes no registers, or is refused before it looks at them.
+    pub fn new(call: Call, number: u64, before: &Lent, after: &Lent) -> Option<Self> {
+        if !call.takes_registers() || [SHAPE, WORK, TOO_SHORT].contains(&number) {
+            return None;
+        }
+        let registers = before.registers();
+        let words = (0..before.slots()).map(|place| before.slot(place));
+        let mut seen = Seen {
+            kind: call.kind(),
+            number,
+            slots: before.slots() as u64,
+            target: before.control().persisted + 1,
+            epoch: registers.epoch,
+            before: registers.dirty,
+            after: after.registers().dirty,
+            dirty_slots: before.dirty_slots(),
+            has_invalid_slot: words.into_iter().any(is_invalid),
+            others_are_proper: are_proper_but_for_the_count(before),
+            visited: Visited::by(call, before),
+            would_be: WouldBe::default(),
+        };
+        if seen.is_by_test() {
+            seen.would_be = WouldBe::of(call, before);
+        } else if seen.kind == Kind::Tally && number == OK {
+            seen.would_be = WouldBe::of(Call::COMMIT, before);
+        }
+        Some(seen)
+    }
+
+    pub fn would_be(&self) -> &WouldBe {
+        &self.would_be
+    }
+
+    pub fn is_ok(&self) -> bool {
+        self.number == OK
+    }
+
+    pub fn is_cut(&self) -> bool {
+        self.number == CUT
+    }
+
+    pub fn is_for_address(&self) -> bool {
+        self.number == ADDRESS
+    }
+
+    pub fn is_for_slot(&self) -> bool {
+        self.number == SLOT
+    }
+
+    /// Refused by the test right after 6: the registers are proper.
+    pub fn is_by_test(&self) -> bool {
+        self.number == REGS && self.others_are_proper && self.before <= self.slots
+    }
+
+    /// Refused for a count above S, and for nothing else of the registers.
+    pub fn is_for_excess(&self) -> bool {
+        self.number == REGS && self.others_are_proper && self.before > self.slots
+    }
+
+    pub fn excess(&self) -> u64 {
+        self.before.wrapping_sub(self.slots)
+    }
+
+    pub fn counts(&self, count: u64) -> bool {
+        self.before == count
+    }
+
+    /// The count would be proper if it was cut to so many bits.
+    pub fn is_proper_in(&self, bits: u32) -> bool {
+        self.before & u64::MAX >> (u64::BITS - bits) <= self.slots
+    }
+
+    pub fn counts_all(&self) -> bool {
+        self.before == self.slots
+    }
+
+    pub fn is_true(&self) -> bool {
+        self.before == self.dirty_slots
+    }
+
+    pub fn is_one_too_low(&self) -> bool {
+        self.dirty_slots.checked_sub(1) == Some(self.before)
+    }
+
+    pub fn is_one_too_high(&self) -> bool {
+        self.before == self.dirty_slots + 1
+    }
+
+    pub fn no_slot_is_dirty(&self) -> bool {
+        self.dirty_slots == 0
+    }
+
+    pub fn every_slot_is_dirty(&self) -> bool {
+        self.dirty_slots == self.slots
+    }
+
+    pub fn has_invalid_slot(&self) -> bool {
+        self.has_invalid_slot
+    }
+
+    /// Accepted, and the count is one less then.
+    pub fn lowers(&self) -> bool {
+        self.is_ok() && self.after + 1 == self.before
+    }
+
+    pub fn raises(&self) -> bool {
+        self.is_ok() && self.after == self.before + 1
+    }
+
+    pub fn keeps(&self) -> bool {
+        self.is_ok() && self.after == self.before
+    }
+
+    pub fn leaves(&self, count: u64) -> bool {
+        self.after == count
+    }
+
+    pub fn leaves_all(&self) -> bool {
+        self.after == self.slots
+    }
+
+    /// No count is left of one that was there.
+    pub fn forgets(&self) -> bool {
+        self.before > 0 && self.after == 0
+    }
+
+    pub fn visits(&self, is_such: impl Fn(SlotWord) -> bool) -> bool {
+        self.visited.as_ref().is_some_and(|visited| is_such(visited.word))
+    }
+
+    pub fn visits_empty(&self) -> bool {
+        self.visits(|word| word == SlotWord::EMPTY)
+    }
+
+    pub fn visits_clean(&self) -> bool {
+        self.visits(|word| word.is_valid() && !word.is_dirty())
+    }
+
+    pub fn visits_dirty(&self) -> bool {
+        self.visits(SlotWord::is_valid_and_dirty)
+    }
+
+    pub fn visits_invalid(&self) -> bool {
+        self.visits(is_invalid)
+    }
+
+    /// A dirty line stored to in the running epoch.
+    pub fn visits_newest(&self) -> bool {
+        self.visits_dirty() && self.visits(|word| word.tag() == self.epoch)
+    }
+
+    /// A dirty line of the epoch that the scan persists.
+    pub fn visits_target(&self) -> bool {
+        self.visits_dirty() && self.visits(|word| word.tag() == self.target)
+    }
+
+    pub fn is_held(&self) -> bool {
+        self.visited.as_ref().is_some_and(|visited| visited.is_held)
+    }
+
+    pub fn is_beyond(&self) -> bool {
+        self.visited.as_ref().is_some_and(|visited| visited.is_beyond)
+    }
+
+    pub fn is_scan_end(&self) -> bool {
+        self.kind == Kind::Scan && self.visited.is_none()
+    }
+
+    /// The first form of the test: a count of 0 beside a dirty slot.
+    pub fn is_none_beside_dirty(&self) -> bool {
+        self.before == 0 && self.visits_dirty()
+    }
+
+    /// The second form: a count of S beside a slot that is not dirty.
+    pub fn is_all_beside_not_dirty(&self) -> bool {
+        self.counts_all() && self.visits(|word| !word.is_dirty())
+    }
+}
+
+impl Visited {
+    fn by(call: Call, lent: &Lent) -> Option<Self> {
+        let slots = lent.slots() as u64;
+        let (place, address) = match call {
+            Call::Load { address, .. } | Call::Store { address, .. } | Call::Evict { address, .. } => {
+                (address % slots, Some(address))
+            }
+            Call::Scan { .. } => (lent.registers().cursor, None),
+            _ => return None,
+        };
+        (place < slots).then(|| {
+            let word = lent.slot(place as usize);
+            Visited {
+                word,
+                is_held: address.is_some_and(|address| word.holds(address)),
+                is_beyond: address.is_some_and(|address| address >= lent.shape().lines),
+            }
+        })
+    }
+}
+
+fn is_invalid(word: SlotWord) -> bool {
+    word != SlotWord::EMPTY && !word.is_valid()
+}
+
+fn are_proper_but_for_the_count(lent: &Lent) -> bool {
+    let Control { persisted, length, .. } = lent.control();
+    let Registers {
+        epoch,
+        buffered,
+        cursor,
+        ..
+    } = lent.registers();
+    let epoch_is_proper = persisted < epoch && epoch <= LAST_EPOCH.min(persisted + MOST_AHEAD);
+    let cursor_is_proper = cursor <= lent.slots() as u64 && (cursor == 0 || epoch > persisted + 1);
+    let has_room = buffered < BUFFER_ENTRIES as u64 && length as u64 + buffered <= lent.shape().entries;
+    epoch_is_proper && cursor_is_proper && has_room
+}

@@ -1,0 +1,172 @@
+//! States in which the count of dirty slots decides: slots of every kind, and a count that is true, one beside that, none, all
+//! or too many; with something else that is not proper, now and then, which another test would refuse.
+
+use crate::call::{Call, NO_CUT};
+use crate::differential::damage::{damage_count, damage_filter};
+use crate::differential::player::{Outcome, Player};
+use crate::differential::sides::Lent;
+use crate::handwritten::layout::{Control, Range, SlotWord, BUFFER_ENTRIES, LAST_EPOCH, MOST_AHEAD, MOST_LINES};
+use crate::handwritten::Registers;
+use crate::random::Random;
+use crate::sizes::Sizes;
+
+/// One state in so many has an improper slot, and as many an improper buffered entry, or a damaged filter.
+const DISTURBED_ONE_IN: u64 = 5;
+
+pub fn history(player: &mut Player) -> Outcome {
+    let sizes = draw_sizes(&mut player.random);
+    for _ in 0..16 {
+        lend(player, sizes);
+        for _ in 0..player.random.between(1, 3) {
+            let call = draw_call(&mut player.random, sizes, &player.state);
+            player.make(call)?;
+        }
+    }
+    Ok(())
+}
+
+/// Few slots, most times: the more there are, the less often none or all of them are dirty.
+fn draw_sizes(random: &mut Random) -> Sizes {
+    let most_slots = random.pick(&[1, 2, 3, 5, 5, 40]);
+    let slots = random.between(1, most_slots);
+    Sizes {
+        lines: random.between(1, 3 * slots + 1),
+        entries: random.between(1, 40),
+        slots,
+    }
+}
+
+/// Lends a board, registers and a work memory, proper but for what disturbs them.
+fn lend(player: &mut Player, sizes: Sizes) {
+    let random = &mut player.random;
+    let state = &mut player.state;
+    state.board = random.words(sizes.board_words());
+    state.work = random.words(sizes.work_words());
+    state.set_shape(sizes.shape());
+    lend_registers(random, state, sizes);
+    lend_slots(random, state, sizes);
+    lend_buffer(random, state, sizes);
+    state.set_count(state.dirty_slots());
+    if !random.one_in(4) {
+        damage_count(random, state);
+    }
+    if random.one_in(DISTURBED_ONE_IN) {
+        make_a_slot_improper(random, state);
+    }
+}
+
+/// The control word and the registers but for the count.
+fn lend_registers(random: &mut Random, state: &mut Lent, sizes: Sizes) {
+    let most_buffered = sizes.entries.min(BUFFER_ENTRIES as u64 - 1);
+    let buffered = random.between(0, most_buffered);
+    let room = sizes.entries - buffered;
+    let some_of_room = random.between(0, room);
+    let control = Control {
+        persisted: random.pick(&[0, 7, 1_000, LAST_EPOCH - MOST_AHEAD, LAST_EPOCH - 1]),
+        start: random.below(sizes.entries) as usize,
+        length: random.pick(&[0, room, some_of_room]) as usize,
+    };
+    let ahead = random.pick(&[1, 2, 3, MOST_AHEAD]);
+    let epoch = LAST_EPOCH.min(control.persisted + ahead);
+    let any_cursor = random.between(0, sizes.slots);
+    let cursor = if epoch == control.persisted + 1 {
+        0
+    } else {
+        random.pick(&[sizes.slots, any_cursor, any_cursor])
+    };
+    state.set_control(control);
+    state.set_registers(Registers {
+        epoch,
+        buffered,
+        cursor,
+        ..Registers::default()
+    });
+}
+
+/// All of one kind, or of any: empty, clean, dirty.
+fn lend_slots(random: &mut Random, state: &mut Lent, sizes: Sizes) {
+    const KINDS: u64 = 3;
+    let of_all = random.below(KINDS);
+    let is_mixed = random.one_in(2);
+    let target = state.control().persisted + 1;
+    let epoch = state.registers().epoch;
+    for place in 0..sizes.slots {
+        let address = place + sizes.slots * random.below(lines_of_slot(place, sizes));
+        let any_tag = random.between(target, epoch);
+        let tag = random.pick(&[target, epoch, any_tag]);
+        let kind = if is_mixed { random.below(KINDS) } else { of_all };
+        let word = match kind {
+            _ if address >= sizes.lines => SlotWord::EMPTY,
+            0 => SlotWord::EMPTY,
+            1 => SlotWord::clean(address),
+            _ => SlotWord::dirty(address, tag),
+        };
+        state.set_slot(place as usize, word);
+    }
+}
+
+/// How many lines belong in a slot. There may be none.
+fn lines_of_slot(place: u64, sizes: Sizes) -> u64 {
+    sizes.lines.saturating_sub(place).div_ceil(sizes.slots)
+}
+
+/// The buffered entries and the filter, of which one may not be proper.
+fn lend_buffer(random: &mut Random, state: &mut Lent, sizes: Sizes) {
+    let Registers { epoch, buffered, .. } = state.registers();
+    for place in 0..buffered as usize {
+        let valid_till = random.between(state.control().persisted + 1, epoch);
+        let range = Range {
+            address: random.below(sizes.lines),
+            valid_from: valid_till - 1,
+            valid_till,
+        };
+        state.set_buffered(place, range);
+    }
+    if buffered > 0 && random.one_in(DISTURBED_ONE_IN) {
+        let place = random.below(buffered) as usize;
+        let range = state.buffered(place);
+        let valid_from = range.valid_till;
+        state.set_buffered(place, Range { valid_from, ..range });
+    }
+    *state.filter_mut() = state.exact_filter();
+    if random.one_in(DISTURBED_ONE_IN) {
+        damage_filter(random, state);
+    }
+}
+
+/// The slot under the scan's cursor, or any: not valid, with a tag that is too late, or with zero bits that are not zero.
+fn make_a_slot_improper(random: &mut Random, state: &mut Lent) {
+    let slots = state.slots() as u64;
+    let cursor = state.registers().cursor;
+    let any = random.below(slots);
+    let place = random.pick(&[cursor.min(slots - 1), any]) as usize;
+    let SlotWord(word) = state.slot(place);
+    let bit = random.below(u64::from(SlotWord::ZERO_BITS));
+    let improper = match random.below(3) {
+        0 => (word | 1 << bit) & !SlotWord::VALID,
+        1 => SlotWord::dirty(state.slot(place).address(), LAST_EPOCH).0 | 1 << bit,
+        _ => word | 1 << bit,
+    };
+    state.set_slot(place, SlotWord(improper));
+}
+
+fn draw_call(random: &mut Random, sizes: Sizes, state: &Lent) -> Call {
+    let slot = random.below(sizes.slots);
+    let held = state.slot(slot as usize).address();
+    let of_the_slot = slot + sizes.slots * random.below(lines_of_slot(slot, sizes));
+    let beyond = random.pick(&[sizes.lines, sizes.lines + 1, MOST_LINES + slot, u64::MAX - slot]);
+    let address = random.pick(&[held, held, of_the_slot, of_the_slot, of_the_slot, beyond]);
+    let allowance = random.pick(&[NO_CUT, NO_CUT, 0, 1]);
+    match random.below(16) {
+        0..4 => Call::Load { address, allowance },
+        4..8 => Call::Store {
+            address,
+            data: random.word(),
+            allowance,
+        },
+        8..11 => Call::Evict { address, allowance },
+        11 => Call::Commit { allowance },
+        12..15 => Call::Scan { allowance },
+        _ => Call::Tally,
+    }
+}
