@@ -140,6 +140,7 @@ pub fn has_true_count(asked: Asked, number: u64, after: &Lent) -> bool {
 #[cfg(test)]
 mod tests {
     use super::*;
+    use crate::handwritten::layout::{work_words, SlotWord};
 
     /// The number, all bytes and the answer, once the hand-written Rust was asked for the name of 3 with a text from byte 2 on.
     fn ask_for_entry(text_bytes: usize, answer_words: usize) -> (u64, Vec<u8>, Vec<u64>) {
@@ -167,5 +168,46 @@ mod tests {
         assert_eq!(ask_for_entry(8, 1), (255, bytes.clone(), vec![100]));
         assert_eq!(ask_for_entry(8, 0), (255, bytes.clone(), vec![]));
         assert_eq!(ask_for_entry(0, 0), (255, bytes, vec![]));
+    }
+
+    /// Whether a count, and a first answer word, are true after such a call where one slot of three is dirty.
+    fn is_true(call: Call, number: u64, count: u64, value: u64) -> bool {
+        let mut lent = Lent {
+            work: vec![0; work_words(3)],
+            registers: vec![1, 0, 0, count],
+            answer: vec![value, 0],
+            ..Lent::default()
+        };
+        lent.set_slot(1, SlotWord::dirty(4, 1));
+        lent.set_slot(2, SlotWord::clean(2));
+        has_true_count(Asked::Call(call), number, &lent)
+    }
+
+    #[test]
+    fn accepted_and_cut_calls_have_to_leave_a_true_count() {
+        for call in [
+            Call::load(4),
+            Call::store(4, 7),
+            Call::evict(3),
+            Call::COMMIT,
+            Call::SCAN,
+            Call::POWER_UP,
+        ] {
+            for number in [0, 12] {
+                assert!(is_true(call, number, 1, 9), "{call}");
+                assert!(!is_true(call, number, 0, 9), "{call}");
+                assert!(!is_true(call, number, 2, 9), "{call}");
+            }
+            assert!(is_true(call, 4, 0, 0), "{call}");
+        }
+        assert!(is_true(Call::FilterBits, 0, 0, 0));
+    }
+
+    #[test]
+    fn a_tally_has_to_be_true() {
+        assert!(is_true(Call::Tally, 0, 1, 1));
+        assert!(!is_true(Call::Tally, 0, 1, 2));
+        assert!(!is_true(Call::Tally, 0, 2, 2));
+        assert!(is_true(Call::Tally, 4, 2, 0));
     }
 }

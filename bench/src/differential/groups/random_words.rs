@@ -118,40 +118,44 @@ fn right_shape_wild_words(player: &mut Player) -> Outcome {
         length: random.between(0, entries) as usize,
     };
     let room = entries - control.length as u64;
-    let epoch = control.persisted + random.between(1, MOST_AHEAD);
-    let buffered = random.below(BUFFER_ENTRIES as u64 + 1).min(room);
     player.state.board = random.words(sizes.board_words());
     player.state.work = random.words(sizes.work_words());
     player.state.set_control(control);
     player.state.set_shape(sizes.shape());
     player.state.set_registers(Registers {
-        epoch,
-        buffered,
+        epoch: control.persisted + random.between(1, MOST_AHEAD),
+        buffered: random.below(BUFFER_ENTRIES as u64 + 1).min(room),
         cursor: random.between(0, slots),
         ..Registers::default()
     });
-    for place in 0..entries as usize {
-        let range = wild_range(random, lines, control.persisted, epoch);
-        player.state.set_entry(place, range);
-    }
-    for place in 0..slots {
-        let word = wild_slot(random, sizes, place, control, epoch);
-        player.state.set_slot(place as usize, word);
-    }
-    for place in 0..BUFFER_ENTRIES {
-        let range = wild_range(random, lines, control.persisted, epoch);
-        player.state.set_buffered(place, range);
-    }
-    wild_filter(random, &mut player.state);
-    player.state.set_count(player.state.dirty_slots());
-    if random.one_in(4) {
-        damage_count(random, &mut player.state);
-    }
+    lend_wild_words(random, &mut player.state, sizes);
     for _ in 0..player.random.between(1, 8) {
         let call = any_call(&mut player.random, lines + 1);
         player.make(call)?;
     }
     Ok(())
+}
+
+/// The words of log, slots, buffer and filter, and a count of dirty slots that is true most times.
+fn lend_wild_words(random: &mut Random, state: &mut Lent, sizes: Sizes) {
+    let control = state.control();
+    let epoch = state.registers().epoch;
+    let range = |random: &mut Random| wild_range(random, sizes.lines, control.persisted, epoch);
+    for place in 0..sizes.entries as usize {
+        state.set_entry(place, range(random));
+    }
+    for place in 0..sizes.slots {
+        let word = wild_slot(random, sizes, place, control, epoch);
+        state.set_slot(place as usize, word);
+    }
+    for place in 0..BUFFER_ENTRIES {
+        state.set_buffered(place, range(random));
+    }
+    wild_filter(random, state);
+    state.set_count(state.dirty_slots());
+    if random.one_in(4) {
+        damage_count(random, state);
+    }
 }
 
 /// Proper nearly always: one of many that is not makes a whole buffer or log improper.
