@@ -19,6 +19,11 @@ pub const REGS: u64 = 4;
 pub const ADDRESS: u64 = 5;
 pub const SLOT: u64 = 6;
 pub const BUFFER: u64 = 7;
+pub const ROOM: u64 = 8;
+pub const WAITING: u64 = 9;
+pub const LAST: u64 = 10;
+/// No epoch waits to be persisted.
+pub const NONE: u64 = 11;
 pub const CUT: u64 = 12;
 /// A record of a trace that breaks its layout or ends early, or what has no place in one.
 pub const TRACE: u64 = 13;

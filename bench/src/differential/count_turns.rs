@@ -5,6 +5,7 @@ mod seen;
 mod steps;
 
 use crate::call::Kind;
+use crate::interface::{BUFFER, CUT, FILTER, LAST, NONE, ROOM, WAITING};
 pub use seen::Seen;
 
 type Turn = fn(&Seen) -> bool;
@@ -27,7 +28,22 @@ const TESTING: &[Kind] = &[
     Kind::Tally,
 ];
 
-const LISTS: [List; 7] = [
+/// The calls that are lent registers.
+const TAKING: &[Kind] = &[
+    Kind::PowerUp,
+    Kind::Load,
+    Kind::Store,
+    Kind::Evict,
+    Kind::Commit,
+    Kind::Scan,
+    Kind::Tally,
+];
+
+const LISTS: [List; 8] = [
+    List {
+        kinds: TAKING,
+        turns: &OF_THE_ARRAY,
+    },
     List {
         kinds: WITH_ADDRESS,
         turns: &OF_AN_ADDRESS,
@@ -43,7 +59,7 @@ const LISTS: [List; 7] = [
     List {
         kinds: &[Kind::Store],
         turns: &[("regs for the count, before room", |seen| {
-            seen.is_by_test() && seen.would_be().without_room
+            seen.is_by_test() && seen.would_be() == ROOM
         })],
     },
     List {
@@ -58,6 +74,15 @@ const LISTS: [List; 7] = [
         kinds: &[Kind::Tally],
         turns: &OF_A_TALLY,
     },
+];
+
+const OF_THE_ARRAY: [(&str, Turn); 2] = [
+    ("short for one register word alone", |seen| {
+        seen.is_short() && seen.has_answer() && seen.lacks_one_register()
+    }),
+    ("is accepted with words behind the registers", |seen| {
+        seen.is_ok() && seen.has_more_than_registers()
+    }),
 ];
 
 const OF_AN_ADDRESS: [(&str, Turn); 7] = [
@@ -98,13 +123,13 @@ const OF_A_VISIT: [(&str, Turn); 7] = [
         seen.is_for_slot() && seen.is_all_beside_not_dirty()
     }),
     ("regs for the count, before buffer", |seen| {
-        seen.is_by_test() && seen.would_be().with_improper_entry
+        seen.is_by_test() && seen.would_be() == BUFFER
     }),
     ("regs for the count, before filter", |seen| {
-        seen.is_by_test() && seen.would_be().with_unset_bit
+        seen.is_by_test() && seen.would_be() == FILTER
     }),
     ("regs for the count, before a cut", |seen| {
-        seen.is_by_test() && seen.would_be().cut
+        seen.is_by_test() && seen.would_be() == CUT
     }),
 ];
 
@@ -135,7 +160,7 @@ const OF_A_SCAN: [(&str, Turn); 5] = [
         seen.is_by_test() && seen.is_all_beside_not_dirty() && seen.visits_clean()
     }),
     ("regs for the count, before none", |seen| {
-        seen.is_by_test() && seen.would_be().none
+        seen.is_by_test() && seen.would_be() == NONE
     }),
     ("ends with a count of 0 and every slot dirty", |seen| {
         seen.is_scan_end() && seen.keeps() && seen.counts(0) && seen.every_slot_is_dirty()
@@ -157,18 +182,21 @@ const WITHOUT_THE_TEST: [(&str, Turn); 3] = [
     }),
 ];
 
-const OF_A_TALLY: [(&str, Turn); 4] = [
+const OF_A_TALLY: [(&str, Turn); 5] = [
+    ("answers a true count between 0 and S", |seen| {
+        seen.keeps() && seen.is_true() && !seen.counts(0) && !seen.counts_all()
+    }),
     ("is accepted where commit answers buffer", |seen| {
-        seen.is_ok() && seen.would_be().with_improper_entry
+        seen.is_ok() && seen.would_be() == BUFFER
     }),
     ("is accepted where commit answers filter", |seen| {
-        seen.is_ok() && seen.would_be().with_unset_bit && !seen.would_be().with_improper_entry
+        seen.is_ok() && seen.would_be() == FILTER
     }),
     ("is accepted where commit answers waiting", |seen| {
-        seen.is_ok() && seen.would_be().waiting
+        seen.is_ok() && seen.would_be() == WAITING
     }),
     ("is accepted where commit answers last", |seen| {
-        seen.is_ok() && seen.would_be().last
+        seen.is_ok() && seen.would_be() == LAST
     }),
 ];
 

@@ -3,6 +3,7 @@
 use super::player::{Outcome, Player};
 use crate::call::{Call, NO_CUT};
 use crate::handwritten::layout::{FilterBit, ENTRY_WORDS, FILTER_BITS, MOST_LINES};
+use crate::interface::{NONE, ROOM, WAITING};
 use crate::random::Random;
 use crate::sizes::Sizes;
 
@@ -204,9 +205,6 @@ pub fn next_call(player: &mut Player, habit: &Habit) -> Call {
 /// What helps after the last answer, most times: power-up after a cut, scans for room or for an epoch that waits, a
 /// commit where there is nothing to scan for.
 fn call_for(player: &mut Player, habit: &Habit) -> Option<Call> {
-    const ROOM: u64 = 8;
-    const WAITING: u64 = 9;
-    const NONE: u64 = 11;
     let random = &mut player.random;
     if random.one_in(4) {
         return None;

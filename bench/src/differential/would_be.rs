@@ -3,6 +3,7 @@
 use super::sides::Lent;
 use crate::call::{Call, Kind, NO_CUT};
 use crate::handwritten::layout::{LAST_EPOCH, MOST_AHEAD};
+use crate::interface::{BUFFER, CUT, FILTER, LAST, NONE, OK, ROOM, WAITING};
 use crate::write_out::WriteOut;
 
 /// Each by itself: several may hold.
@@ -38,6 +39,21 @@ impl WouldBe {
             none,
             cut: allowance(call) == 0 && write_out.is_some() && !none,
         }
+    }
+
+    /// The number that it would answer, in the order of the tests.
+    pub fn number(&self) -> u64 {
+        let in_order = [
+            (self.with_improper_entry, BUFFER),
+            (self.with_unset_bit, FILTER),
+            (self.without_room, ROOM),
+            (self.waiting, WAITING),
+            (self.last, LAST),
+            (self.none, NONE),
+            (self.cut, CUT),
+        ];
+        let first = in_order.iter().find(|(holds, _)| *holds);
+        first.map_or(OK, |&(_, number)| number)
     }
 }
 

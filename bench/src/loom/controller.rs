@@ -4,14 +4,12 @@ use super::workload::{Order, Work};
 use crate::call::{Call, Kind};
 use crate::handwritten::layout::{Control, CONTROL_PLACE, ENTRY_WORDS, MOST_LINES};
 use crate::handwritten::Registers;
-use crate::interface::{Answer, RegisterWords, NO_REGISTERS, OK};
+use crate::interface::{Answer, RegisterWords, NONE, NO_REGISTERS, OK, ROOM};
 use crate::library::Library;
 use crate::random::Random;
 use crate::sizes::Sizes;
 use crate::write_out::WriteOut;
 
-const ROOM: u64 = 8;
-const NONE: u64 = 11;
 const SEED: u64 = 2_600_400;
 
 /// Epochs before anything is counted, so that cache and log are as in the midst of work.

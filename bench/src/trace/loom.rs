@@ -4,7 +4,7 @@ use super::file::trace_of;
 use super::run::{Outcome, Run, Totals};
 use crate::call::Call;
 use crate::handwritten::names::name_of;
-use crate::interface::OK;
+use crate::interface::{NONE, OK};
 use crate::loom::workload::{lines_of_pick, pick_of, Order, Work, STORES_PER_EPOCH};
 use crate::random::Random;
 use crate::replay::line_of;
@@ -14,7 +14,6 @@ use std::path::Path;
 
 const SIZES: Sizes = MOST_OF_THE_REPLAY;
 const SEED: u64 = 2_600_400;
-const NONE: u64 = 11;
 
 /// The calls of a trace that is long enough to be timed, at least.
 const TIMED_CALLS: usize = 1_000_000;

@@ -5,13 +5,15 @@ use crate::differential::sides::Lent;
 use crate::differential::would_be::WouldBe;
 use crate::handwritten::layout::{Control, SlotWord, BUFFER_ENTRIES, LAST_EPOCH, MOST_AHEAD};
 use crate::handwritten::Registers;
-use crate::interface::{ADDRESS, CUT, OK, REGS, SHAPE, SLOT, WORK};
+use crate::interface::{ADDRESS, ANSWER_WORDS, CUT, OK, REGISTER_WORDS, REGS, SHAPE, SLOT, WORK};
 use crate::library::TOO_SHORT;
 
-/// A call on a board and a work memory of right sizes.
+/// A call on a board and a work memory of right sizes; or one that is lent too short an array, of which nothing else is noted.
 pub struct Seen {
     pub kind: Kind,
     number: u64,
+    register_words: usize,
+    answer_words: usize,
     slots: u64,
     /// The epoch that a scan persists, P + 1, and the running one.
     target: u64,
@@ -25,8 +27,8 @@ pub struct Seen {
     has_invalid_slot: bool,
     others_are_proper: bool,
     visited: Option<Visited>,
-    /// What the call would be refused for behind the count, or be cut; for a tally, what a commit would be.
-    would_be: WouldBe,
+    /// What the call would answer if it was not refused for the count; to a tally, what a commit would.
+    would_be: u64,
 }
 
 /// The slot visited, before the call.
@@ -41,35 +43,72 @@ struct Visited {
 impl Seen {
     /// None where the call takes no registers, or is refused before it looks at them.
     pub fn new(call: Call, number: u64, before: &Lent, after: &Lent) -> Option<Self> {
-        if !call.takes_registers() || [SHAPE, WORK, TOO_SHORT].contains(&number) {
+        if !call.takes_registers() || [SHAPE, WORK].contains(&number) {
             return None;
         }
-        let registers = before.registers();
-        let words = (0..before.slots()).map(|place| before.slot(place));
-        let mut seen = Seen {
-            kind: call.kind(),
-            number,
-            slots: before.slots() as u64,
-            target: before.control().persisted + 1,
-            epoch: registers.epoch,
-            before: registers.dirty,
-            after: after.registers().dirty,
-            dirty_slots: before.dirty_slots(),
-            has_invalid_slot: words.into_iter().any(is_invalid),
-            others_are_proper: are_proper_but_for_the_count(before),
-            visited: Visited::by(call, before),
-            would_be: WouldBe::default(),
-        };
-        if seen.is_by_test() {
-            seen.would_be = WouldBe::of(call, before);
-        } else if seen.kind == Kind::Tally && number == OK {
-            seen.would_be = WouldBe::of(Call::COMMIT, before);
+        let mut seen = Seen::of_arrays(call.kind(), number, before);
+        if number != TOO_SHORT {
+            seen.look_at_count(call, before, after);
         }
         Some(seen)
     }
 
-    pub fn would_be(&self) -> &WouldBe {
-        &self.would_be
+    fn of_arrays(kind: Kind, number: u64, before: &Lent) -> Self {
+        Seen {
+            kind,
+            number,
+            register_words: before.registers.len(),
+            answer_words: before.answer.len(),
+            slots: 0,
+            target: 0,
+            epoch: 0,
+            before: 0,
+            after: 0,
+            dirty_slots: 0,
+            has_invalid_slot: false,
+            others_are_proper: false,
+            visited: None,
+            would_be: OK,
+        }
+    }
+
+    fn look_at_count(&mut self, call: Call, before: &Lent, after: &Lent) {
+        let registers = before.registers();
+        let mut words = (0..before.slots()).map(|place| before.slot(place));
+        self.slots = before.slots() as u64;
+        self.target = before.control().persisted + 1;
+        self.epoch = registers.epoch;
+        self.before = registers.dirty;
+        self.after = after.registers().dirty;
+        self.dirty_slots = before.dirty_slots();
+        self.has_invalid_slot = words.any(is_invalid);
+        self.others_are_proper = are_proper_but_for_the_count(before);
+        self.visited = Visited::by(call, before);
+        if self.is_by_test() {
+            self.would_be = WouldBe::of(call, before).number();
+        } else if self.kind == Kind::Tally && self.is_ok() {
+            self.would_be = WouldBe::of(Call::COMMIT, before).number();
+        }
+    }
+
+    pub fn would_be(&self) -> u64 {
+        self.would_be
+    }
+
+    pub fn is_short(&self) -> bool {
+        self.number == TOO_SHORT
+    }
+
+    pub fn has_answer(&self) -> bool {
+        self.answer_words >= ANSWER_WORDS
+    }
+
+    pub fn lacks_one_register(&self) -> bool {
+        self.register_words + 1 == REGISTER_WORDS
+    }
+
+    pub fn has_more_than_registers(&self) -> bool {
+        self.register_words > REGISTER_WORDS
     }
 
     pub fn is_ok(&self) -> bool {
