@@ -182,10 +182,11 @@ const WITHOUT_THE_TEST: [(&str, Turn); 3] = [
     }),
 ];
 
-const OF_A_TALLY: [(&str, Turn); 5] = [
+const OF_A_TALLY: [(&str, Turn); 6] = [
     ("answers a true count between 0 and S", |seen| {
-        seen.keeps() && seen.is_true() && !seen.counts(0) && !seen.counts_all()
+        seen.answers_count() && seen.is_true() && !seen.counts(0) && !seen.counts_all()
     }),
+    ("answers a wrong count", |seen| seen.answers_count() && !seen.is_true()),
     ("is accepted where commit answers buffer", |seen| {
         seen.is_ok() && seen.would_be() == BUFFER
     }),

@@ -209,6 +209,9 @@ fn damage_registers(random: &mut Random, state: &mut Lent) {
     state.set_registers(registers);
 }
 
+/// A count with a bit from here on is proper if it is cut to half a word, or to less.
+const LOWEST_UPPER_BIT: u64 = 32;
+
 /// A count of dirty slots that is one more or less than it was, none, all, just more than all, as large as may be, too large
 /// by its upper bits alone, or any.
 pub fn damage_count(random: &mut Random, state: &mut Lent) {
@@ -219,7 +222,7 @@ pub fn damage_count(random: &mut Random, state: &mut Lent) {
         4 => slots,
         5 => slots + 1,
         6 => u64::MAX,
-        7 => random.with_an_upper_bit(slots, 32),
+        7 => random.with_an_upper_bit(slots, LOWEST_UPPER_BIT),
         _ => random.any_width(),
     };
     state.set_count(count);

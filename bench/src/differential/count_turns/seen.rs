@@ -18,6 +18,7 @@ pub struct Seen {
     /// The epoch that a scan persists, P + 1, and the running one.
     target: u64,
     epoch: u64,
+    value: u64,
     /// What the registers count, before and after.
     before: u64,
     after: u64,
@@ -62,6 +63,7 @@ impl Seen {
             slots: 0,
             target: 0,
             epoch: 0,
+            value: 0,
             before: 0,
             after: 0,
             dirty_slots: 0,
@@ -78,6 +80,7 @@ impl Seen {
         self.slots = before.slots() as u64;
         self.target = before.control().persisted + 1;
         self.epoch = registers.epoch;
+        self.value = after.answer[0];
         self.before = registers.dirty;
         self.after = after.registers().dirty;
         self.dirty_slots = before.dirty_slots();
@@ -113,6 +116,11 @@ impl Seen {
 
     pub fn is_ok(&self) -> bool {
         self.number == OK
+    }
+
+    /// Accepted, and the value is the count of the registers.
+    pub fn answers_count(&self) -> bool {
+        self.is_ok() && self.value == self.before
     }
 
     pub fn is_cut(&self) -> bool {
