@@ -273,7 +273,7 @@ fn entries_restored(m: Machine) -> Machine {
 
 // "Power-up: from the newest log entry to the oldest, each entry .. has its data stored to its
 // line. Then the control word: same P, start 0, length 0, always stored. Then work memory all
-// zero, s = P + 1, b = 0, c = 0."
+// zero, s = P + 1, b = 0, c = 0." No slot is dirty then, so their count is 0.
 pub fn powered_up(m: Machine) -> Machine {
     let persisted = m.control.persisted;
     let control = Control {

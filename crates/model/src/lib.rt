@@ -91,7 +91,7 @@ pub fn power_up(board: &mut [u64], work: &mut [u64], allowance: u32) -> Answer {
     finished(board, work, powered_up(m), allowance)
 }
 
-// Load (a): rows 1, 2, 4 to 7, 14 and 12; then what `loaded` says.
+// Load (a): rows 1, 2, 4 to 6, the count's test, 7, 14 and 12; then what `loaded` says.
 pub fn load(
     board: &mut [u64],
     work: &mut [u64],
@@ -111,7 +111,7 @@ pub fn load(
     finished(board, work, loaded(m, address), allowance)
 }
 
-// Store (a, value): rows 1, 2, 4 to 7, 14, 8 and 12; then what `stored` says.
+// Store (a, value): rows 1, 2, 4 to 6, the count's test, 7, 14, 8 and 12; then what `stored` says.
 pub fn store(
     board: &mut [u64],
     work: &mut [u64],
@@ -132,7 +132,7 @@ pub fn store(
     finished(board, work, stored(m, address, value), allowance)
 }
 
-// Evict (a): rows 1, 2, 4 to 7, 14 and 12; then what `evicted` says.
+// Evict (a): rows 1, 2, 4 to 6, the count's test, 7, 14 and 12; then what `evicted` says.
 pub fn evict(
     board: &mut [u64],
     work: &mut [u64],
@@ -166,7 +166,7 @@ pub fn commit(board: &mut [u64], work: &mut [u64], registers: Registers, allowan
     finished(board, work, committed(m), allowance)
 }
 
-// Scan: rows 1, 2, 4, 6, 7, 14, 11 and 12; then what `scanned` says.
+// Scan: rows 1, 2, 4, 6, the count's test, 7, 14, 11 and 12; then what `scanned` says.
 pub fn scan(board: &mut [u64], work: &mut [u64], registers: Registers, allowance: u32) -> Answer {
     let number = memory_refusal(board, work);
     if number != OK {
@@ -180,7 +180,7 @@ pub fn scan(board: &mut [u64], work: &mut [u64], registers: Registers, allowance
     finished(board, work, scanned(m), allowance)
 }
 
-// One slot word of the tally: "whose valid and dirty bits are both 1, whatever else they hold".
+// One slot word of the old count: "whose valid and dirty bits are both 1, whatever else they hold".
 fn tallied(word: u64) -> u64 {
     let slot = slot_of(word, 0);
     if !slot.valid {
@@ -192,8 +192,9 @@ fn tallied(word: u64) -> u64 {
     1
 }
 
-// "the number of slot words whose valid and dirty bits are both 1".
-fn dirty_count(work: &[u64]) -> u64 {
+// "the old count", as the tally was before request 5/13: "the number of slot words whose valid and
+// dirty bits are both 1".
+pub fn dirty_count(work: &[u64]) -> u64 {
     let slots = slot_count(work.len() as u64);
     let mut count = 0;
     for k in 0..slots {
@@ -202,14 +203,20 @@ fn dirty_count(work: &[u64]) -> u64 {
     count
 }
 
-// Tally: row 2 alone.
-pub fn tally(work: &[u64]) -> Answer {
-    if !work_good(work.len() as u64) {
-        return refused(WORK, Registers::zero());
+// Tally: rows 1, 2 and 4. "The tally is then read from the registers". It returns none: those of its
+// answer are zero.
+pub fn tally(board: &[u64], work: &[u64], registers: Registers) -> Answer {
+    let number = memory_refusal(board, work);
+    if number != OK {
+        return refused(number, Registers::zero());
+    }
+    let number = tally_refusal(decoded(board, work, registers));
+    if number != OK {
+        return refused(number, Registers::zero());
     }
     Answer {
         number: OK,
-        value: dirty_count(work),
+        value: registers.dirty,
         stores: 0,
         registers: Registers::zero(),
     }

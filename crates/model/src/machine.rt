@@ -31,7 +31,7 @@ pub struct Machine {
     pub slots: [Slot; MOST_SLOTS],
     pub buffer: [Entry; BUFFER_ENTRIES],
     pub filter: [u64; FILTER_WORDS],
-    // The registers s, b and c.
+    // The registers s, b and c, and the count of dirty slots.
     pub registers: Registers,
     // What the call owes the board, and the value of its answer: "Values not named are 0."
     pub due: DueList,
@@ -155,11 +155,15 @@ pub fn slot_at(m: Machine, k: u64) -> Slot {
     m.slots[at]
 }
 
-// The state with another slot at the number k.
+// The state with another slot at the number k: "Keep the count of dirty slots in the registers". The
+// count's tests have seen to it that it passes neither 0 nor S.
 pub fn with_slot(m: Machine, k: u64, slot: Slot) -> Machine {
     let at = index(k, MOST_SLOTS);
+    let old = m.slots[at];
+    let others = difference(m.registers.dirty, bit(old.dirty));
     let mut next = m;
     next.slots[at] = slot;
+    next.registers.dirty = sum(others, bit(slot.dirty));
     next
 }
 

@@ -151,6 +151,15 @@ fn not_woken(number: u64) -> TraceRun {
     }
 }
 
+// "a fresh woken board": power-up's answer, or format's where that refuses.
+fn woken(board: &mut [u64], work: &mut [u64], lines: u64, entries: u64) -> Answer {
+    let formatted = crate::format(board, lines, entries);
+    if formatted.number != OK {
+        return formatted;
+    }
+    crate::power_up(board, work, ALLOWANCE)
+}
+
 // "a file of the controller's calls on a fresh woken board": N, L, and S by the work memory.
 pub fn run_fresh(
     board: &mut [u64],
@@ -159,14 +168,10 @@ pub fn run_fresh(
     entries: u64,
     bytes: &[u8],
 ) -> TraceRun {
-    let formatted = crate::format(board, lines, entries);
-    if formatted.number != OK {
-        return not_woken(formatted.number);
+    let answer = woken(board, work, lines, entries);
+    if answer.number != OK {
+        return not_woken(answer.number);
     }
-    let woken = crate::power_up(board, work, ALLOWANCE);
-    if woken.number != OK {
-        return not_woken(woken.number);
-    }
-    let registers = woken.registers;
+    let registers = answer.registers;
     run_trace(board, work, registers, bytes)
 }

@@ -1,5 +1,6 @@
 // The table of "What an answer says": its numbers, and the tests of each. "The lowest number wins",
-// but that 14 is "tested right after 7 wherever 7 is".
+// but that 14 is "tested right after 7 wherever 7 is", and that a count of dirty slots which the
+// visited slot belies "answers 4" only "right after 6".
 use crate::filter::both_set;
 use crate::machine::*;
 use crate::words::*;
@@ -153,7 +154,7 @@ pub fn first_improper(m: Machine) -> u64 {
 }
 
 // "Proper registers: P < s <= 2^24 - 1, s - P <= 16, b <= 31, c <= S, c = 0 where s = P + 1,
-// length + b <= L."
+// length + b <= L." "Registers are also improper when the count exceeds S."
 fn registers_proper(m: Machine) -> bool {
     let epoch = m.registers.epoch;
     let persisted = m.control.persisted;
@@ -170,6 +171,9 @@ fn registers_proper(m: Machine) -> bool {
         return false;
     }
     if m.registers.cursor > m.slot_count {
+        return false;
+    }
+    if m.registers.dirty > m.slot_count {
         return false;
     }
     if epoch == persisted + 1 {
@@ -260,8 +264,29 @@ fn buffer_refusal(m: Machine) -> u64 {
     OK
 }
 
-// Rows 4 to 7 and 14 of load, store and evict: "5 address: a >= N"; "6 slot: the slot visited is not
-// proper: slot a mod S".
+// "a count of 0 with the visited slot dirty, or of S with it not": of a slot that is proper.
+fn count_belied(m: Machine, visited: u64) -> bool {
+    let slot = slot_at(m, visited);
+    if slot.dirty {
+        return m.registers.dirty == 0;
+    }
+    m.registers.dirty == m.slot_count
+}
+
+// "6 slot: the slot visited is not proper"; the count's test "Right after 6, in each call that has
+// it"; then rows 7 and 14.
+fn visit_refusal(m: Machine, visited: u64) -> u64 {
+    if !slot_proper(m, visited) {
+        return SLOT;
+    }
+    if count_belied(m, visited) {
+        return REGISTERS;
+    }
+    buffer_refusal(m)
+}
+
+// Rows 4 to 7 and 14 of load, store and evict, and the count's test: "5 address: a >= N"; the slot
+// visited is "slot a mod S".
 pub fn line_refusal(m: Machine, address: u64) -> u64 {
     if !registers_proper(m) {
         return REGISTERS;
@@ -269,10 +294,7 @@ pub fn line_refusal(m: Machine, address: u64) -> u64 {
     if address >= m.line_count {
         return ADDRESS;
     }
-    if !slot_proper(m, home_slot(address, m.slot_count)) {
-        return SLOT;
-    }
-    buffer_refusal(m)
+    visit_refusal(m, home_slot(address, m.slot_count))
 }
 
 // Whether a store makes an undo entry: "a clean line makes the entry P, s ..; a dirty line with
@@ -303,6 +325,14 @@ pub fn store_refusal(m: Machine, address: u64) -> u64 {
     OK
 }
 
+// "Tally now refuses as commit does up to 4": row 4, behind those of the two memories' sizes.
+pub fn tally_refusal(m: Machine) -> u64 {
+    if !registers_proper(m) {
+        return REGISTERS;
+    }
+    OK
+}
+
 // Rows 4, 7 and 14 of commit; then "9 waiting: s - P = 16"; "10 last: s = 2^24 - 1".
 pub fn commit_refusal(m: Machine) -> u64 {
     if !registers_proper(m) {
@@ -321,18 +351,22 @@ pub fn commit_refusal(m: Machine) -> u64 {
     OK
 }
 
-// Rows 4, 6, 7 and 14 of scan: "the slot visited is not proper: .. slot c if c < S"; then "11 none:
-// s = P + 1".
+// Rows 6, 7 and 14 of scan, and the count's test: the slot visited is "slot c if c < S". With c = S
+// none is.
+fn cursor_refusal(m: Machine) -> u64 {
+    let cursor = m.registers.cursor;
+    if cursor < m.slot_count {
+        return visit_refusal(m, cursor);
+    }
+    buffer_refusal(m)
+}
+
+// Row 4 of scan; those of the slot and the buffer; then "11 none: s = P + 1".
 pub fn scan_refusal(m: Machine) -> u64 {
     if !registers_proper(m) {
         return REGISTERS;
     }
-    if m.registers.cursor < m.slot_count {
-        if !slot_proper(m, m.registers.cursor) {
-            return SLOT;
-        }
-    }
-    let number = buffer_refusal(m);
+    let number = cursor_refusal(m);
     if number != OK {
         return number;
     }

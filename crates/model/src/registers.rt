@@ -1,10 +1,12 @@
-// The paper's registers s, b and c, and their words in this order.
-pub const COUNT: usize = 3;
+// The paper's registers s, b and c and, by document 02's request 5/13, "the count of dirty slots":
+// their words in this order.
+pub const COUNT: usize = 4;
 
 pub struct Registers {
     pub epoch: u64,
     pub buffered: u64,
     pub cursor: u64,
+    pub dirty: u64,
 }
 
 impl Registers {
@@ -18,10 +20,11 @@ impl Registers {
             epoch: words[0],
             buffered: words[1],
             cursor: words[2],
+            dirty: words[3],
         }
     }
 
     pub fn words(self) -> [u64; COUNT] {
-        [self.epoch, self.buffered, self.cursor]
+        [self.epoch, self.buffered, self.cursor, self.dirty]
     }
 }

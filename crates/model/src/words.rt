@@ -202,7 +202,7 @@ pub fn slot_of(word: u64, line_data: u64) -> Slot {
     }
 }
 
-fn bit(set: bool) -> u64 {
+pub fn bit(set: bool) -> u64 {
     if set { 1 } else { 0 }
 }
 
