@@ -15,9 +15,9 @@ use model::Registers;
 // the value (for n: L; P is 32), the allowance (* is all of it), a space. Steps that are no calls print no
 // line: v is the work word at an address that becomes the value, o one that becomes all ones, f the
 // whole filter that does, u the control word that gets the last P but one.
-const STEP: usize = 8;
+pub const STEP: usize = 8;
 
-fn step_of(bytes: &[u8]) -> Step {
+pub fn step_of(bytes: &[u8]) -> Step {
     if bytes.len() < STEP {
         return no_step();
     }
@@ -31,7 +31,7 @@ fn step_of(bytes: &[u8]) -> Step {
     }
 }
 
-fn put(words: &mut [u64], place: u64, word: u64) {
+pub fn put(words: &mut [u64], place: u64, word: u64) {
     let at = place as usize;
     if at < words.len() {
         words[at] = word;

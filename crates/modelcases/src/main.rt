@@ -1,7 +1,8 @@
 // Runs the paper's replay listing and its examples W5 to W12 on the model, and prints the listing's
 // columns; then logs about the limit of document 02's request 2/13, the filter of its request 3/13,
-// records and traces, of its request 1/13, and the names of the numbers. The stored output holds what
-// the papers say.
+// the count of dirty slots of its request 5/13, records and traces, of its request 1/13, and the
+// names of the numbers. The stored output holds what the papers say.
+mod counts;
 mod filters;
 mod names;
 mod packing;
@@ -26,7 +27,7 @@ fn number(n: u64) {
 }
 
 // Letter, number, value, stores, s, P, log length, b.
-fn show(letter: u8, a: Answer, board: &[u64]) {
+fn show_columns(letter: u8, a: Answer, board: &[u64]) {
     let name = [letter];
     io::write_all(STDOUT_FILENO, &name);
     number(a.number);
@@ -38,6 +39,10 @@ fn show(letter: u8, a: Answer, board: &[u64]) {
         number(length_of(board[CONTROL]));
     }
     number(a.registers.buffered);
+}
+
+fn show(letter: u8, a: Answer, board: &[u64]) {
+    show_columns(letter, a, board);
     io::write_all(STDOUT_FILENO, b"\n");
 }
 
@@ -114,7 +119,7 @@ fn called(board: &mut [u64], work: &mut [u64], r: Registers, s: Step) -> Answer 
         b'c' => model::commit(board, work, r, s.allowance),
         b'a' => model::scan(board, work, r, s.allowance),
         b'q' => model::filter_bits(work),
-        _ => model::tally(work),
+        _ => model::tally(board, work, r),
     }
 }
 
@@ -223,6 +228,7 @@ fn main() {
     recoveries();
     ends();
     filters::cases();
+    counts::cases();
     records::cases();
     traces::cases();
     random::list(1, 3000);

@@ -53,6 +53,11 @@ pub const BOARD_ROOM: usize = WIDE_BOARD;
 
 pub const WIDE_WORK: usize = 2 * 4 + BEHIND_SLOTS;
 
+// The work memories of the count's cases: 1 slot; one word more.
+pub const ONE_SLOT_WORK: usize = 2 + BEHIND_SLOTS;
+
+pub const ODD_WORK: usize = ONE_SLOT_WORK + 1;
+
 pub const FULL_WORK: usize = 2 * 32 + BEHIND_SLOTS;
 
 pub const WORK_ROOM: usize = 2 * 257 + BEHIND_SLOTS;
