@@ -108,6 +108,28 @@ pub fn allowed(c: Call, allowance: u64) -> Call {
     }
 }
 
+// The calls in the order in which turns are counted by them: those that test the buffer, the others
+// that are given registers, the status question, the rest.
+pub const TESTING: u64 = 5;
+
+pub const GIVEN_REGISTERS: u64 = 6;
+
+pub const QUESTION: u64 = 6;
+
+pub fn place_of(c: Call) -> u64 {
+    let kind = c.kind;
+    match kind {
+        Kind::Load => 0,
+        Kind::Store => 1,
+        Kind::Evict => 2,
+        Kind::Scan => 3,
+        Kind::Commit => 4,
+        Kind::Tally => 5,
+        Kind::FilterBits => QUESTION,
+        _ => 7,
+    }
+}
+
 fn of_answer(a: picl::Answer) -> Outcome {
     let status = a.status;
     let registers = a.registers;
@@ -129,10 +151,10 @@ fn of_report(a: picl::Report, registers: [u64; REGISTERS]) -> Outcome {
     }
 }
 
-// The calls of a work memory alone.
-fn library_count(work: &[u64], kind: Kind) -> picl::Report {
+// The calls that change nothing.
+fn library_count(board: &[u64], work: &[u64], words: [u64; REGISTERS], kind: Kind) -> picl::Report {
     match kind {
-        Kind::Tally => picl::tally(work),
+        Kind::Tally => picl::tally(board, work, library_registers(words)),
         _ => picl::filter_bits(work),
     }
 }
@@ -148,7 +170,7 @@ fn library_call(board: &mut [u64], work: &mut [u64], words: [u64; REGISTERS], c:
         Kind::Evict => of_answer(picl::evict(board, work, r, c.address, c.allowance)),
         Kind::Commit => of_answer(picl::commit(board, work, r, c.allowance)),
         Kind::Scan => of_answer(picl::scan(board, work, r, c.allowance)),
-        _ => of_report(library_count(work, kind), words),
+        _ => of_report(library_count(board, work, words, kind), words),
     }
 }
 
@@ -166,9 +188,9 @@ fn of_model_report(a: model::Answer, registers: [u64; REGISTERS]) -> Outcome {
     }
 }
 
-fn model_count(work: &[u64], kind: Kind) -> model::Answer {
+fn model_count(board: &[u64], work: &[u64], words: [u64; REGISTERS], kind: Kind) -> model::Answer {
     match kind {
-        Kind::Tally => model::tally(work),
+        Kind::Tally => model::tally(board, work, model::Registers::from_words(words)),
         _ => model::filter_bits(work),
     }
 }
@@ -184,7 +206,7 @@ fn model_call(board: &mut [u64], work: &mut [u64], words: [u64; REGISTERS], c: C
         Kind::Evict => of_model(model::evict(board, work, r, c.address, c.allowance)),
         Kind::Commit => of_model(model::commit(board, work, r, c.allowance)),
         Kind::Scan => of_model(model::scan(board, work, r, c.allowance)),
-        _ => of_model_report(model_count(work, kind), words),
+        _ => of_model_report(model_count(board, work, words, kind), words),
     }
 }
 

@@ -20,6 +20,7 @@ pub enum Part {
     Register,
     Board,
     Work,
+    Count,
     Persisted,
     Line,
     Record,

@@ -30,9 +30,9 @@ fn line_kind(n: u64) -> Kind {
 // and of one too many.
 const QUIET: u64 = 5;
 
-const CALLS: u64 = QUIET + 18;
+pub const CALLS: u64 = QUIET + 18;
 
-fn numbered_call(n: u64) -> Call {
+pub fn numbered_call(n: u64) -> Call {
     if n < QUIET {
         return quiet_call(n);
     }
@@ -176,42 +176,48 @@ fn count_of(n: u64) -> u64 {
     0xFFFFFFFFFFFFFFFF
 }
 
-fn cursor_of(n: u64) -> u64 {
+// The values of c and of the count of dirty slots: up to S + 1, and the greatest.
+fn slots_of(n: u64) -> u64 {
     if n < 5 {
         return n;
     }
     0xFFFFFFFFFFFFFFFF
 }
 
-// The values of s: about 0, about the last epoch, and the greatest.
-fn epoch_of(n: u64) -> u64 {
-    if n < 40 {
-        return value_of(n, LAST_EPOCH);
+// The values of s: P, the next epoch, that of the sound state and the one after it, the last that is
+// proper, one too many, and the greatest.
+fn epoch_of(n: u64, persisted: u64, running: u64) -> u64 {
+    match n {
+        0 => persisted,
+        1 => sum(persisted, 1),
+        2 => running,
+        3 => sum(running, 1),
+        4 => sum(persisted, 16),
+        5 => sum(persisted, 17),
+        _ => 0xFFFFFFFFFFFFFFFF,
     }
-    if n < 42 {
-        return sum(n - 39, LAST_EPOCH);
-    }
-    0xFFFFFFFFFFFFFFFF
 }
 
-const TRIPLES: u64 = 3870;
+const QUADRUPLES: u64 = 3780;
 
 fn with_registers(s: State, n: u64) -> State {
     let mut registers = [0; REGISTERS];
-    registers[EPOCH] = epoch_of(n / 90);
-    registers[BUFFERED] = count_of(n / 6 % 15);
-    registers[CURSOR] = cursor_of(n % 6);
+    let persisted = persisted_of(s.board[CONTROL]);
+    registers[EPOCH] = epoch_of(n / 540, persisted, s.registers[EPOCH]);
+    registers[BUFFERED] = count_of(n / 36 % 15);
+    registers[CURSOR] = slots_of(n / 6 % 6);
+    registers[DIRTY] = slots_of(n % 6);
     let mut next = s;
     next.registers = registers;
     next
 }
 
-// Every triple of 43 values of s, 15 of b and 6 of c.
+// Every quadruple of 7 values of s, 15 of b, 6 of c and 6 of the count.
 pub fn registers(n: u64, score: Score) -> Score {
     let base = sound(n, score);
     let state = base.state;
     let mut next = base.score;
-    for i in 0..TRIPLES {
+    for i in 0..QUADRUPLES {
         next = every_call(with_registers(state, i), next);
     }
     next

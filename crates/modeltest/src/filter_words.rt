@@ -1,9 +1,10 @@
-// The filter of a state, by this program's own packing: whether the bits of an address are set, which
-// line a call may write out, and what damages the filter.
+// The filter of a state, by this program's own packing: whether the bits of an address are set,
+// whether a call flushed for them alone, and what damages the filter.
 use crate::calls::*;
 use crate::packing::*;
 use crate::random::below;
 use crate::register_words::*;
+use crate::slot_words::*;
 
 pub const ONES: u64 = 0xFFFFFFFFFFFFFFFF;
 
@@ -58,30 +59,10 @@ pub fn is_buffered(s: State, address: u64) -> bool {
     false
 }
 
-// The slot that a call visits; S where it visits none.
-fn visited(s: State, c: Call) -> u64 {
-    let kind = c.kind;
-    let slots = slots_in(s.work_words);
-    if slots == 0 {
-        return slots;
-    }
-    match kind {
-        Kind::Load | Kind::Store | Kind::Evict => c.address % slots,
-        Kind::Scan => s.registers[CURSOR],
-        _ => slots,
-    }
-}
-
-// The line in the slot that a call visits.
-pub fn visited_line(s: State, c: Call) -> u64 {
-    let at = index(slot_place(visited(s, c)), WORK_ROOM);
-    slot_address(s.work[at])
-}
-
 // Whether a call, by what it left, flushed since it wrote a line out that no buffered entry is of. A
 // flush of 32 entries is none.
 pub fn is_false_hit(s: State, c: Call, left: State) -> bool {
-    if visited(s, c) >= slots_in(s.work_words) {
+    if !visits(s, c) {
         return false;
     }
     if s.registers[BUFFERED] >= BUFFER_ENTRIES - 1 {
@@ -130,7 +111,7 @@ pub fn with_exact_filter(s: State) -> State {
 }
 
 // The newest buffered entry zero, so that it is not proper; none where nothing is buffered.
-fn with_improper(s: State) -> State {
+pub fn with_improper(s: State) -> State {
     let count = s.registers[BUFFERED];
     if count == 0 {
         return s;

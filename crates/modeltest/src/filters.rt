@@ -16,6 +16,7 @@ use crate::plans::shared_line;
 use crate::random::advanced;
 use crate::random::below;
 use crate::register_words::*;
+use crate::slot_words::visited_line;
 use crate::turns::*;
 
 // A list for each of four lines, and with or without a store to each of the two lines that share its
@@ -116,24 +117,6 @@ fn numbered_call(line: u64, n: u64) -> Call {
         8 => plain(Kind::FilterBits),
         9 => plain(Kind::Tally),
         _ => plain(Kind::PowerUp),
-    }
-}
-
-// The calls that test the buffer, in the order of their turns; the status question; the others.
-const TESTING: u64 = 5;
-
-const QUESTION: u64 = 5;
-
-fn place_of(c: Call) -> u64 {
-    let kind = c.kind;
-    match kind {
-        Kind::Load => 0,
-        Kind::Store => 1,
-        Kind::Evict => 2,
-        Kind::Scan => 3,
-        Kind::Commit => 4,
-        Kind::FilterBits => QUESTION,
-        _ => 6,
     }
 }
 

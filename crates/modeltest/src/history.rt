@@ -1,6 +1,6 @@
 // Lists of calls that begin with format and power-up, held to the reference machine as well: after
 // each call the control word's P, after each accepted power-up the lines, after each accepted load
-// its value.
+// its value. The count of dirty slots is held to the slot words.
 use crate::calls::*;
 use crate::compare::*;
 use crate::packing::*;
@@ -10,6 +10,9 @@ use crate::random::advanced;
 use crate::random::below;
 use crate::random::scrambled;
 use crate::register_words::*;
+use crate::slot_words::dirty_slots;
+use crate::turns::CUT;
+use crate::turns::OK;
 use model::Reference;
 
 pub struct History {
@@ -73,12 +76,49 @@ fn between_accepted(s: State, reference: Reference, c: Call, o: Outcome) -> Diff
     }
 }
 
+// The count of dirty slots that a call shows: a tally by its value.
+pub fn shown_count(c: Call, o: Outcome) -> u64 {
+    let kind = c.kind;
+    match kind {
+        Kind::Tally => o.value,
+        _ => o.registers[DIRTY],
+    }
+}
+
+fn between_numbers(found: u64, wanted: u64) -> Difference {
+    if found == wanted {
+        return no_difference();
+    }
+    differing(Part::Count, 0, found, wanted)
+}
+
+// "true after each accepted call and each cut": both counts are 0 after a cut. Of a controller that
+// is not awake nothing else is said.
+fn between_counts(s: State, c: Call, o: Outcome) -> Difference {
+    let slots = dirty_slots(s);
+    let shown = shown_count(c, o);
+    if o.number == CUT {
+        return between_numbers(shown | slots, 0);
+    }
+    if o.number != OK {
+        return no_difference();
+    }
+    if o.registers[EPOCH] == 0 {
+        return no_difference();
+    }
+    between_numbers(shown, slots)
+}
+
 fn between_histories(s: State, reference: Reference, c: Call, o: Outcome) -> Difference {
     let persisted = persisted_of(s.board[CONTROL]);
     if persisted != reference.persisted() {
         return differing(Part::Persisted, 0, persisted, reference.persisted());
     }
-    if o.number != 0 {
+    let counts = between_counts(s, c, o);
+    if !is_same(counts) {
+        return counts;
+    }
+    if o.number != OK {
         return no_difference();
     }
     between_accepted(s, reference, c, o)
@@ -179,7 +219,7 @@ pub fn next_call(h: History, plan: Plan, word: u64) -> Call {
     random::call(word, mix, plan.lines, state.registers[EPOCH])
 }
 
-fn turn(h: History, plan: Plan, word: u64) -> History {
+pub fn turn(h: History, plan: Plan, word: u64) -> History {
     let c = next_call(h, plan, word);
     watched(before_call(h, plan, word, c), c)
 }

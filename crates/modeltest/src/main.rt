@@ -4,6 +4,7 @@
 // group of calls, and the stored output has 0 differences in each.
 mod calls;
 mod compare;
+mod counts;
 mod cuts;
 mod damage;
 mod filter_words;
@@ -19,6 +20,7 @@ mod random;
 mod record_words;
 mod register_words;
 mod short;
+mod slot_words;
 mod trace_jobs;
 mod traces;
 mod turns;
@@ -100,16 +102,17 @@ fn damaged() {
         ENTRY_ENDS_END,
     );
     turns_line(filters::calls(16001, new_score(18)), FILTERS, FILTERS_END);
+    turns_line(counts::calls(18001, new_score(19)), COUNTS, COUNTS_END);
 }
 
 fn recorded() {
-    let written = record_words::writer(10001, new_score(19));
-    let read = record_words::reader(11001, new_score(20));
-    let traced = traces::runs(12001, new_score(21));
+    let written = record_words::writer(10001, new_score(20));
+    let read = record_words::reader(11001, new_score(21));
+    let traced = traces::runs(12001, new_score(22));
     turns_line(written, WRITER, WRITER_END);
     turns_line(read, READER, READER_END);
     turns_line(traced, RUN, RUN_END);
-    turns_line(names::texts(17001, new_score(22)), NAMES, NAMES_END);
+    turns_line(names::texts(17001, new_score(23)), NAMES, NAMES_END);
 }
 
 fn main() {

@@ -16,6 +16,7 @@ use crate::random::below;
 use crate::random::filled;
 use crate::random::scrambled;
 use crate::register_words::*;
+use crate::slot_words::dirty_slots;
 
 // Epochs near 0 and near the last.
 fn random_persisted(word: u64) -> u64 {
@@ -161,6 +162,17 @@ fn registers(f: Frame) -> [u64; REGISTERS] {
     words
 }
 
+// One in eight times any count up to S + 1, else that of the dirty slots.
+fn counted(s: State, word: u64) -> State {
+    let mut next = s;
+    next.registers[DIRTY] = if word % 8 == 0 {
+        below(word, SLOTS + 2)
+    } else {
+        dirty_slots(s)
+    };
+    next
+}
+
 // A state whose words are all in range, if its epochs fit their fields, with the filter of its
 // buffered entries or one that is damaged.
 fn random_fields(seed: u64) -> State {
@@ -180,7 +192,7 @@ fn random_fields(seed: u64) -> State {
     };
     let second = scrambled(seed);
     damaged_filter(
-        with_exact_filter(state),
+        with_exact_filter(counted(state, second >> 9)),
         below(second, 2 * DAMAGES),
         below(second >> 20, LINES),
         second,
@@ -198,7 +210,7 @@ fn framed_words(seed: u64) -> State {
         state.board[CONTROL] = control(f);
     }
     state.registers = registers(f);
-    state
+    counted(state, seed >> 9)
 }
 
 // Of the two memories' words, a bit of one flipped.

@@ -122,6 +122,10 @@ pub fn slot_address(word: u64) -> u64 {
     (word >> 46) & LAST_ADDRESS
 }
 
+pub fn is_dirty(word: u64) -> bool {
+    (word >> 62) & 1 == 1
+}
+
 pub fn clean_word(address: u64) -> u64 {
     (1 << 63) | (address << 46)
 }

@@ -203,6 +203,11 @@ pub fn cut_sharing(seed: u64) -> Plan {
     seeded(plan(234, 32, 8, 4, evicting(), 1500), seed)
 }
 
+// A list whose states have the count of dirty slots damaged.
+pub fn counted(seed: u64) -> Plan {
+    seeded(plan(LINES, ENTRIES, SLOTS, SLOTS, evicting(), 0), seed)
+}
+
 // The largest boards of the traces, and the fewest and the most records.
 const TRACE_LINES: u64 = 12;
 

@@ -39,7 +39,7 @@ fn group_name(group: u64) {
         );
     } else {
         name_at(
-            b"cuts;cuts at a full buffer;shared bits;cuts with shared bits;one bit;one field;registers;random words;random fields;log ends;filters;records written;records read;traces;names;",
+            b"cuts;cuts at a full buffer;shared bits;cuts with shared bits;one bit;one field;registers;random words;random fields;log ends;filters;counts;records written;records read;traces;names;",
             group - LAST_GROUPS,
         );
     }
@@ -69,6 +69,7 @@ fn part_name(part: Part) {
         Part::Register => text(b"register"),
         Part::Board => text(b"board word"),
         Part::Work => text(b"work word"),
+        Part::Count => text(b"count of dirty slots"),
         Part::Persisted => text(b"P against the reference machine"),
         Part::Line => text(b"line against the reference machine"),
         Part::Record => text(b"record word"),
@@ -202,6 +203,11 @@ fn turn_name(turn: u64) {
         name_at(
             b"false hit by load;by store;by evict;by scan;true hit;one bit of two;no bit;both bits and no entries;false hit of a damaged filter;of one whose every bit is set;14 by load;by store;by evict;by scan;by commit;before 8;before 9;before 10;before 11;before 12;7 before 14;no bits counted;some;all;",
             turn - FILTERS,
+        );
+    } else if turn >= COUNTS {
+        name_at(
+            b"4 at 0 by load;by store;by evict;by scan;4 at S by load;by store;by evict;by scan;5 before 4;6 before 4;4 before 7;before 8;before 11;before 12;before 14;above S by load;by store;by evict;by scan;by commit;by tally;lowered by load;raised by store;lowered by evict;by scan;0 passed;S passed;either at a scan's end;wrong and carried on;wrong and tallied;",
+            turn - COUNTS,
         );
     } else {
         name_at(

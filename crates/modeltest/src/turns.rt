@@ -1,12 +1,12 @@
-// The turns that the groups of recorded traces, of log ends, of filters and of names take. Each is
-// counted where it answers the number that its plan says, is printed with its count, and is a
-// difference where it never occurs.
+// The turns that the groups of recorded traces, of log ends, of filters, of counts and of names
+// take. Each is counted where it answers the number that its plan says, is printed with its count,
+// and is a difference where it never occurs.
 use crate::calls::index;
 use crate::calls::sum;
 use crate::compare::*;
 use crate::print;
 
-pub const TURNS: usize = 80;
+pub const TURNS: usize = 110;
 
 // The writer's: a kind and an address with no place in a record.
 pub const WRITER: u64 = 0;
@@ -196,6 +196,42 @@ pub const NO_NAME: u64 = 79;
 
 pub const NAMES_END: u64 = 80;
 
+// The counts': 4, since the count is 0 and the visited slot dirty, by load, store, evict, scan; since
+// it is S and the slot not dirty, by the same.
+pub const COUNTS: u64 = 80;
+
+pub const ZERO_REFUSED: u64 = 80;
+
+pub const ALL_REFUSED: u64 = 84;
+
+// 5 and 6, where without them the number were that 4.
+pub const ADDRESS_BEFORE: u64 = 88;
+
+pub const SLOT_BEFORE: u64 = 89;
+
+// That 4, where without it the number were 7, 8, 11, 12 or 14.
+pub const REFUSED_BEFORE: u64 = 90;
+
+// 4, since the count is above S, by load, store, evict, scan, commit, tally.
+pub const ABOVE_SLOTS: u64 = 95;
+
+// A count that changes, by load, store, evict, scan.
+pub const CHANGED: u64 = 101;
+
+// Accepted: 0 with a slot that is not dirty; S with one that is; either with c = S; a wrong count
+// that is as wrong afterwards; one that is tallied.
+pub const ZERO_PASSED: u64 = 105;
+
+pub const ALL_PASSED: u64 = 106;
+
+pub const SCAN_END_PASSED: u64 = 107;
+
+pub const WRONG_CARRIED: u64 = 108;
+
+pub const WRONG_TALLIED: u64 = 109;
+
+pub const COUNTS_END: u64 = 110;
+
 // The paper's numbers.
 pub const OK: u64 = 0;
 
@@ -205,7 +241,11 @@ const WORK: u64 = 2;
 
 const ENTRY: u64 = 3;
 
-const ADDRESS: u64 = 5;
+pub const REFUSED_REGISTERS: u64 = 4;
+
+pub const ADDRESS: u64 = 5;
+
+pub const SLOT: u64 = 6;
 
 pub const BUFFER: u64 = 7;
 
@@ -213,7 +253,7 @@ pub const ROOM: u64 = 8;
 
 const WAITING: u64 = 9;
 
-const NONE: u64 = 11;
+pub const NONE: u64 = 11;
 
 pub const CUT: u64 = 12;
 
