@@ -42,7 +42,7 @@
  * refused (PICL_WORK) where S is at most 32; where S is larger nothing can refuse it: its length is that of S - 32 slots.
  *
  * THE REGISTERS are PICL_REGISTER_WORDS words, lost with the current too. Power-up fills them. Each later call that takes
- * them reads them, and leaves the new ones in their place:
+ * them reads them, and leaves the new ones in their place; picl_tally only reads them:
  *
  *     word 0                s         the running epoch
  *     word 1                b         how many undo entries are buffered, 0 to 31
