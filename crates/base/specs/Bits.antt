@@ -13,8 +13,8 @@ left-or a b = omega (arith, or-add-and a b, and-le-r a b)
 pub right-or : (a b : ℕ) → b ≤ bitOr a b
 right-or a b = omega (arith, or-add-and a b, and-le-l a b)
 
--- j digits from digit k on, and the last one
-pub and-high-last : (n j k : ℕ) → 1 < 2 ^ k → bitAnd n ((2 ^ j - 1) * 2 ^ k + 1) ≡ n / 2 ^ k % 2 ^ j * 2 ^ k + n % 2 ^ k % 2
-and-high-last n j k h =
-    ap₂ bitAnd (sym (split n k)) refl ∙ and-block k (n / 2 ^ k) (2 ^ j - 1) (n % 2 ^ k) 1 (mod-lt n (pow-pos k)) h
-    ∙ ap₂ (λ (x y : ℕ). x * 2 ^ k + y) (and-mask (n / 2 ^ k) j) (and-mask (n % 2 ^ k) 1)
+-- j digits from digit k on, and the last i
+pub and-high-last : (n j k i : ℕ) → 2 ^ i - 1 < 2 ^ k → bitAnd n ((2 ^ j - 1) * 2 ^ k + (2 ^ i - 1)) ≡ n / 2 ^ k % 2 ^ j * 2 ^ k + n % 2 ^ k % 2 ^ i
+and-high-last n j k i h =
+    ap₂ bitAnd (sym (split n k)) refl ∙ and-block k (n / 2 ^ k) (2 ^ j - 1) (n % 2 ^ k) (2 ^ i - 1) (mod-lt n (pow-pos k)) h
+    ∙ ap₂ (λ (x y : ℕ). x * 2 ^ k + y) (and-mask (n / 2 ^ k) j) (and-mask (n % 2 ^ k) i)

@@ -1,5 +1,6 @@
 pub mod Tests
 pub mod Cases
+pub mod Several
 pub mod Every
 pub mod Walk
 pub mod Parts

@@ -1,6 +1,7 @@
 pub mod Limits
 pub mod Fields
 pub mod Words
+pub mod SlotTests
 pub mod Bytes
 pub mod Memory
 pub mod Laws

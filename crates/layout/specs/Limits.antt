@@ -53,7 +53,10 @@ mostLines = 65536
 abbrev pub mostEntries : ℕ
 mostEntries = 65536
 
--- "S slots from 1 to 256"
+-- request 6/13: "S a multiple of 4, from 4 to 256": sets of four slots
+abbrev pub ways : ℕ
+ways = 4
+
 abbrev pub mostSlots : ℕ
 mostSlots = 256
 

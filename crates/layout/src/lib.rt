@@ -7,6 +7,7 @@ ghost use Rattle.layout.specs.Words.{encodeControl, decodeControl, Contr
 ghost use Rattle.layout.specs.Words.{encodeShape, decodeShape, ShapeFits, OwnLines};
 ghost use Rattle.layout.specs.Words.{encodeEntry, decodeEntry, EntryFits};
 ghost use Rattle.layout.specs.Words.{encodeSlot, decodeSlot, SlotFits, IsBit};
+ghost use Rattle.layout.specs.SlotTests.{AddressOf, slotForm, IsDirtyForm, isLine};
 ghost use Rattle.layout.specs.Words.{encodeRecord, decodeRecord, RecordFits};
 ghost use Rattle.layout.specs.Limits.{epochBits, mostLines, mostEntries, mostSlots};
 ghost use Rattle.layout.specs.Memory.{linesAt, boardWords, bufferWords, workWords, slotsOf, bufferAt};
@@ -57,6 +58,9 @@ pub const BOARD_VERSION: u64 = 0;
 // Of the log's entries as well.
 pub const MOST_LINES: u64 = 65536;
 
+// Slots stand in sets of so many.
+pub const WAYS: usize = 4;
+
 pub const MOST_SLOTS: usize = 256;
 
 pub const BUFFER_PLACES: usize = 32;
@@ -102,8 +106,8 @@ pub const FILTER_WORDS: usize = FILTER_SIZE as usize / WORD_BITS as usize;
 
 pub const BUFFER_WORDS: usize = FILTER_AT + FILTER_WORDS;
 
-// The words of a work memory with one slot, and with the most.
-pub const LEAST_WORK: usize = SLOT_WORDS + BUFFER_WORDS;
+// The words of a work memory with one set of slots, and with the most.
+pub const LEAST_WORK: usize = SLOT_WORDS * WAYS + BUFFER_WORDS;
 
 pub const MOST_WORK: usize = SLOT_WORDS * MOST_SLOTS + BUFFER_WORDS;
 
@@ -278,6 +282,39 @@ const SLOT_ADDRESS: u64 = SLOT_TAG * EPOCHS;
 const SLOT_DIRTY: u64 = SLOT_ADDRESS * ADDRESSES;
 
 const SLOT_VALID: u64 = SLOT_DIRTY * FLAGS;
+
+// Tests on a slot word that is not decoded, for a pass over several.
+
+pub fn slot_address(word: u64) -> u64
+    ensures { λ r. ⌜ AddressOf (decodeSlot word) r ⌝ }
+{
+    word / SLOT_ADDRESS % ADDRESSES
+}
+
+// The word without its address. Such words rise as slots are taken: an empty one, a clean one, dirty ones by their tags.
+pub fn slot_form(word: u64) -> u64
+    ensures { λ r. ⌜ r ≡ slotForm (decodeSlot word) ⌝ }
+{
+    word - word / SLOT_ADDRESS % ADDRESSES * SLOT_ADDRESS
+}
+
+// What a spare bit counts for once these bits are the topmost.
+const SPARE_TO_TOP: u64 = 1 << (WORD_BITS - SPARE_BITS);
+
+// Whether the word is that of a line, clean, or dirty with one of so many tags from the least on. The least is told by a word that has it.
+// One comparison for all of a dirty word: less than the least wraps round, and so does a flag that is not set; a spare bit is moved to the top.
+pub fn is_line(word: u64, least: u64, tags: u64) -> bool
+    requires { ⌜ IsDirtyForm least ⌝ }
+    requires { ⌜ tags ≤ 2 ^ epochBits ⌝ }
+    ensures { λ r. ⌜ r ≡ isLine (decodeSlot least .tag) tags (decodeSlot word) ⌝ }
+{
+    let form = slot_form(word);
+    if form == SLOT_VALID {
+        return true;
+    }
+    let more = std::num::wrapping_sub_u64(form, least);
+    more / SPARES + more % SPARES * SPARE_TO_TOP < tags
+}
 
 // A flag as a field of one bit has it.
 pub fn bit(flag: bool) -> u64
