@@ -1,6 +1,5 @@
--- The slots of the write-back cache: which are proper, where an address belongs, and what a slot's two words become.
-use Prim.Native.Nat.{ℕ, zero, suc, _+_, _%_, _<_}
-use mathlib.Core.Path.{_≡_}
+-- The slots of the write-back cache: which are proper, what they hold, and what a slot's two words become.
+use Prim.Native.Nat.{ℕ, zero, suc, _+_, _/_, _%_}
 use mathlib.Core.Bool.{Bool, true, false, cond, _&&_, _||_, not}
 use mathlib.Core.List.{List}
 use lib.Dec.{ltb, leb, eqb}
@@ -9,50 +8,36 @@ use Rattle.base.specs.Parts.{setPair}
 use Rattle.layout.specs.declared.Slot.{Slot}
 use Rattle.slots.specs.declared.Bounds.{Bounds}
 use Rattle.slots.specs.declared.Spot.{Spot}
+use Rattle.layout.specs.Limits.{ways}
 use Rattle.layout.specs.Memory.{slotIn, slotAt}
 use Rattle.layout.specs.Words.{encodeSlot, decodeSlot, bit}
 
--- "Address a belongs in slot a mod S."
-unfoldable pub homeOf : (slots address : ℕ) → ℕ
-homeOf slots address = address % slots
-
-pub record IsHome (slots address r : ℕ) : Type 0 where
-  pub is : r ≡ homeOf slots address
-  pub below : r < slots
+-- Request 6/13: "Set g is slots 4g to 4g + 3; address a belongs in any slot of set a mod S/4"
+unfoldable pub setOf : (slots address : ℕ) → ℕ
+setOf slots address = address % (slots / ways)
 
 -- "either clean with tag 0 or dirty with P < tag ≤ s"
 unfoldable pub properTag : Bounds → Slot → Bool
 properTag b s = cond (s .dirty) (ltb (b .persisted) (s .tag) && leb (s .tag) (b .epoch)) (eqb (s .tag) 0)
 
--- "A proper slot word is zero, or is valid with the 22 bits zero, address < N, address mod S its slot, and .."
+-- "A proper slot word is zero, or is valid with the 22 bits zero, address < N," its set the slot's, "and .."
 unfoldable pub properFull : Bounds → (k : ℕ) → Slot → Bool
 properFull b k s =
-    s .valid && eqb (s .spare) 0 && ltb (s .address) (b .lines) && eqb (homeOf (b .slots) (s .address)) k && properTag b s
+    s .valid && eqb (s .spare) 0 && ltb (s .address) (b .lines) && eqb (setOf (b .slots) (s .address)) (k / ways) && properTag b s
 
 unfoldable pub properSlot : Bounds → (k word : ℕ) → Bool
 properSlot b k word = eqb word 0 || properFull b k (decodeSlot word)
 
--- "6 slot: the slot visited is not proper: slot a mod S, or slot c if c < S"
 unfoldable pub properAt : Bounds → List ℕ → (k : ℕ) → Bool
 properAt b work k = properSlot b k (getD work (slotAt k) 0)
-
-unfoldable pub properFor : Bounds → List ℕ → (address : ℕ) → Bool
-properFor b work address = properAt b work (homeOf (b .slots) address)
 
 -- slot k holds the line at an address
 unfoldable pub holds : List ℕ → (k address : ℕ) → Bool
 holds work k address = slotIn work k .valid && eqb (slotIn work k .address) address
 
--- the slot that an address takes, and whether it is held there
-unfoldable pub spotOf : List ℕ → (slots address : ℕ) → Spot
-spotOf work slots address = record { slot = homeOf slots address; held = holds work (homeOf slots address) address }
-
--- the line that stands in slot k is dirty, or the one in the slot of an address
+-- the line that stands in slot k is dirty
 abbrev pub dirtyAt : List ℕ → (k : ℕ) → Bool
 dirtyAt work k = slotIn work k .dirty
-
-unfoldable pub dirtyFor : List ℕ → (slots address : ℕ) → Bool
-dirtyFor work slots address = dirtyAt work (homeOf slots address)
 
 -- "the number of slot words whose valid and dirty bits are both 1, whatever else they hold", of the first so many slots
 unfoldable pub dirtySlots : List ℕ → ℕ → ℕ

@@ -1,16 +1,24 @@
 // The slots of the write-back cache: which are proper, where the line at an address may be held, and what a slot's word says. Nothing
 // here knows of a log.
+mod sets;
+
 ghost use Prim.Native.Nat.{_+_, _*_, _^_, _<_, _≤_};
 ghost use lib.ListN.{length};
 ghost use mathlib.Core.Path.{_≡_};
 ghost use Rattle.layout.specs.Limits.{addressBits, epochBits};
 ghost use Rattle.layout.specs.Memory.{slotAt, slotWords, slotIn};
 ghost use Rattle.layout.specs.Words.{Decoded, SlotFits, encodeSlot};
-ghost use Rattle.slots.specs.Slots.{IsHome, properTag, properFull, properSlot, properAt, properFor, holds, spotOf, dirtyAt, dirtyFor};
-ghost use Rattle.slots.specs.Slots.{cleanSlot, dirtySlot, entryDue, undoDue};
-ghost use Rattle.slots.specs.Contracts.{SlotsReady, SpotReady};
+ghost use Rattle.slots.specs.Slots.{properAt, dirtyAt, cleanSlot, dirtySlot, entryDue, undoDue};
+ghost use Rattle.slots.specs.Contracts.{BoundsReady};
 use layout::SLOT_WORDS;
 use layout::Slot;
+use layout::WAYS;
+pub use sets::first_of;
+pub use sets::is_all_dirty;
+pub use sets::is_any_dirty;
+pub use sets::is_nowhere;
+pub use sets::site_for;
+pub use sets::spot_at;
 
 // The slot that an address takes, and whether it is held there.
 pub struct Spot {
@@ -26,75 +34,26 @@ pub struct Bounds {
     pub epoch: u64,
 }
 
-// Clean with tag 0, or dirty since an epoch that waits or runs.
-fn is_proper_tag(slot: Slot, bounds: Bounds) -> bool
-    ensures { λ r. ⌜ r ≡ properTag bounds slot ⌝ }
+// Whether slot k is proper.
+pub fn is_proper_at(work: &[u64], bounds: Bounds, k: usize) -> bool
+    requires { ⌜ BoundsReady bounds ⌝ }
+    requires { ⌜ slotAt k < length (now work) ⌝ }
+    requires { ⌜ k < bounds .slots ⌝ }
+    ensures { λ r. ⌜ r ≡ properAt bounds (now (work .entry)) k ⌝ }
 {
-    if !slot.dirty {
-        return slot.tag == 0;
-    }
-    if slot.tag <= bounds.persisted {
-        return false;
-    }
-    slot.tag <= bounds.epoch
-}
-
-// The slot that an address belongs in. Both numbers are small, and a division of 32 bits is much cheaper than one of 64.
-fn home(slots: usize, address: u64) -> usize
-    requires { ⌜ SlotsReady slots ⌝ }
-    requires { ⌜ address < 2 ^ addressBits ⌝ }
-    ensures { λ r. ⌜ IsHome slots address r ⌝ }
-{
-    (address as u32 % slots as u32) as usize
-}
-
-// A slot word that is not zero: all that the paper asks of it in slot k.
-fn is_proper_full(slot: Slot, bounds: Bounds, k: usize) -> bool
-    requires { ⌜ SlotsReady (bounds .slots) ⌝ }
-    requires { ⌜ slot .address < 2 ^ addressBits ⌝ }
-    ensures { λ r. ⌜ r ≡ properFull bounds k slot ⌝ }
-{
-    if !slot.valid {
-        return false;
-    }
-    if slot.spare != 0 {
-        return false;
-    }
-    if slot.address >= bounds.lines {
-        return false;
-    }
-    if home(bounds.slots, slot.address) != k {
-        return false;
-    }
-    is_proper_tag(slot, bounds)
-}
-
-// A slot word in slot k: zero, or full and proper.
-fn is_proper(word: u64, bounds: Bounds, k: usize) -> bool
-    requires { ⌜ SlotsReady (bounds .slots) ⌝ }
-    ensures { λ r. ⌜ r ≡ properSlot bounds k word ⌝ }
-{
+    let word = work[SLOT_WORDS * k];
     if word == 0 {
         return true;
     }
-    is_proper_full(Slot::decode(word), bounds, k)
-}
-
-// Whether slot k is proper.
-pub fn is_proper_at(work: &[u64], bounds: Bounds, k: usize) -> bool
-    requires { ⌜ SlotsReady (bounds .slots) ⌝ }
-    requires { ⌜ slotAt k < length (now work) ⌝ }
-    ensures { λ r. ⌜ r ≡ properAt bounds (now (work .entry)) k ⌝ }
-{
-    is_proper(work[SLOT_WORDS * k], bounds, k)
-}
-
-// Whether the slot that an address belongs in is proper.
-pub fn is_proper_for(work: &[u64], bounds: Bounds, address: u64) -> bool
-    requires { ⌜ SpotReady (now work) (bounds .slots) address ⌝ }
-    ensures { λ r. ⌜ r ≡ properFor bounds (now (work .entry)) address ⌝ }
-{
-    is_proper_at(work, bounds, home(bounds.slots, address))
+    let least = dirty_word(0, bounds.persisted + 1);
+    if !layout::is_line(word, least, bounds.epoch - bounds.persisted) {
+        return false;
+    }
+    let address = layout::slot_address(word);
+    if address >= bounds.lines {
+        return false;
+    }
+    (address as u32 % (bounds.slots as u32 / WAYS as u32)) as usize == k / WAYS
 }
 
 // What the word of slot k says.
@@ -112,38 +71,6 @@ pub fn is_dirty_at(work: &[u64], k: usize) -> bool
 {
     let slot = slot_at(work, k);
     slot.dirty
-}
-
-// Whether the line is dirty that stands in the slot of an address.
-pub fn is_dirty_for(work: &[u64], slots: usize, address: u64) -> bool
-    requires { ⌜ SpotReady (now work) slots address ⌝ }
-    ensures { λ r. ⌜ r ≡ dirtyFor (now (work .entry)) slots address ⌝ }
-{
-    is_dirty_at(work, home(slots, address))
-}
-
-// Whether slot k holds the line at an address.
-fn is_holding(work: &[u64], k: usize, address: u64) -> bool
-    requires { ⌜ slotAt k + slotWords ≤ length (now work) ⌝ }
-    ensures { λ r. ⌜ r ≡ holds (now (work .entry)) k address ⌝ }
-{
-    let slot = slot_at(work, k);
-    if !slot.valid {
-        return false;
-    }
-    slot.address == address
-}
-
-// The slot that an address takes, and whether the line is held there.
-pub fn find(work: &[u64], slots: usize, address: u64) -> Spot
-    requires { ⌜ SpotReady (now work) slots address ⌝ }
-    ensures { λ r. ⌜ r ≡ spotOf (now (work .entry)) slots address ⌝ }
-{
-    let slot = home(slots, address);
-    Spot {
-        slot,
-        held: is_holding(work, slot, address),
-    }
 }
 
 // The word of a slot that holds a line as the board has it.
