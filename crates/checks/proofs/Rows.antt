@@ -1,30 +1,32 @@
 -- The rows behind 1, 2 and 4: one law for each way out of a function.
 use Prim.Native.Nat.{ℕ, _+_, _-_, _*_, _<_, _≤_}
-use mathlib.Core.Path.{_≡_, sym, _∙_}
-use mathlib.Core.Bool.{Bool, true, false, not, _&&_}
-use mathlib.Core.List.{List, _++_}
+use mathlib.Core.Path.{_≡_, refl, sym, _∙_}
+use mathlib.Core.Bool.{Bool, true, false, not, cond, _&&_, _||_}
+use mathlib.Core.List.{List, [], _∷_, _++_}
 use native.Mathlib.Omega.{arith}
-use borrow.Author.Tests.{lt-ltb, le-ltb, le-leb, lt-leb, not-true, not-false}
+use borrow.Author.Tests.{lt-ltb, le-ltb, le-leb, lt-leb, eqb-false, not-true, not-false}
+use lib.Dec.{eqb}
 use lib.ListN.{length, take, drop}
 use Rattle.base.specs.Parts.{rest-lent}
 use Rattle.base.specs.Tests.{and-left, and-right}
-use Rattle.layout.specs.Memory.{bufferAt, bufferIn}
+use Rattle.layout.specs.Limits.{ways}
+use Rattle.layout.specs.Memory.{slotAt, slotIn, bufferAt, bufferIn}
 use Rattle.status.specs.declared.Status.{Status}
 use Rattle.status.specs.declared.Status.the-variants as status
 use Rattle.undo.specs.Log.{bufferProper, bufferMarked}
 use Rattle.slots.specs.declared.Bounds.{Bounds}
 use Rattle.slots.specs.declared.Spot.{Spot}
-use Rattle.slots.specs.Contracts.{SlotsReady, SpotReady}
-use Rattle.slots.specs.Laws.{spot-below}
-use Rattle.slots.specs.Slots.{properAt, properFor, dirtyAt, dirtyFor, spotOf}
-use Rattle.slots.specs.Slots.{undoDue}
+use Rattle.slots.specs.Contracts.{BoundsReady}
+use Rattle.slots.specs.Passes.{nowhere, firstOf}
+use Rattle.slots.specs.Sets.{slotsFrom, properSet}
+use Rattle.slots.specs.Slots.{properAt, undoDue}
 use Rattle.checks.specs.declared.Checked.{Checked}
 use Rattle.checks.specs.declared.Checked.the-variants.{Refused, Passed}
 use Rattle.checks.specs.declared.Registers.{Registers}
 use Rattle.checks.specs.declared.View.{View}
 use Rattle.checks.specs.View.{boundsOf, miscounted, goodBuffer, goodFilter}
-use Rattle.checks.specs.Refusals.{tested, bufferRows, lineRows, roomRows, epochRows, cursorRows, waitingRows}
-use Rattle.checks.specs.Contracts.{RowsReady}
+use Rattle.checks.specs.Refusals.{tested, bufferRows, addressRows, roomRows, epochRows, cursorRows, waitingRows}
+use Rattle.checks.specs.Contracts.{RowsReady, SiteReady, siteRows}
 use Rattle.checks.specs.Laws.{refused-first, passed-first}
 
 -- 7 and 14
@@ -62,37 +64,45 @@ module _ (v : View) (work : List ℕ) (r : Registers) (at : ℕ) (here : at ≡ 
           pub buffer-refused : p ≡ false → Refused status.Buffer ≡ tested (bufferRows v work r) v
           buffer-refused h = let no : goodBuffer v work r ≡ false = sym good ∙ h in rw no
 
--- 5, 6 and the count
-module _ (v : View) (work : List ℕ) (r : Registers) (address : ℕ) where
-  pub line-outside : v .shape .lines ≤ address → Refused status.Address ≡ tested (lineRows v work r address) v
+-- 5
+module _ (v : View) (address : ℕ) where
+  pub line-outside : v .shape .lines ≤ address → Refused status.Address ≡ tested (addressRows v address) v
   line-outside h = rw (le-leb (v .shape .lines) address h)
 
-  module _ (named : address < v .shape .lines) (b : Bounds) (bounds : b ≡ boundsOf v r) (t : Bool) (slot : t ≡ properFor b work address) where
-    pub line-slot : not t ≡ true → Refused status.Slot ≡ tested (lineRows v work r address) v
-    line-slot h = rw (lt-leb (v .shape .lines) address named, ← bounds, ← slot, not-true t h)
+  pub line-inside : address < v .shape .lines → Passed v ≡ tested (addressRows v address) v
+  line-inside h = rw (lt-leb (v .shape .lines) address h)
 
-    module _ (proper : not t ≡ false) (d m : Bool) (dirty : d ≡ dirtyFor work (v .slots) address) (count : m ≡ miscounted v r d) where
-      pub line-miscounted : m ≡ true → Refused status.Regs ≡ tested (lineRows v work r address) v
-      line-miscounted h = rw (lt-leb (v .shape .lines) address named, ← bounds, ← slot, not-false t proper, ← dirty, ← count, h)
+-- 6 and the count
+module _ (v : View) (work : List ℕ) (r : Registers) (site : ℕ) (t : Bool) (nowhere-else : t ≡ eqb site nowhere) where
+  pub set-improper : t ≡ true → Refused status.Slot ≡ tested (siteRows v work r site) v
+  set-improper h = rw (← nowhere-else, h)
 
-      pub line-passed : m ≡ false → Passed v ≡ tested (lineRows v work r address) v
-      line-passed h = rw (lt-leb (v .shape .lines) address named, ← bounds, ← slot, not-false t proper, ← dirty, ← count, h)
+  module _ (found : t ≡ false) where
+    pub set-words : SiteReady work v site → (first : ℕ) → first ≡ firstOf site → slotAt (first + ways) ≤ length work
+    set-words ready first e = rw e (ready .words (eqb-false site nowhere (sym nowhere-else ∙ found)))
+
+    module _ (first : ℕ) (here : first ≡ firstOf site) (m : Bool) (count : m ≡ miscounted v r work (slotsFrom first)) where
+      pub set-miscounted : m ≡ true → Refused status.Regs ≡ tested (siteRows v work r site) v
+      set-miscounted h = rw (← nowhere-else, found, ← here, ← count, h)
+
+      pub set-passed : m ≡ false → Passed v ≡ tested (siteRows v work r site) v
+      set-passed h = rw (← nowhere-else, found, ← here, ← count, h)
 
 -- 8
-module _ (v : View) (work : List ℕ) (r : Registers) (address : ℕ) (spot : Spot) (at : spot ≡ spotOf work (v .slots) address) where
-  pub room-spot : RowsReady work r v → 2 * spot .slot + 2 ≤ length work
-  room-spot h = rw at (omega (arith, h .work-words, spot-below work (v .slots) address (h .slots-some)))
+module _ (v : View) (work : List ℕ) (r : Registers) (spot : Spot) where
+  pub room-spot : RowsReady work r v → spot .slot < v .slots → 2 * spot .slot + 2 ≤ length work
+  room-spot h below = omega (arith, h .work-words)
 
   module _ (t : Bool) (due : t ≡ undoDue work spot (r .epoch)) where
-    pub room-spared : not t ≡ true → Passed v ≡ tested (roomRows v work r address) v
-    room-spared h = rw (← at, ← due, not-true t h)
+    pub room-spared : not t ≡ true → Passed v ≡ tested (roomRows v work r spot) v
+    room-spared h = rw (← due, not-true t h)
 
     pub room-refused : not t ≡ false → v .shape .entries < v .control .length + r .buffered + 1
-        → Refused status.Room ≡ tested (roomRows v work r address) v
-    room-refused h g = rw (← at, ← due, not-false t h, lt-ltb (v .shape .entries) (v .control .length + r .buffered + 1) g)
+        → Refused status.Room ≡ tested (roomRows v work r spot) v
+    room-refused h g = rw (← due, not-false t h, lt-ltb (v .shape .entries) (v .control .length + r .buffered + 1) g)
 
-    pub room-found : not t ≡ false → v .control .length + r .buffered + 1 ≤ v .shape .entries → Passed v ≡ tested (roomRows v work r address) v
-    room-found h g = rw (← at, ← due, not-false t h, le-ltb (v .shape .entries) (v .control .length + r .buffered + 1) g)
+    pub room-found : not t ≡ false → v .control .length + r .buffered + 1 ≤ v .shape .entries → Passed v ≡ tested (roomRows v work r spot) v
+    room-found h g = rw (← due, not-false t h, le-ltb (v .shape .entries) (v .control .length + r .buffered + 1) g)
 
 -- commit's rows, and scan's
 module _ (v : View) (work : List ℕ) (r : Registers) (k : Checked) where
@@ -120,33 +130,52 @@ module _ (v : View) (work : List ℕ) (r : Registers) (k : Checked) where
 
 module _ (v : View) (work : List ℕ) (r : Registers) where
   pub cursor-end : v .slots ≤ r .cursor → Passed v ≡ tested (cursorRows v work r) v
-  cursor-end h = rw (le-ltb (r .cursor) (v .slots) h)
+  unfolding properSet miscounted
+  cursor-end h = rw (le-ltb (r .cursor) (v .slots) h) (go (eqb (r .dirty) 0) (eqb (r .dirty) (v .slots)))
+    where
+      go : (none all : Bool) → Passed v ≡ cond (none && false || all && false) (Refused status.Regs) (Passed v)
+      go true true = refl
+      go true false = refl
+      go false true = refl
+      go false false = refl
 
   module _ (within : r .cursor < v .slots) where
     pub cursor-within : RowsReady work r v → 2 * r .cursor < length work
     cursor-within h = omega (arith, h .work-words)
 
+    pub cursor-words : RowsReady work r v → 2 * r .cursor + 2 ≤ length work
+    cursor-words h = omega (arith, h .work-words)
+
     module _ (b : Bounds) (bounds : b ≡ boundsOf v r) (t : Bool) (slot : t ≡ properAt b work (r .cursor)) where
       pub cursor-refused : not t ≡ true → Refused status.Slot ≡ tested (cursorRows v work r) v
+      unfolding properSet
       cursor-refused h = rw (lt-ltb (r .cursor) (v .slots) within, ← bounds, ← slot, not-true t h)
 
-      module _ (proper : not t ≡ false) (d m : Bool) (dirty : d ≡ dirtyAt work (r .cursor)) (count : m ≡ miscounted v r d) where
+      -- a single slot holds no line twice
+      proper-alone : not t ≡ false → properSet (boundsOf v r) work (r .cursor ∷ []) ≡ true
+      unfolding properSet
+      proper-alone h = rw (← bounds, ← slot, not-false t h) (go (slotIn work (r .cursor) .valid))
+        where
+          go : (x : Bool) → not (x && false || false) ≡ true
+          go true = refl
+          go false = refl
+
+      module _ (proper : not t ≡ false) (m : Bool) (count : m ≡ miscounted v r work (r .cursor ∷ [])) where
         pub cursor-miscounted : m ≡ true → Refused status.Regs ≡ tested (cursorRows v work r) v
-        cursor-miscounted h =
-            rw (lt-ltb (r .cursor) (v .slots) within, ← bounds, ← slot, not-false t proper, ← dirty, ← count, h)
+        cursor-miscounted h = rw (lt-ltb (r .cursor) (v .slots) within, proper-alone proper, ← count, h)
 
         pub cursor-passed : m ≡ false → Passed v ≡ tested (cursorRows v work r) v
-        cursor-passed h = rw (lt-ltb (r .cursor) (v .slots) within, ← bounds, ← slot, not-false t proper, ← dirty, ← count, h)
+        cursor-passed h = rw (lt-ltb (r .cursor) (v .slots) within, proper-alone proper, ← count, h)
 
 -- behind 1, 2 and 4
 module _ (v : View) (r : Registers) (b : Bounds) (work : List ℕ) (e : b ≡ boundsOf v r) (h : RowsReady work r v) where
-  pub bounds-slots : SlotsReady (b .slots)
-  bounds-slots = rw e record { some = h .slots-some; most = h .slots-most }
-
-  pub bounds-spot : (address : ℕ) → address < v .shape .lines → SpotReady work (b .slots) address
-  bounds-spot address named =
-      record {
-        slots-ready = bounds-slots;
-        words = rw e (omega (arith, h .work-words));
-        fits = omega (arith, named, h .lines-most);
+  pub bounds-ready : BoundsReady b
+  bounds-ready =
+      rw e record {
+        slots-ready = record { whole = h .slots-whole; some = h .slots-some; most = h .slots-most };
+        ahead = h .ahead;
+        last = h .epoch-most;
       }
+
+  pub bounds-below : r .cursor < v .slots → r .cursor < b .slots
+  bounds-below k = rw e k

@@ -14,12 +14,12 @@ use Rattle.base.specs.Bits.{left-or, right-or, and-high-last}
 use Rattle.base.specs.Tests.{held, hold-together}
 use Rattle.layout.specs.declared.Control.{Control}
 use Rattle.layout.specs.declared.Shape.{Shape}
-use Rattle.layout.specs.Limits.{wordBits, addressBits, boardVersion, lastEpoch, mostLines, mostEntries, mostSlots, mostAhead}
+use Rattle.layout.specs.Limits.{wordBits, addressBits, boardVersion, lastEpoch, mostLines, mostEntries, ways, mostSlots, mostAhead}
 use Rattle.layout.specs.Memory.{logAt, entryWords, linesAt, boardWords, controlAt, shapeAt, slotsOf, workWords}
 use Rattle.layout.specs.Words.{Decoded, ControlFits, ShapeFits, OwnLines, decodeControl, decodeShape}
 use Rattle.checks.specs.declared.Registers.{Registers}
 use Rattle.checks.specs.declared.View.{View}
-use Rattle.checks.specs.View.{viewOf, lent, goodSizes, goodControl, goodShape, goodWork, properEpoch, properCounts, properRegisters}
+use Rattle.checks.specs.View.{viewOf, lent, goodSizes, goodControl, goodShape, goodSlots, goodWork, properEpoch, properCounts, properRegisters}
 use Rattle.checks.specs.Contracts.{Viewed}
 
 module _ (v : View) (r : Registers) (t : Bool) (epoch : t ≡ properEpoch v r) where
@@ -132,29 +132,34 @@ module _ (words lines entries x y : ℕ) (n : Less lines 1 x) (hx : x < 2 ^ word
           le-leb entries mostEntries (entries-within .1),
         )
 
--- 2: a number of words more than the least is even and has nine digits, slotWords * mostSlots being 2 ^ 9; tested are the digits above them and
--- the last
+-- 2: a number of words more than the least is a multiple of 8 and has nine digits, slotWords * mostSlots being 2 ^ 9; tested are the digits above
+-- them and the last three
 abbrev unused : ℕ
-unused = 2 ^ wordBits - 1 - (workWords mostSlots - workWords 1)
+unused = 2 ^ wordBits - 1 - (workWords mostSlots - workWords ways)
 
 module _ (more : ℕ) (h : more < 2 ^ wordBits) where
   abbrev tested : ℕ
-  tested = more / 2 ^ 9 * 2 ^ 9 + more % 2
+  tested = more / 2 ^ 9 * 2 ^ 9 + more % 8
 
   unused-bits : bitAnd more unused ≡ tested
-  unused-bits = and-high-last more (wordBits - 9) 9 (omega arith) ∙ omega arith
+  unused-bits = and-high-last more (wordBits - 9) 9 3 (omega arith) ∙ omega arith
 
-  pub work-bits : (words : ℕ) → Less words (workWords 1) more → eqb (bitAnd more unused) 0 ≡ goodWork words
-  unfolding goodWork
+  pub work-bits : (words : ℕ) → Less words (workWords ways) more → eqb (bitAnd more unused) 0 ≡ goodWork words
+  unfolding goodWork goodSlots
   work-bits words l =
       rw unused-bits
       (hold-together _ _
       (λ t.
       let none : tested ≡ 0 = eqb-true tested 0 t in
-      rw
-      (le-leb 1 (slotsOf words) (omega arith), le-leb (slotsOf words) mostSlots (omega arith), eq-eqb words (workWords (slotsOf words)) (omega arith)))
+      rw (
+        eq-eqb (slotsOf words % ways) 0 (omega arith),
+        le-leb ways (slotsOf words) (omega arith),
+        le-leb (slotsOf words) mostSlots (omega arith),
+        eq-eqb words (workWords (slotsOf words)) (omega arith),
+      ))
       (λ t.
-      let some : 1 ≤ slotsOf words = search held depth 12 in
+      let fours : slotsOf words % ways ≡ 0 = search held depth 12 in
+      let some : ways ≤ slotsOf words = search held depth 12 in
       let most : slotsOf words ≤ mostSlots = search held depth 12 in
       let whole : words ≡ workWords (slotsOf words) = search held depth 12 in
       eq-eqb tested 0 (omega arith)))

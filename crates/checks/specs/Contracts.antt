@@ -1,15 +1,20 @@
 -- What a view that was read, and one that passed a call's first tests, tell.
-use Prim.Native.Nat.{ℕ, _+_, _-_, _<_, _≤_}
+use Prim.Native.Nat.{ℕ, _+_, _-_, _%_, _<_, _≤_}
 use mathlib.Core.Path.{_≡_}
 use mathlib.Core.Bool.{Bool, true}
-use mathlib.Core.List.{List, []}
+use mathlib.Core.List.{List, [], _∷_}
+use lib.Dec.{eqb}
 use lib.ListN.{length}
-use Rattle.layout.specs.Limits.{lastEpoch, mostLines, mostEntries, mostSlots, bufferPlaces, mostAhead}
-use Rattle.layout.specs.Memory.{boardWords, workWords}
+use Rattle.layout.specs.Limits.{lastEpoch, mostLines, mostEntries, ways, mostSlots, bufferPlaces, mostAhead}
+use Rattle.layout.specs.Memory.{boardWords, workWords, slotAt}
 use Rattle.layout.specs.Words.{ControlFits, ShapeFits}
 use Rattle.checks.specs.declared.Registers.{Registers}
 use Rattle.checks.specs.declared.View.{View}
-use Rattle.checks.specs.View.{viewOf}
+use Rattle.status.specs.declared.Status.the-variants as status
+use Rattle.slots.specs.Passes.{nowhere, firstOf}
+use Rattle.slots.specs.Sets.{slotsFrom}
+use Rattle.checks.specs.Refusals.{Row, row}
+use Rattle.checks.specs.View.{viewOf, miscounted}
 
 pub record Viewed (board : List ℕ) (v : View) : Type 0 where
   pub is : v ≡ viewOf board []
@@ -27,7 +32,8 @@ pub record Shaped (board work : List ℕ) (v : View) : Type 0 where
   pub persisted : v .control .persisted < lastEpoch
   pub start : v .control .start < v .shape .entries
   pub log-length : v .control .length ≤ v .shape .entries
-  pub slots-some : 1 ≤ v .slots
+  pub slots-whole : v .slots % ways ≡ 0
+  pub slots-some : ways ≤ v .slots
   pub slots-most : v .slots ≤ mostSlots
   pub work-words : length work ≡ workWords (v .slots)
 
@@ -46,7 +52,8 @@ pub record Running (board work : List ℕ) (r : Registers) (v : View) : Type 0 w
 pub record RowsReady (work : List ℕ) (r : Registers) (v : View) : Type 0 where
   pub lines-some : 1 ≤ v .shape .lines
   pub lines-most : v .shape .lines ≤ mostLines
-  pub slots-some : 1 ≤ v .slots
+  pub slots-whole : v .slots % ways ≡ 0
+  pub slots-some : ways ≤ v .slots
   pub slots-most : v .slots ≤ mostSlots
   pub work-words : length work ≡ workWords (v .slots)
   pub buffered : r .buffered < bufferPlaces
@@ -54,6 +61,15 @@ pub record RowsReady (work : List ℕ) (r : Registers) (v : View) : Type 0 where
   pub epoch-most : r .epoch ≤ lastEpoch
   pub room : v .control .length + r .buffered ≤ v .shape .entries
   pub entries-most : v .shape .entries ≤ mostEntries
+
+-- 6 and the count's test as a pass over a set tells them: nowhere, or of the set in which the site is
+abbrev pub siteRows : View → List ℕ → Registers → (site : ℕ) → List Row
+siteRows v work r site =
+    row (eqb site nowhere) status.Slot ∷ row (miscounted v r work (slotsFrom (firstOf site))) status.Regs ∷ []
+
+pub record SiteReady (work : List ℕ) (v : View) (site : ℕ) : Type 0 where
+  pub some : 1 ≤ v .slots
+  pub words : (site ≡ nowhere → ⊥) → slotAt (firstOf site + ways) ≤ length work
 
 -- the count can do without a slot that was dirty, and with one that is
 pub record Countable (r : Registers) (was : Bool) : Type 0 where

@@ -8,6 +8,7 @@ use native.Mathlib.Omega.{arith}
 use borrow.Author.Tests.{eqb-false, leb-false, ltb-false, lt-ltb, not-true, not-false}
 use lib.Dec.{ltb, eqb}
 use lib.ListN.{length, getD}
+use Rattle.base.specs.Several.{allOf, anyOf, none-all}
 use Rattle.base.specs.Tests.{held}
 use Rattle.layout.specs.Limits.{lastEpoch, mostAhead, mostSlots}
 use Rattle.layout.specs.Laws.{control-laws}
@@ -16,12 +17,14 @@ use Rattle.layout.specs.Words.{ControlFits}
 use Rattle.status.specs.declared.Status.{Status}
 use Rattle.status.specs.declared.Status.the-variants as status
 use Rattle.status.specs.Numbers.{numberOf}
-use Rattle.slots.specs.Slots.{properAt, properFor, dirtyAt, dirtyFor, spotOf, undoDue}
+use Rattle.slots.specs.Laws.{spot-all}
+use Rattle.slots.specs.Sets.{placesOf, properSet, spotOf}
+use Rattle.slots.specs.Slots.{properAt, dirtyAt, undoDue}
 use Rattle.checks.specs.declared.Checked.{Checked}
 use Rattle.checks.specs.declared.Checked.the-variants.{Refused, Passed}
 use Rattle.checks.specs.declared.Registers.{Registers}
 use Rattle.checks.specs.declared.View.{View}
-use Rattle.checks.specs.View.{viewOf, boundsOf, goodSizes, goodControl, goodShape, goodWork, properEpoch, properCounts, properRegisters, miscounted}
+use Rattle.checks.specs.View.{viewOf, boundsOf, goodSizes, goodControl, goodShape, goodSlots, goodWork, properEpoch, properCounts, properRegisters, miscounted}
 use Rattle.checks.specs.Refusals.{Row, tested, then, boardRows, workRows, registerRows, cursorRows, bufferRows, lineRows, roomRows, epochRows, waitingRows}
 use Rattle.checks.specs.Refusals.{memoriesChecked, runningChecked, lineChecked, storeChecked, commitChecked, scanChecked}
 use Rattle.checks.specs.Contracts.{Shaped, Running, Countable}
@@ -99,7 +102,7 @@ then-both (Passed v) rows w e =
 
 shaped-of : (board work : List ℕ) (v : View) → v ≡ viewOf board work → goodShape (length board) v ≡ true → goodWork (length work) ≡ true
     → Shaped board work v
-unfolding goodShape goodSizes goodControl goodWork viewOf
+unfolding goodShape goodSizes goodControl goodSlots goodWork viewOf
 shaped-of board work v e h g =
     let fits : ControlFits (v .control) = rw e (control-laws .decoded-fits (getD board controlAt 0)) in
     let slots : v .slots ≡ slotsOf (length work) = rw e in
@@ -113,6 +116,7 @@ shaped-of board work v e h g =
       persisted = below fits (search (held, not-true, eqb-false) depth 12);
       start = search held depth 12;
       log-length = search held depth 12;
+      slots-whole = rw slots (search held depth 12);
       slots-some = rw slots (search held depth 12);
       slots-most = rw slots (search held depth 12);
       work-words = rw slots (search held depth 12);
@@ -161,20 +165,32 @@ running board work r v e =
 
 -- ---- 5, 6, the count, 7 and 14
 
--- a slot that tells nothing against the count
-countable-of : (v : View) (r : Registers) (dirty : Bool) → miscounted v r dirty ≡ false → r .dirty ≤ v .slots → v .slots ≤ mostSlots → Countable r dirty
+-- slots that tell nothing against the count: if one of them is dirty, the count is not 0
+countable-of : (v : View) (r : Registers) (work visited : List ℕ) (dirty : Bool) → (dirty ≡ true → anyOf (dirtyAt work) visited ≡ true)
+    → miscounted v r work visited ≡ false → r .dirty ≤ v .slots → v .slots ≤ mostSlots → Countable r dirty
 unfolding miscounted
-countable-of v r dirty e within most =
-    record { least = λ d. some (rw d at e); most = omega arith }
+countable-of v r work visited dirty seen e within most =
+    record { least = λ d. some (rw (seen d) at e); most = omega arith }
   where
-    none : (a b : Bool) → a && true || b && false ≡ false → a ≡ false
+    none : (a b : Bool) → a && true || b ≡ false → a ≡ false
     none true b x = absurd (false≢true (sym x))
     none false b x = refl
 
-    some : eqb (r .dirty) 0 && true || eqb (r .dirty) (v .slots) && false ≡ false → 0 < r .dirty
+    some : eqb (r .dirty) 0 && true || eqb (r .dirty) (v .slots) && not (allOf (dirtyAt work) visited) ≡ false → 0 < r .dirty
     some x =
-        let n : r .dirty ≡ 0 → ⊥ = eqb-false _ _ (none (eqb (r .dirty) 0) (eqb (r .dirty) (v .slots)) x) in
+        let n : r .dirty ≡ 0 → ⊥ = eqb-false _ _ (none (eqb (r .dirty) 0) _ x) in
         omega arith
+
+-- the slot of a set that a call works on
+spot-dirty : (work : List ℕ) (slots address : ℕ) → dirtyAt work (spotOf work slots address .slot) ≡ true
+    → anyOf (dirtyAt work) (placesOf slots address) ≡ true
+spot-dirty work slots address d = go (anyOf (dirtyAt work) (placesOf slots address)) refl
+  where
+    go : (t : Bool) → anyOf (dirtyAt work) (placesOf slots address) ≡ t → t ≡ true
+    go true e = refl
+    go false e =
+        let no = spot-all work slots address (λ k. not (dirtyAt work k)) (none-all (dirtyAt work) (placesOf slots address) e) in
+        absurd (false≢true (sym (not-true (dirtyAt work (spotOf work slots address .slot)) no) ∙ d))
 
 module _ (board work : List ℕ) (r : Registers) (address : ℕ) (v : View) (e : Passed v ≡ lineChecked board work r address) where
   line-both : Both (runningChecked board work r) (λ w. lineRows w work r address ++ bufferRows w work r) v
@@ -190,19 +206,20 @@ module _ (board work : List ℕ) (r : Registers) (address : ℕ) (v : View) (e :
   pub line-named : address < v .shape .lines
   line-named = leb-false _ _ (line-row status.Address)
 
-  pub line-proper : properFor (boundsOf v r) work address ≡ true
+  pub line-proper : properSet (boundsOf v r) work (placesOf (v .slots) address) ≡ true
   line-proper = not-false _ (line-row status.Slot)
 
-  pub line-countable : Countable r (dirtyFor work (v .slots) address)
+  pub line-countable : Countable r (dirtyAt work (spotOf work (v .slots) address .slot))
   line-countable =
-      countable-of v r (dirtyFor work (v .slots) address) (line-row status.Regs) (line-running .dirty) (line-running .shaped .slots-most)
+      countable-of v r work (placesOf (v .slots) address) (dirtyAt work (spotOf work (v .slots) address .slot))
+      (spot-dirty work (v .slots) address) (line-row status.Regs) (line-running .dirty) (line-running .shaped .slots-most)
 
 -- ---- and 8
 
 module _ (board work : List ℕ) (r : Registers) (address : ℕ) (v : View) (e : Passed v ≡ storeChecked board work r address) where
-  store-both : Both (lineChecked board work r address) (λ w. roomRows w work r address) v
+  store-both : Both (lineChecked board work r address) (λ w. roomRows w work r (spotOf work (w .slots) address)) v
   unfolding storeChecked
-  store-both = then-both (lineChecked board work r address) (λ w. roomRows w work r address) v e
+  store-both = then-both (lineChecked board work r address) (λ w. roomRows w work r (spotOf work (w .slots) address)) v e
 
   pub store-line : Passed v ≡ lineChecked board work r address
   store-line = store-both .before
@@ -210,7 +227,7 @@ module _ (board work : List ℕ) (r : Registers) (address : ℕ) (v : View) (e :
   pub store-room : undoDue work (spotOf work (v .slots) address) (r .epoch) ≡ true → v .control .length + r .buffered + 1 ≤ v .shape .entries
   store-room due =
       fits (undoDue work (spotOf work (v .slots) address) (r .epoch)) due
-      (passed-row status.Room (roomRows v work r address) v v (store-both .here))
+      (passed-row status.Room (roomRows v work r (spotOf work (v .slots) address)) v v (store-both .here))
     where
       fits : (t : Bool) → t ≡ true → t && ltb (v .shape .entries) (v .control .length + r .buffered + 1) ≡ false
           → v .control .length + r .buffered + 1 ≤ v .shape .entries
@@ -254,12 +271,16 @@ module _ (board work : List ℕ) (r : Registers) (v : View) (e : Passed v ≡ sc
   scan-running = running board work r v (scan-both .before)
 
   pub scan-proper : r .cursor < v .slots → properAt (boundsOf v r) work (r .cursor) ≡ true
-  scan-proper h = not-false _ (rw (lt-ltb (r .cursor) (v .slots) h) at (scan-row status.Slot))
+  unfolding properSet
+  scan-proper h =
+      let row : properSet (boundsOf v r) work (r .cursor ∷ []) ≡ true =
+      not-false _ (rw (lt-ltb (r .cursor) (v .slots) h) at (scan-row status.Slot)) in
+      search held
 
   pub scan-countable : r .cursor < v .slots → Countable r (dirtyAt work (r .cursor))
   scan-countable h =
-      countable-of v r (dirtyAt work (r .cursor)) (rw (lt-ltb (r .cursor) (v .slots) h) at (scan-row status.Regs)) (scan-running .dirty)
-      (scan-running .shaped .slots-most)
+      countable-of v r work (r .cursor ∷ []) (dirtyAt work (r .cursor)) (λ d. rw d) (rw (lt-ltb (r .cursor) (v .slots) h) at (scan-row status.Regs))
+      (scan-running .dirty) (scan-running .shaped .slots-most)
 
   pub scan-waiting : v .control .persisted + 1 < r .epoch
   scan-waiting =

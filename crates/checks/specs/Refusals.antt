@@ -8,7 +8,9 @@ use lib.ListN.{length}
 use Rattle.layout.specs.Limits.{lastEpoch, mostAhead}
 use Rattle.status.specs.declared.Status.{Status}
 use Rattle.status.specs.declared.Status.the-variants as status
-use Rattle.slots.specs.Slots.{properAt, properFor, dirtyAt, dirtyFor, spotOf, undoDue}
+use Rattle.slots.specs.declared.Spot.{Spot}
+use Rattle.slots.specs.Slots.{undoDue}
+use Rattle.slots.specs.Sets.{placesOf, properSet, spotOf}
 use Rattle.checks.specs.declared.Checked.{Checked}
 use Rattle.checks.specs.declared.Checked.the-variants.{Refused, Passed}
 use Rattle.checks.specs.declared.Registers.{Registers}
@@ -47,33 +49,32 @@ workRows words = row (not (goodWork words)) status.Work ∷ []
 abbrev pub registerRows : View → Registers → List Row
 registerRows v r = row (not (properRegisters v r)) status.Regs ∷ []
 
--- "6 slot: the slot visited is not proper: slot a mod S, or slot c if c < S". Request 5/13: "Right after 6, in each call that has it, a count of
--- 0 with the visited slot dirty, or of S with it not, answers 4."
-abbrev pub slotRows : View → List ℕ → Registers → (address : ℕ) → List Row
-slotRows v work r address =
-    row (not (properFor (boundsOf v r) work address)) status.Slot
-    ∷ row (miscounted v r (dirtyFor work (v .slots) address)) status.Regs
-    ∷ []
+-- "6 slot: the slot visited is not proper". Request 5/13: "Right after 6, in each call that has it, a count of 0 with the visited slot dirty, or of S
+-- with it not, answers 4." Request 6/13: load, store and evict visit a set, and the scan a single slot.
+abbrev pub slotRows : View → List ℕ → Registers → (visited : List ℕ) → List Row
+slotRows v work r visited =
+    row (not (properSet (boundsOf v r) work visited)) status.Slot ∷ row (miscounted v r work visited) status.Regs ∷ []
 
+-- "slot c if c < S"
 abbrev pub cursorRows : View → List ℕ → Registers → List Row
-cursorRows v work r =
-    row (ltb (r .cursor) (v .slots) && not (properAt (boundsOf v r) work (r .cursor))) status.Slot
-    ∷ row (ltb (r .cursor) (v .slots) && miscounted v r (dirtyAt work (r .cursor))) status.Regs
-    ∷ []
+cursorRows v work r = slotRows v work r (cond (ltb (r .cursor) (v .slots)) (r .cursor ∷ []) [])
 
 -- 7, and 14 "tested right after 7 wherever 7 is"
 abbrev pub bufferRows : View → List ℕ → Registers → List Row
 bufferRows v work r = row (not (goodBuffer v work r)) status.Buffer ∷ row (not (goodFilter work r)) status.Filter ∷ []
 
--- 5, 6 and the count's 4 of load, store and evict
+-- 5, and then 6 and the count's 4 of load, store and evict
+abbrev pub addressRows : View → (address : ℕ) → List Row
+addressRows v address = row (leb (v .shape .lines) address) status.Address ∷ []
+
 abbrev pub lineRows : View → List ℕ → Registers → (address : ℕ) → List Row
-lineRows v work r address = row (leb (v .shape .lines) address) status.Address ∷ slotRows v work r address
+lineRows v work r address = addressRows v address ++ slotRows v work r (placesOf (v .slots) address)
 
 -- "8 room: an undo entry is due and length + b + 1 > L", of store
-abbrev pub roomRows : View → List ℕ → Registers → (address : ℕ) → List Row
-roomRows v work r address =
+abbrev pub roomRows : View → List ℕ → Registers → Spot → List Row
+roomRows v work r spot =
     row
-    (undoDue work (spotOf work (v .slots) address) (r .epoch) && ltb (v .shape .entries) (v .control .length + r .buffered + 1))
+    (undoDue work spot (r .epoch) && ltb (v .shape .entries) (v .control .length + r .buffered + 1))
     status.Room
     ∷ []
 
@@ -105,7 +106,7 @@ unfoldable pub lineChecked : (board work : List ℕ) → Registers → (address 
 lineChecked board work r address = then (runningChecked board work r) (λ v. lineRows v work r address ++ bufferRows v work r)
 
 unfoldable pub storeChecked : (board work : List ℕ) → Registers → (address : ℕ) → Checked
-storeChecked board work r address = then (lineChecked board work r address) (λ v. roomRows v work r address)
+storeChecked board work r address = then (lineChecked board work r address) (λ v. roomRows v work r (spotOf work (v .slots) address))
 
 unfoldable pub commitChecked : (board work : List ℕ) → Registers → Checked
 commitChecked board work r = then (runningChecked board work r) (λ v. bufferRows v work r ++ epochRows v r)

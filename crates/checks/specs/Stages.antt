@@ -1,20 +1,32 @@
 -- A call makes its check in stages: what the answer of one stage tells of the whole check, and what it gives the next stage. The premises
 -- are what the code knows there.
-use Prim.Native.Nat.{ℕ}
+use Prim.Native.Nat.{ℕ, _+_, _-_, _<_, _≤_}
 use mathlib.Core.Path.{_≡_, refl, sym, _∙_}
+use mathlib.Core.Bool.{Bool, true, false}
 use mathlib.Core.List.{List, _++_}
+use native.Mathlib.Omega.{arith}
+use borrow.Author.Tests.{leb-false, lt-leb}
+use lib.ListN.{length}
 use Rattle.layout.specs.Laws.{control-laws}
-use Rattle.layout.specs.Words.{ControlFits}
+use Rattle.layout.specs.Limits.{lastEpoch, ways}
+use Rattle.layout.specs.Memory.{slotAt}
+use Rattle.layout.specs.Words.{ControlFits, encodeSlot}
 use Rattle.status.specs.declared.Status.{Status}
+use Rattle.status.specs.declared.Status.the-variants as status
+use Rattle.slots.specs.Contracts.{BoundsReady, SpotReady, TagsReady}
+use Rattle.slots.specs.Passes.{boundsBy, nowhere, firstOf, siteFor}
+use Rattle.slots.specs.Sets.{placesOf, properSet, spotOf}
+use Rattle.slots.specs.Sited.{bounds-by, tags-ready, site-improper, site-somewhere, site-first, site-words}
+use Rattle.slots.specs.Slots.{dirtySlot}
 use Rattle.checks.specs.declared.Checked.{Checked}
 use Rattle.checks.specs.declared.Checked.the-variants.{Refused, Passed}
 use Rattle.checks.specs.declared.Registers.{Registers}
 use Rattle.checks.specs.declared.View.{View}
-use Rattle.checks.specs.View.{viewOf}
-use Rattle.checks.specs.Refusals.{Row, tested, then, registerRows, lineRows, roomRows, cursorRows, bufferRows, epochRows, waitingRows}
+use Rattle.checks.specs.View.{viewOf, boundsOf}
+use Rattle.checks.specs.Refusals.{Row, tested, then, registerRows, addressRows, slotRows, lineRows, roomRows, cursorRows, bufferRows, epochRows, waitingRows}
 use Rattle.checks.specs.Refusals.{memoriesChecked, runningChecked, lineChecked, storeChecked, commitChecked, scanChecked}
-use Rattle.checks.specs.Contracts.{Running, RowsReady}
-use Rattle.checks.specs.Laws.{passed-view, refused-first, passed-first, then-refused, then-passed, memories-shaped, running, line-running}
+use Rattle.checks.specs.Contracts.{Running, RowsReady, SiteReady, siteRows}
+use Rattle.checks.specs.Laws.{passed-view, passed-row, refused-first, passed-first, then-refused, then-passed, memories-shaped, running, line-running}
 
 -- a stage behind a check that passed
 module _ (before : Checked) (rows : View → List Row) (v : View) (passed : Passed v ≡ before) (k : Checked) (is : k ≡ tested (rows v) v) where
@@ -33,6 +45,7 @@ ready-of board work r v h =
     record {
       lines-some = h .shaped .lines-some;
       lines-most = h .shaped .lines-most;
+      slots-whole = h .shaped .slots-whole;
       slots-some = h .shaped .slots-some;
       slots-most = h .shaped .slots-most;
       work-words = h .shaped .work-words;
@@ -67,10 +80,90 @@ module _ (board work : List ℕ) (k : Checked) (memories : k ≡ memoriesChecked
       unfolding runningChecked
       registers-passed = stage-passed (memoriesChecked board work) (λ w. registerRows w r) v passed-memories k₂ registers
 
+-- 5
+module _ (v : View) (address : ℕ) (k : Checked) (is : k ≡ tested (addressRows v address) v) where
+  pub address-refused : (work : List ℕ) (r : Registers) (s : Status) → k ≡ Refused s → Refused s ≡ tested (lineRows v work r address) v
+  address-refused work r s e = refused-first (addressRows v address) (slotRows v work r (placesOf (v .slots) address)) v s (sym e ∙ is)
+
+  pub address-named : (w : View) → k ≡ Passed w → address < v .shape .lines
+  address-named w e = leb-false _ _ (passed-row status.Address (addressRows v address) v w (sym e ∙ is))
+
+-- 6 and the count: what a pass over the set has found is what the rows ask
+module _ (v : View) (work : List ℕ) (r : Registers) (address : ℕ) (named : address < v .shape .lines) (site : ℕ)
+    (found : site ≡ siteFor (boundsOf v r) work address) (ready : RowsReady work r v) where
+  abbrev proper : Bool
+  proper = properSet (boundsOf v r) work (placesOf (v .slots) address)
+
+  site-tested : tested (siteRows v work r site) v ≡ tested (lineRows v work r address) v
+  site-tested = rw (found, lt-leb (v .shape .lines) address named) (go proper refl)
+    where
+      go : (t : Bool) → proper ≡ t
+          → tested (siteRows v work r (siteFor (boundsOf v r) work address)) v ≡ tested (slotRows v work r (placesOf (v .slots) address)) v
+      go true e =
+          rw (
+            e,
+            site-somewhere (boundsOf v r) work address (ready .slots-some) (ready .slots-most) e,
+            site-first (boundsOf v r) work address (ready .slots-some) (ready .slots-most) e,
+          )
+      go false e = rw (e, site-improper (boundsOf v r) work address (ready .slots-some) (ready .slots-most) e)
+
+  pub site-ready : SiteReady work v site
+  site-ready =
+      record {
+        some = omega (arith, ready .slots-some);
+        words = λ n. rw found (go proper refl (rw found at n));
+      }
+    where
+      go : (t : Bool) → proper ≡ t → (siteFor (boundsOf v r) work address ≡ nowhere → ⊥)
+          → slotAt (firstOf (siteFor (boundsOf v r) work address) + ways) ≤ length work
+      go true e n = site-words (boundsOf v r) work address (ready .slots-some) (ready .slots-most) e (omega (arith, ready .work-words))
+      go false e n = absurd (n (site-improper (boundsOf v r) work address (ready .slots-some) (ready .slots-most) e))
+
+  module _ (k : Checked) (is : k ≡ tested (siteRows v work r site) v) where
+    pub set-refused : (s : Status) → k ≡ Refused s → Refused s ≡ tested (lineRows v work r address) v
+    set-refused s e = sym e ∙ is ∙ site-tested
+
+    pub set-passed : (w : View) → k ≡ Passed w → Passed v ≡ tested (lineRows v work r address) v
+    set-passed w e = rw (passed-view (siteRows v work r site) v w (sym e ∙ is)) at (sym e ∙ is ∙ site-tested)
+
 -- the rows of a call
 module _ (board work : List ℕ) (r : Registers) (v : View) (passed : Passed v ≡ runningChecked board work r) where
   pub running-ready : RowsReady work r v
   running-ready = ready-of board work r v (running board work r v passed)
+
+  pub running-persisted : v .control .persisted < lastEpoch
+  running-persisted = running board work r v passed .shaped .persisted
+
+  pub running-ahead : v .control .persisted < r .epoch
+  running-ahead = running board work r v passed .ahead
+
+  -- what a pass over a set is told
+  module _ (least tags : ℕ) (first : least ≡ encodeSlot (dirtySlot 0 (v .control .persisted + 1))) (many : tags ≡ r .epoch - v .control .persisted) where
+    bounds-ready : BoundsReady (boundsOf v r)
+    bounds-ready =
+        let h = running-ready in
+        record {
+          slots-ready = record { whole = h .slots-whole; some = h .slots-some; most = h .slots-most };
+          ahead = h .ahead;
+          last = h .epoch-most;
+        }
+
+    pub pass-tags : TagsReady least tags
+    pass-tags = tags-ready (boundsOf v r) least tags bounds-ready first many
+
+    module _ (address : ℕ) (named : address < v .shape .lines) where
+      pub pass-spot : SpotReady work (v .slots) address
+      pass-spot =
+          let h = running-ready in
+          record {
+            slots-ready = bounds-ready .slots-ready;
+            words = omega (arith, h .work-words);
+            fits = omega (arith, h .lines-most);
+          }
+
+      pub pass-found : (site : ℕ) → site ≡ siteFor (boundsBy (v .slots) (v .shape .lines) least tags) work address
+          → site ≡ siteFor (boundsOf v r) work address
+      pass-found site e = rw (bounds-by (boundsOf v r) least tags bounds-ready first many) at e
 
   module _ (k : Checked) where
     -- load and evict: 5 and 6, and then 7 and 14
@@ -134,17 +227,17 @@ module _ (board work : List ℕ) (r : Registers) (s : Status) (refused : Refused
 pub store-first : (board work : List ℕ) (r : Registers) (address : ℕ) (s : Status) → Refused s ≡ lineChecked board work r address
     → Refused s ≡ storeChecked board work r address
 unfolding storeChecked
-store-first board work r address s refused = then-refused (lineChecked board work r address) (λ v. roomRows v work r address) s refused
+store-first board work r address s refused = then-refused (lineChecked board work r address) (λ v. roomRows v work r (spotOf work (v .slots) address)) s refused
 
 module _ (board work : List ℕ) (r : Registers) (address : ℕ) (v : View) (passed : Passed v ≡ lineChecked board work r address) where
   pub line-ready : RowsReady work r v
   line-ready = ready-of board work r v (line-running board work r address v passed)
 
-  module _ (k : Checked) (is : k ≡ tested (roomRows v work r address) v) where
+  module _ (k : Checked) (is : k ≡ tested (roomRows v work r (spotOf work (v .slots) address)) v) where
     pub room-refused : (s : Status) → k ≡ Refused s → Refused s ≡ storeChecked board work r address
     unfolding storeChecked
-    room-refused = stage-refused (lineChecked board work r address) (λ w. roomRows w work r address) v passed k is
+    room-refused = stage-refused (lineChecked board work r address) (λ w. roomRows w work r (spotOf work (w .slots) address)) v passed k is
 
     pub room-passed : (w : View) → k ≡ Passed w → Passed v ≡ storeChecked board work r address
     unfolding storeChecked
-    room-passed = stage-passed (lineChecked board work r address) (λ w. roomRows w work r address) v passed k is
+    room-passed = stage-passed (lineChecked board work r address) (λ w. roomRows w work r (spotOf work (w .slots) address)) v passed k is

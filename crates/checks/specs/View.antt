@@ -1,14 +1,16 @@
 -- What a call reads of the two memories before its tests: the control word, the shape word and the number of slots.
-use Prim.Native.Nat.{ℕ, _+_, _-_}
+use Prim.Native.Nat.{ℕ, _+_, _-_, _%_}
 use mathlib.Core.Bool.{Bool, not, _&&_, _||_}
 use mathlib.Core.List.{List}
 use lib.Dec.{ltb, leb, eqb}
 use lib.ListN.{length}
-use Rattle.layout.specs.Limits.{boardVersion, lastEpoch, mostLines, mostEntries, mostSlots, bufferPlaces, mostAhead}
+use Rattle.base.specs.Several.{allOf, anyOf}
+use Rattle.layout.specs.Limits.{boardVersion, lastEpoch, mostLines, mostEntries, ways, mostSlots, bufferPlaces, mostAhead}
 use Rattle.layout.specs.Memory.{logAt, boardWords, workWords, slotsOf, controlIn, shapeIn, bufferIn}
 use Rattle.undo.specs.declared.LogState.{LogState}
 use Rattle.undo.specs.Log.{bufferProper, bufferMarked}
 use Rattle.slots.specs.declared.Bounds.{Bounds}
+use Rattle.slots.specs.Slots.{dirtyAt}
 use Rattle.checks.specs.declared.Registers.{Registers}
 use Rattle.checks.specs.declared.View.{View}
 
@@ -36,9 +38,12 @@ unfoldable pub goodShape : (words : ℕ) → View → Bool
 goodShape words v =
     leb logAt words && eqb (v .shape .version) boardVersion && goodSizes words (v .shape .lines) (v .shape .entries) && goodControl v
 
--- "2 work: work memory is not" 2S + 128 "words, S 1 to 256"
+-- "2 work: work memory is not" 2S + 128 "words". Request 6/13: "Make S a multiple of 4, from 4 to 256, else refusal 2."
+unfoldable pub goodSlots : (slots : ℕ) → Bool
+goodSlots slots = eqb (slots % ways) 0 && leb ways slots && leb slots mostSlots
+
 unfoldable pub goodWork : (words : ℕ) → Bool
-goodWork words = leb 1 (slotsOf words) && leb (slotsOf words) mostSlots && eqb words (workWords (slotsOf words))
+goodWork words = goodSlots (slotsOf words) && eqb words (workWords (slotsOf words))
 
 -- "Proper registers: P < s ≤ 2^24 − 1, s − P ≤ 16, b ≤ 31, c ≤ S, c = 0 where s = P + 1, length + b ≤ L." Request 5/13: "Registers are also
 -- improper when the count exceeds S."
@@ -59,9 +64,10 @@ properCounts v r =
 unfoldable pub properRegisters : View → Registers → Bool
 properRegisters v r = properEpoch v r && properCounts v r
 
--- "a count of 0 with the visited slot dirty, or of S with it not"
-unfoldable pub miscounted : View → Registers → (dirty : Bool) → Bool
-miscounted v r dirty = eqb (r .dirty) 0 && dirty || eqb (r .dirty) (v .slots) && not dirty
+-- "a count of 0 with the visited slot dirty, or of S with it not". Request 6/13: it "refuses 0 if any slot of it is dirty, S if any is not"
+unfoldable pub miscounted : View → Registers → (work visited : List ℕ) → Bool
+miscounted v r work visited =
+    eqb (r .dirty) 0 && anyOf (dirtyAt work) visited || eqb (r .dirty) (v .slots) && not (allOf (dirtyAt work) visited)
 
 -- what slots and buffered entries are held to, and the undo log as a call carries it
 abbrev pub boundsOf : View → Registers → Bounds

@@ -1,16 +1,19 @@
 // The registers, what a call reads of the two memories, and the tests that it makes before it does anything.
 mod refusals;
 
-ghost use Prim.Native.Nat.{_≤_, _<_};
+ghost use Prim.Native.Nat.{_+_, _-_, _≤_, _<_};
 ghost use lib.ListN.{length};
+ghost use mathlib.Core.List.{[], _∷_};
 ghost use mathlib.Core.Path.{_≡_};
-ghost use Rattle.layout.specs.Limits.{lastEpoch, mostSlots};
-ghost use Rattle.layout.specs.Memory.{logAt, bufferWords};
-ghost use Rattle.layout.specs.Words.{ControlFits, ShapeFits};
+ghost use Rattle.layout.specs.Limits.{lastEpoch, ways, mostSlots};
+ghost use Rattle.layout.specs.Memory.{logAt, slotAt, slotWords, bufferWords};
+ghost use Rattle.layout.specs.Words.{ControlFits, ShapeFits, encodeSlot};
 ghost use Rattle.checks.specs.Registers.{zero, given, woken, committed, stepped, restarted, recounted, leaving};
 ghost use Rattle.checks.specs.View.{goodSizes, goodControl, goodShape, goodWork, properEpoch, properCounts, properRegisters, miscounted};
 ghost use Rattle.checks.specs.View.{lent, boundsOf, undoOf};
 ghost use Rattle.checks.specs.Contracts.{Viewed, Countable};
+ghost use Rattle.slots.specs.Sets.{slotsFrom};
+ghost use Rattle.slots.specs.Slots.{dirtySlot};
 use layout::BUFFER_PLACES;
 use layout::CONTROL_AT;
 use layout::Control;
@@ -23,14 +26,15 @@ use layout::MOST_LINES;
 use layout::MOST_WORK;
 use layout::SHAPE_AT;
 use layout::Shape;
+pub use refusals::check_address;
 pub use refusals::check_board;
 pub use refusals::check_buffer;
 pub use refusals::check_commit;
-pub use refusals::check_line;
 pub use refusals::check_memories;
 pub use refusals::check_registers;
 pub use refusals::check_room;
 pub use refusals::check_scan;
+pub use refusals::check_set;
 use slots::Bounds;
 use status::Status;
 use undo::LogState;
@@ -183,14 +187,30 @@ impl Registers {
         view.control.length + self.buffered <= view.shape.entries
     }
 
-    // Whether the slot that a call visits, dirty or not, tells that the count is wrong.
-    fn is_miscounted(self, view: View, dirty: bool) -> bool
-        ensures { λ r. ⌜ r ≡ miscounted view self dirty ⌝ }
+    // Whether the slot that a scan visits tells that the count is wrong.
+    fn is_miscounted_at(self, view: View, work: &[u64], k: usize) -> bool
+        requires { ⌜ slotAt k + slotWords ≤ length (now work) ⌝ }
+        ensures { λ r. ⌜ r ≡ miscounted view self (now (work .entry)) (k ∷ []) ⌝ }
     {
-        if dirty {
+        if slots::is_dirty_at(work, k) {
             return self.dirty == 0;
         }
         self.dirty == view.slots as u64
+    }
+
+    // Whether one of the slots of a set does. Most counts are between 0 and S, and these no slot can belie.
+    fn is_miscounted_set(self, view: View, work: &[u64], first: usize) -> bool
+        requires { ⌜ 1 ≤ view .slots ⌝ }
+        requires { ⌜ slotAt (first + ways) ≤ length (now work) ⌝ }
+        ensures { λ r. ⌜ r ≡ miscounted view self (now (work .entry)) (slotsFrom first) ⌝ }
+    {
+        if self.dirty == 0 {
+            return slots::is_any_dirty(work, first);
+        }
+        if self.dirty == view.slots as u64 {
+            return !slots::is_all_dirty(work, first);
+        }
+        false
     }
 
     fn is_proper(self, view: View) -> bool
@@ -277,6 +297,21 @@ impl View {
         }
     }
 
+    // The least tag that a dirty slot may have, told by a slot word; and how many there are from there on.
+    pub fn least_tag(self) -> u64
+        requires { ⌜ self .control .persisted < lastEpoch ⌝ }
+        ensures { λ r. ⌜ r ≡ encodeSlot (dirtySlot 0 (self .control .persisted + 1)) ⌝ }
+    {
+        slots::dirty_word(0, self.control.persisted + 1)
+    }
+
+    pub fn tags(self, registers: Registers) -> u64
+        requires { ⌜ self .control .persisted < registers .epoch ⌝ }
+        ensures { λ r. ⌜ r ≡ registers .epoch - self .control .persisted ⌝ }
+    {
+        registers.epoch - self.control.persisted
+    }
+
     // The undo log as the call carries it.
     pub fn undo(self, registers: Registers) -> LogState
         ensures { λ r. ⌜ r ≡ undoOf self registers ⌝ }
@@ -301,7 +336,7 @@ pub fn is_good_sizes(words: usize, lines: u64, entries: u64) -> bool
     words as u64 == LOG_AT as u64 + ENTRY_WORDS as u64 * entries + lines
 }
 
-// A work memory has an even number of words more than the least, and fewer than 512: no bit but those of such a number is set.
+// A work memory has a multiple of 8 words more than the least, and fewer than 512: no bit but those of such a number is set.
 const UNUSED_WORK_BITS: usize = usize::MAX - (MOST_WORK - LEAST_WORK);
 
 // 2. Fewer words than the least wrap round to a number whose first bit is set.

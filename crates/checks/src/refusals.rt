@@ -5,9 +5,9 @@ ghost use lib.ListN.{length};
 ghost use mathlib.Core.List.{_++_};
 ghost use mathlib.Core.Path.{_≡_};
 ghost use Rattle.layout.specs.Words.{ControlFits};
-ghost use Rattle.checks.specs.Refusals.{tested, registerRows, bufferRows, lineRows, roomRows, epochRows, cursorRows};
+ghost use Rattle.checks.specs.Refusals.{tested, registerRows, bufferRows, addressRows, roomRows, epochRows, cursorRows};
 ghost use Rattle.checks.specs.Refusals.{waitingRows, boardChecked, memoriesChecked};
-ghost use Rattle.checks.specs.Contracts.{RowsReady};
+ghost use Rattle.checks.specs.Contracts.{RowsReady, SiteReady, siteRows};
 use crate::Checked;
 use crate::Registers;
 use crate::View;
@@ -15,6 +15,7 @@ use crate::is_good_work;
 use layout::LAST_EPOCH;
 use layout::LOG_AT;
 use layout::MOST_AHEAD;
+use slots::Spot;
 use status::Status;
 
 // 1 of the paper's table.
@@ -83,30 +84,36 @@ pub fn check_buffer(view: View, work: &[u64], registers: Registers) -> Checked
     Checked::Refused(Status::Buffer)
 }
 
-// 5 and 6 of load, store and evict, and the test of the count right after 6; 7 and 14 stand behind.
-pub fn check_line(view: View, work: &[u64], registers: Registers, address: u64) -> Checked
-    requires { ⌜ RowsReady (now work) registers view ⌝ }
-    ensures { λ r. ⌜ r ≡ tested (lineRows view (now (work .entry)) registers address) view ⌝ }
+// 5 of load, store and evict.
+pub fn check_address(view: View, address: u64) -> Checked
+    ensures { λ r. ⌜ r ≡ tested (addressRows view address) view ⌝ }
 {
     if address >= view.shape.lines {
         return Checked::Refused(Status::Address);
     }
-    if !slots::is_proper_for(work, view.bounds(registers), address) {
+    Checked::Passed(view)
+}
+
+// 6 of load, store and evict and the test of the count, by what a pass over the set has found; 7 and 14 stand behind.
+pub fn check_set(view: View, work: &[u64], registers: Registers, site: usize) -> Checked
+    requires { ⌜ SiteReady (now work) view site ⌝ }
+    ensures { λ r. ⌜ r ≡ tested (siteRows view (now (work .entry)) registers site) view ⌝ }
+{
+    if slots::is_nowhere(site) {
         return Checked::Refused(Status::Slot);
     }
-    if registers.is_miscounted(view, slots::is_dirty_for(work, view.slots, address)) {
+    if registers.is_miscounted_set(view, work, slots::first_of(site)) {
         return Checked::Refused(Status::Regs);
     }
     Checked::Passed(view)
 }
 
 // 8 of store.
-pub fn check_room(view: View, work: &[u64], registers: Registers, address: u64) -> Checked
+pub fn check_room(view: View, work: &[u64], registers: Registers, spot: Spot) -> Checked
     requires { ⌜ RowsReady (now work) registers view ⌝ }
-    requires { ⌜ address < view .shape .lines ⌝ }
-    ensures { λ r. ⌜ r ≡ tested (roomRows view (now (work .entry)) registers address) view ⌝ }
+    requires { ⌜ spot .slot < view .slots ⌝ }
+    ensures { λ r. ⌜ r ≡ tested (roomRows view (now (work .entry)) registers spot) view ⌝ }
 {
-    let spot = slots::find(work, view.slots, address);
     if !slots::is_undo_due(work, spot, registers.epoch) {
         return Checked::Passed(view);
     }
@@ -154,7 +161,7 @@ fn check_cursor(view: View, work: &[u64], registers: Registers) -> Checked
     if !slots::is_proper_at(work, view.bounds(registers), k) {
         return Checked::Refused(Status::Slot);
     }
-    if registers.is_miscounted(view, slots::is_dirty_at(work, k)) {
+    if registers.is_miscounted_at(view, work, k) {
         return Checked::Refused(Status::Regs);
     }
     Checked::Passed(view)

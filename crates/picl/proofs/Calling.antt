@@ -17,7 +17,8 @@ use Rattle.undo.specs.declared.Progress.{Progress}
 use Rattle.slots.specs.declared.Spot.{Spot}
 use Rattle.steps.specs.Effects.{loading, storing, evicting, scanTarget, visiting, persisting}
 use Rattle.steps.specs.Contracts.{Acts, Carries}
-use Rattle.slots.specs.Slots.{dirtyAt, spotOf}
+use Rattle.slots.specs.Sets.{spotOf}
+use Rattle.slots.specs.Slots.{dirtyAt}
 use Rattle.checks.specs.declared.Checked.{Checked}
 use Rattle.checks.specs.declared.Checked.the-variants.{Refused, Passed}
 use Rattle.checks.specs.declared.Registers.{Registers}

@@ -3,3 +3,4 @@ pub mod Passing
 pub mod Calling
 pub mod Waking
 pub mod Asking
+pub mod Siting

@@ -11,7 +11,8 @@ use Rattle.slots.specs.declared.Spot.{Spot}
 use Rattle.steps.specs.Effects.{scanTarget}
 use Rattle.steps.specs.Contracts.{Ready, SlotReady, FillReady, StoreReady, PersistReady}
 use Rattle.slots.specs.Laws.{spot-below, spot-named, proper-named}
-use Rattle.slots.specs.Slots.{dirtyAt, dirtyFor, spotOf}
+use Rattle.slots.specs.Sets.{spotOf}
+use Rattle.slots.specs.Slots.{dirtyAt}
 use Rattle.checks.specs.declared.Registers.{Registers}
 use Rattle.checks.specs.declared.View.{View}
 use Rattle.checks.specs.Contracts.{Running}
@@ -65,7 +66,6 @@ module _ (board work : List ℕ) (r : Registers) (address : ℕ) (v : View) (spo
 
   -- the slot that the call visits
   pub line-found : (was : Bool) → was ≡ dirtyAt work (spot .slot) → LinePassed board work r address v → Found work r (spot .slot) was
-  unfolding dirtyFor spotOf
   line-found was e p = record { is = e; count = rw (e, at) (p .count) }
 
   pub store-found : (was : Bool) → was ≡ dirtyAt work (spot .slot) → StorePassed board work r address v → Found work r (spot .slot) was

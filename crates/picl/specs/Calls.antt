@@ -13,7 +13,8 @@ use Rattle.undo.specs.declared.LogState.{LogState}
 use Rattle.undo.specs.Filter.{bitsSet}
 use Rattle.undo.specs.Log.{firstImproper, recoverStores}
 use Rattle.slots.specs.declared.Spot.{Spot}
-use Rattle.slots.specs.Slots.{dirtyAt, spotOf}
+use Rattle.slots.specs.Sets.{spotOf}
+use Rattle.slots.specs.Slots.{dirtyAt}
 use Rattle.steps.specs.Effects.{Effect, loading, storing, evicting, visiting, persisting, scanTarget}
 use Rattle.checks.specs.declared.Checked.{Checked}
 use Rattle.checks.specs.declared.Checked.the-variants.{Refused, Passed}

@@ -1,8 +1,10 @@
 // The PiCL cache log: format, power-up, load, store, evict, commit, scan, tally and the number of filter bits, over two lent memories, the
 // board's and the work memory. Every call answers every input.
 mod epochs;
-mod lines;
+mod evictions;
+mod loads;
 mod memory;
+mod stores;
 
 ghost use Prim.Native.Nat.{_+_, _≤_};
 ghost use mathlib.Core.Path.{_≡_};
@@ -15,13 +17,13 @@ use checks::Registers;
 pub use epochs::commit;
 pub use epochs::power_up;
 pub use epochs::scan;
-pub use lines::evict;
-pub use lines::load;
-pub use lines::store;
+pub use evictions::evict;
+pub use loads::load;
 pub use memory::filter_bits;
 pub use memory::format;
 pub use memory::tally;
 use status::Status;
+pub use stores::store;
 use undo::Progress;
 
 // What a call answers: the paper's number, the value, the number of board stores made and the new registers.

@@ -1,4 +1,4 @@
-use Rattle.checks.proofs.Rows.{cursor-end, cursor-refused, cursor-miscounted, cursor-passed, bounds-slots, cursor-within}
+use Rattle.checks.proofs.Rows.{cursor-end, bounds-ready, bounds-below, cursor-within, cursor-refused, cursor-miscounted, cursor-passed}
 use borrow.Author.Needs.{needs}
 use Rattle.checks.proofs.refusals.check_cursor.Statement.{statement}
 use Rattle.checks.proofs.refusals.check_cursor.Tie as tie
@@ -10,16 +10,13 @@ bounds-requires : tie.Need-bounds-requires
 bounds-requires c κs = search needs
 
 is-proper-at-requires : tie.Need-is-proper-at-requires
-is-proper-at-requires c κs = search (bounds-slots, cursor-within)
+is-proper-at-requires c κs = search (bounds-ready, bounds-below, cursor-within)
 
 returns-2 : tie.Need-returns-2
 returns-2 c = search (cursor-refused)
 
-is-dirty-at-requires : tie.Need-is-dirty-at-requires
-is-dirty-at-requires c κs = search needs
-
-is-miscounted-requires : tie.Need-is-miscounted-requires
-is-miscounted-requires c κs = search needs
+is-miscounted-at-requires : tie.Need-is-miscounted-at-requires
+is-miscounted-at-requires c κs = search needs
 
 returns-3 : tie.Need-returns-3
 returns-3 c = search (cursor-miscounted)
@@ -35,7 +32,6 @@ check-cursor-spec =
     bounds-requires
     is-proper-at-requires
     returns-2
-    is-dirty-at-requires
-    is-miscounted-requires
+    is-miscounted-at-requires
     returns-3
     returns-4)

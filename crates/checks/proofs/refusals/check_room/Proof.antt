@@ -1,13 +1,10 @@
-use Rattle.checks.proofs.Rows.{room-spared, room-refused, room-found, room-spot}
+use Rattle.checks.proofs.Rows.{room-spared, room-refused, room-found}
 use borrow.Author.Needs.{needs}
 use Rattle.checks.proofs.refusals.check_room.Statement.{statement}
 use Rattle.checks.proofs.refusals.check_room.Tie as tie
 
-find-requires : tie.Need-find-requires
-find-requires c κs = search needs
-
 is-undo-due-requires : tie.Need-is-undo-due-requires
-is-undo-due-requires c κs = search (room-spot)
+is-undo-due-requires c κs = search needs
 
 returns : tie.Need-returns
 returns c = search (room-spared)
@@ -26,5 +23,4 @@ returns-3 c = search (room-found)
 
 pub check-room-spec : {M : Type 1} → statement M
 check-room-spec =
-    tie.close
-    (tie.spec find-requires is-undo-due-requires returns add-if2 add-if2-2 returns-2 returns-3)
+    tie.close (tie.spec is-undo-due-requires returns add-if2 add-if2-2 returns-2 returns-3)

@@ -1,0 +1,85 @@
+use Rattle.checks.specs.Stages.{memories-fits, memories-refused, registers-passed, registers-refused, store-first, line-first}
+use Rattle.picl.specs.Calls.{storeVerdict}
+use Rattle.picl.proofs.Calling.{judged-refused}
+use borrow.Author.Needs.{needs}
+use Rattle.picl.proofs.stores.store.Statement.{statement}
+use Rattle.picl.proofs.stores.store.Tie as tie
+
+check-memories-requires : tie.Need-check-memories-requires
+check-memories-requires c κs = search needs
+
+enum-known-memories : tie.Need-enum-known-memories
+enum-known-memories c = search needs
+
+refusal-requires : tie.Need-refusal-requires
+refusal-requires c κs = search needs
+
+enum-known-memories-2 : tie.Need-enum-known-memories-2
+enum-known-memories-2 c = search needs
+
+check-registers-requires : tie.Need-check-registers-requires
+check-registers-requires c κs = search (memories-fits)
+
+enum-known-running : tie.Need-enum-known-running
+enum-known-running c = search needs
+
+refusal-requires-2 : tie.Need-refusal-requires-2
+refusal-requires-2 c κs = search needs
+
+enum-told : tie.Need-enum-told
+enum-told c = search needs
+
+store-running-requires : tie.Need-store-running-requires
+store-running-requires c κs = search (registers-passed)
+
+same-length : tie.Need-same-length
+same-length c = search needs
+
+same-length-2 : tie.Need-same-length-2
+same-length-2 c = search needs
+
+returns : tie.Need-returns
+unfolding storeVerdict
+returns c = search (judged-refused, store-first, line-first, memories-refused)
+
+same-length-3 : tie.Need-same-length-3
+same-length-3 c = search needs
+
+same-length-4 : tie.Need-same-length-4
+same-length-4 c = search needs
+
+returns-2 : tie.Need-returns-2
+unfolding storeVerdict
+returns-2 c = search (judged-refused, store-first, line-first, registers-refused)
+
+same-length-5 : tie.Need-same-length-5
+same-length-5 c = search needs
+
+same-length-6 : tie.Need-same-length-6
+same-length-6 c = search needs
+
+returns-3 : tie.Need-returns-3
+returns-3 c = search needs
+
+pub store-spec : {M : Type 1} → statement M
+store-spec =
+    tie.close
+    (tie.spec
+    check-memories-requires
+    enum-known-memories
+    refusal-requires
+    enum-known-memories-2
+    check-registers-requires
+    enum-known-running
+    refusal-requires-2
+    enum-told
+    store-running-requires
+    same-length
+    same-length-2
+    returns
+    same-length-3
+    same-length-4
+    returns-2
+    same-length-5
+    same-length-6
+    returns-3)
