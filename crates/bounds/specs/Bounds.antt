@@ -11,7 +11,7 @@ use Rattle.layout.specs.Limits.{mostStores}
 use Rattle.layout.specs.Memory.{controlIn}
 use Rattle.status.specs.declared.Status.{Status}
 use Rattle.undo.specs.Log.{firstImproper}
-use Rattle.slots.specs.Slots.{spotOf}
+use Rattle.slots.specs.Sets.{spotOf}
 use Rattle.checks.specs.declared.Checked.{Checked}
 use Rattle.checks.specs.declared.Checked.the-variants.{Refused, Passed}
 use Rattle.checks.specs.declared.Registers.{Registers}

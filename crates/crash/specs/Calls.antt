@@ -22,8 +22,9 @@ use Rattle.slots.specs.declared.Spot.{Spot}
 use Rattle.steps.specs.Effects.{Effect, nothing, flushing, flushingIf, writingOut, emptying, entryFor, logged, bringing, storingHeld, loading}
 use Rattle.slots.specs.Slots.{entryDue, undoDue}
 use Rattle.steps.specs.Effects.{storing, evicting, cleaning, visiting, persisting}
-use Rattle.slots.specs.Laws.{spot-below}
-use Rattle.slots.specs.Slots.{spotOf, holds, dirtied, dirtyAt, dirtySlots}
+use Rattle.slots.specs.Laws.{spot-below, spot-belongs, spot-holds}
+use Rattle.slots.specs.Sets.{spotOf}
+use Rattle.slots.specs.Slots.{holds, dirtied, dirtyAt, dirtySlots}
 use Rattle.checks.specs.declared.Registers.{Registers}
 use Rattle.checks.specs.declared.View.{View}
 use Rattle.checks.specs.Contracts.{Running}
@@ -36,10 +37,11 @@ use Rattle.picl.specs.Calls.{scanOutcome}
 use Rattle.picl.specs.Answers.{Outcome, success, cutOff, answerOf}
 use Rattle.board.specs.Verdict.{due}
 use Rattle.reference.specs.Machine.{Reference, stores, commits, persists, does}
-use Rattle.volatile.specs.Cache.{spot-belongs, spot-holds}
+use Rattle.volatile.specs.Cache.{Alone}
 use Rattle.volatile.specs.Dirty.{dirty-changed, dirty-kept}
 use Rattle.volatile.specs.Moves.{Moved, moved-load, moved-evict, moved-store, moved-visit, moved-persist}
 use Rattle.volatile.specs.Proper.{AtHome, FullSlot}
+use Rattle.volatile.specs.Sets.{spot-alone}
 use Rattle.refine.specs.Along.{Along, along-none, along-then}
 use Rattle.refine.specs.Flush.{Keeps, nothing-keeps}
 use Rattle.refine.specs.Empty.{Fewer, same-fewer, flush-fewer, emptying-keeps, emptying-fewer}
@@ -162,7 +164,7 @@ module _ {N L : ℕ} {m : Machine} {g : Reference} (up : Up N L m g) where
     spot = spotOf (m .work) (v .slots) a
 
     below : spot .slot < b .slots
-    below = spot-below (m .work) (v .slots) a (up .ok .slotted .some)
+    below = spot-below (m .work) (v .slots) a (up .ok .slotted .sets .some)
 
     home : AtHome b (spot .slot) a
     home =
@@ -172,17 +174,20 @@ module _ {N L : ℕ} {m : Machine} {g : Reference} (up : Up N L m g) where
           home = spot-belongs (m .work) (v .slots) a;
         }
 
+    alone : Alone (m .work) (b .slots) (spot .slot) a
+    alone = spot-alone (up .ok .slotted) a
+
     held : spot .held ≡ holds (m .work) (spot .slot) a
     held = spot-holds (m .work) (v .slots) a
 
     loads : Keeps L b (m .registers .cursor) (m .board) g (loading (m .board) u (m .work) a spot) (m .registers .cursor) g
-    loads = loading-keeps (up .ok) (spot .slot) below a home (spot .held) held
+    loads = loading-keeps (up .ok) (spot .slot) below a home alone (spot .held) held
 
     fewer : Fewer u (loading (m .board) u (m .work) a spot .undo)
-    fewer = loading-fewer (up .ok) (spot .slot) below a home (spot .held) held
+    fewer = loading-fewer (up .ok) (spot .slot) below a home alone (spot .held) held
 
     full : FullSlot b a (slotIn (loading (m .board) u (m .work) a spot .work) (spot .slot))
-    full = loading-full (up .ok) (spot .slot) below a home (spot .held) held
+    full = loading-full (up .ok) (spot .slot) below a home alone (spot .held) held
 
     pub load-goes : Fares N L m g (calls.load a) (due (loadOutcome (m .board) (m .work) (m .registers) a v))
     unfolding loadOutcome loadAt
@@ -199,7 +204,7 @@ module _ {N L : ℕ} {m : Machine} {g : Reference} (up : Up N L m g) where
       where
         go : (t : Bool) → cond t (success (loadAt (m .board) (m .work) (m .registers) u a spot)) (cutOff allowance) .status ≡ status.Ok
             → cond t (success (loadAt (m .board) (m .work) (m .registers) u a spot)) (cutOff allowance) .value ≡ g .lines a
-        go true ok = full-reads (loads .after) (spot .slot) a home full
+        go true ok = full-reads (loads .after) (spot .slot) a below full
         go false ok = let z : _≡_ {A = ℕ} 0 1 = cc in absurd (omega arith)
 
     pub evict-goes : Fares N L m g (calls.evict a) (due (evictOutcome (m .work) (m .registers) a v))

@@ -34,6 +34,7 @@ use Rattle.bounds.specs.Costs.{recover-most}
 use Rattle.durable.specs.Proper.{reads-passes, reads-proper}
 use Rattle.durable.specs.View.{Sized, undoWith}
 use Rattle.volatile.specs.Dirty.{dirty-none}
+use Rattle.volatile.specs.Slotted.{WholeSets}
 use Rattle.refine.specs.State.{Off, Ok}
 use Rattle.refine.specs.Wake.{waking-along, waking-reads, waking-ok}
 use Rattle.crash.specs.Statement.{powerUp, Machine, Result, answered, made, fed, logOn}
@@ -116,8 +117,10 @@ module _ {N L : ℕ} {board : List ℕ} {g : Reference} (off : Off N L board g) 
         })
         (wakes g)
     wake-up =
+        let sets : WholeSets (viewOf board lent .slots) =
+        record { whole = passed .slots-whole; some = passed .slots-some; most = passed .slots-most } in
         rw (passed .work-words)
-        (up-of (waking-ok off (viewOf board lent .slots) (passed .slots-some) (passed .slots-most)) (registers.woken (off .control .persisted)) refl refl
+        (up-of (waking-ok off (viewOf board lent .slots) sets) (registers.woken (off .control .persisted)) refl refl
         refl (omega arith) (sym (dirty-none (viewOf board lent .slots))))
 
 pub record PoweredUp (N L : ℕ) (g : Reference) (lent : List ℕ) (k : ℕ) (x : Result) : Type 0 where

@@ -1,29 +1,32 @@
 -- A controller that is awake passes its tests: only what a call asks for can be refused.
-use Prim.Native.Nat.{ℕ, zero, suc, _+_, _-_, _<_}
-use mathlib.Core.Path.{_≡_, refl, ap}
+use Prim.Native.Nat.{ℕ, zero, suc, _+_, _-_, _%_, _<_}
+use mathlib.Core.Path.{_≡_, refl, sym, ap, _∙_}
 use mathlib.Core.Bool.{Bool, true, false, not, cond, _&&_, _||_}
+use mathlib.Core.List.{List, [], _∷_}
 use native.Mathlib.Omega.{arith}
-use borrow.Author.Tests.{lt-ltb, le-leb, eq-eqb, ne-eqb, ltb-true}
+use borrow.Author.Tests.{lt-ltb, le-leb, eq-eqb, ne-eqb, eqb-true, ltb-true}
 use lib.Dec.{ltb, leb, eqb}
 use lib.ListN.{length}
+use Rattle.base.specs.Every.{Every}
+use Rattle.base.specs.Several.{allOf, anyOf}
 use Rattle.base.specs.Tests.{and-right, and-true}
-use Rattle.layout.specs.Limits.{lastEpoch, mostSlots, bufferPlaces, mostAhead}
+use Rattle.layout.specs.Limits.{lastEpoch, ways, mostSlots, bufferPlaces, mostAhead}
 use Rattle.layout.specs.Memory.{bufferIn, slotsOf, workWords, controlIn, shapeIn}
 use Rattle.status.specs.declared.Status.{Status}
 use Rattle.status.specs.declared.Status.the-variants as status
-use Rattle.slots.specs.Slots.{undoDue}
-use Rattle.slots.specs.Laws.{spot-below}
-use Rattle.slots.specs.Slots.{spotOf, properAt, properFor, dirtyAt, dirtyFor}
+use Rattle.slots.specs.Sets.{placesOf, properSet, spotOf}
+use Rattle.slots.specs.Slots.{dirtyAt, undoDue}
 use Rattle.checks.specs.declared.Checked.the-variants.{Refused, Passed}
 use Rattle.checks.specs.declared.Registers.{Registers}
 use Rattle.checks.specs.declared.View.{View}
-use Rattle.checks.specs.Refusals.{then, roomRows, memoriesChecked, runningChecked, lineChecked, storeChecked, commitChecked, scanChecked}
-use Rattle.checks.specs.View.{viewOf, boundsOf, goodShape, goodWork, properEpoch, properCounts, properRegisters, miscounted, goodBuffer, goodFilter}
+use Rattle.checks.specs.Refusals.{Row, then, roomRows, memoriesChecked, runningChecked, lineChecked, storeChecked, commitChecked, scanChecked}
+use Rattle.checks.specs.View.{viewOf, boundsOf, goodShape, goodSlots, goodWork, properEpoch, properCounts, properRegisters, miscounted, goodBuffer, goodFilter}
 use Rattle.reference.specs.Machine.{Reference}
 use Rattle.history.specs.Lines.{entries-proper}
 use Rattle.volatile.specs.Buffer.{entries-buffer-proper}
-use Rattle.volatile.specs.Dirty.{dirty-most, dirty-some, dirty-not-all}
+use Rattle.volatile.specs.Dirty.{dirty-most, none-dirty, all-dirty}
 use Rattle.volatile.specs.Filter.{Exact, exact-marked}
+use Rattle.volatile.specs.Sets.{Ascending, ascending-below, places-ascending, set-proper}
 use Rattle.picl.specs.Answers as picl
 use Rattle.board.specs.Verdict.{refused, due}
 use Rattle.picl.specs.Answers.{success, cutOff, answerOf}
@@ -32,7 +35,6 @@ use Rattle.picl.specs.Calls.{Call, tallyVerdict, filterBitsVerdict, judged, loa
 use Rattle.picl.specs.Calls.{scanOutcome, scanVerdict}
 use Rattle.crash.specs.Statement.{call, Machine, Both, made, Awake, Expected, ok, address, room, waiting, last, none, cut}
 use Rattle.crash.specs.State.{Up, Holds, is-up, is-down}
-use Rattle.base.specs.Tests.{and-true}
 use Rattle.crash.specs.Power.{shape-good}
 
 -- a refusal answers its number, a call that goes through 0 or 12
@@ -60,14 +62,6 @@ due-not-room k r o = go (leb (length (o .stores)) k)
     go true e = let z : _≡_ {A = ℕ} 0 1 = cc in omega arith
     go false e = let z : _≡_ {A = ℕ} 0 1 = cc in omega arith
 
-and-none : (t : Bool) → t && false ≡ false
-and-none true = refl
-and-none false = refl
-
-or-none : (t : Bool) → t && false || false ≡ false
-or-none true = refl
-or-none false = refl
-
 module _ {N L : ℕ} {m : Machine} {g : Reference} (up : Up N L m g) where
   abbrev v : View
   v = viewOf (m .board) (m .work)
@@ -81,11 +75,13 @@ module _ {N L : ℕ} {m : Machine} {g : Reference} (up : Up N L m g) where
 
   -- 2
   worked : goodWork (length (m .work)) ≡ true
-  unfolding goodWork viewOf
+  unfolding goodWork goodSlots viewOf
   worked =
       let s = up .ok .slotted in
-      and-true _ _ (and-true _ _ (le-leb 1 (slotsOf (length (m .work))) (s .some)) (le-leb (slotsOf (length (m .work))) mostSlots (s .most)))
-      (eq-eqb (length (m .work)) (workWords (slotsOf (length (m .work)))) (s .words))
+      let n = slotsOf (length (m .work)) in
+      and-true _ _
+      (and-true _ _ (and-true _ _ (eq-eqb (n % ways) 0 (s .sets .whole)) (le-leb ways n (s .sets .some))) (le-leb n mostSlots (s .sets .most)))
+      (eq-eqb (length (m .work)) (workWords n) (s .words))
 
   -- 4
   epochs : properEpoch v r ≡ true
@@ -122,30 +118,50 @@ module _ {N L : ℕ} {m : Machine} {g : Reference} (up : Up N L m g) where
   unfolding properRegisters
   proper = and-true _ _ epochs counts
 
-  -- 6
-  slots : (k : ℕ) → k < v .slots → properAt (boundsOf v r) (m .work) k ≡ true
-  slots k h = up .ok .slotted .proper k h
+  -- 6, and the count beside it, of the slots that a call visits
+  module _ (visited : List ℕ) (within : Ascending (v .slots) 0 visited) where
+    visited-proper : properSet (boundsOf v r) (m .work) visited ≡ true
+    visited-proper = set-proper (up .ok .slotted) visited within
 
-  home : (a : ℕ) → properFor (boundsOf v r) (m .work) a ≡ true
-  unfolding properFor spotOf
-  home a = slots (spotOf (m .work) (v .slots) a .slot) (spot-below (m .work) (v .slots) a (up .ok .slotted .some))
+    visited-counted : miscounted v r (m .work) visited ≡ false
+    unfolding miscounted viewOf
+    visited-counted = rw (if-none (eqb (r .dirty) 0) refl, if-all (eqb (r .dirty) (slotsOf (length (m .work)))) refl)
+      where
+        below : Every (λ k. k < slotsOf (length (m .work))) visited
+        below = ascending-below (slotsOf (length (m .work))) visited within
 
-  -- and the count beside a slot
-  counted-at : (k : ℕ) → k < v .slots → miscounted v r (dirtyAt (m .work) k) ≡ false
-  unfolding miscounted viewOf
-  counted-at k h = go (dirtyAt (m .work) k) refl
+        if-none : (t : Bool) → eqb (r .dirty) 0 ≡ t → t && anyOf (dirtyAt (m .work)) visited ≡ false
+        if-none true e = none-dirty (up .ok .slotted) visited below (sym (up .counted) ∙ eqb-true (r .dirty) 0 e)
+        if-none false e = refl
+
+        if-all : (t : Bool) → eqb (r .dirty) (slotsOf (length (m .work))) ≡ t → t && not (allOf (dirtyAt (m .work)) visited) ≡ false
+        if-all true e = rw (all-dirty (up .ok .slotted) visited below (sym (up .counted) ∙ eqb-true (r .dirty) (slotsOf (length (m .work))) e))
+        if-all false e = refl
+
+  -- load, store and evict visit a set
+  module _ (a : ℕ) where
+    abbrev places : List ℕ
+    places = placesOf (v .slots) a
+
+    within-set : Ascending (v .slots) 0 places
+    within-set = places-ascending (v .slots) a (up .ok .slotted .sets .some)
+
+    line-proper : properSet (boundsOf v r) (m .work) places ≡ true
+    line-proper = visited-proper places within-set
+
+    line-counted : miscounted v r (m .work) places ≡ false
+    line-counted = visited-counted places within-set
+
+  -- the scan "slot c if c < S"
+  abbrev atCursor : List ℕ
+  atCursor = cond (ltb (r .cursor) (v .slots)) (r .cursor ∷ []) []
+
+  within-cursor : Ascending (v .slots) 0 atCursor
+  within-cursor = go (ltb (r .cursor) (v .slots)) refl
     where
-      go : (d : Bool) → dirtyAt (m .work) k ≡ d → eqb (r .dirty) 0 && d || eqb (r .dirty) (slotsOf (length (m .work))) && not d ≡ false
-      go true e =
-          let some = dirty-some (up .ok .slotted) k h e in
-          rw (ne-eqb (r .dirty) 0 (λ x. omega (arith, up .counted))) (and-none (eqb (r .dirty) (slotsOf (length (m .work)))))
-      go false e =
-          let not-all = dirty-not-all (up .ok .slotted) k h e in
-          rw (ne-eqb (r .dirty) (slotsOf (length (m .work))) (λ x. omega (arith, up .counted))) (or-none (eqb (r .dirty) 0))
-
-  counted-for : (a : ℕ) → miscounted v r (dirtyFor (m .work) (v .slots) a) ≡ false
-  unfolding dirtyFor spotOf
-  counted-for a = counted-at (spotOf (m .work) (v .slots) a .slot) (spot-below (m .work) (v .slots) a (up .ok .slotted .some))
+      go : (t : Bool) → ltb (r .cursor) (v .slots) ≡ t → Ascending (v .slots) 0 (cond t (r .cursor ∷ []) [])
+      go true e = (omega arith, ltb-true (r .cursor) (v .slots) e, tt)
+      go false e = tt
 
   -- 7
   buffered : goodBuffer v (m .work) r ≡ true
@@ -163,21 +179,24 @@ module _ {N L : ℕ} {m : Machine} {g : Reference} (up : Up N L m g) where
 
   line-answered : (a k : ℕ) (f : View → picl.Outcome) → Expected (answerOf k r (judged (lineChecked (m .board) (m .work) r a) f) .status)
   unfolding lineChecked runningChecked memoriesChecked
-  line-answered a k f = rw (shaped, worked, proper, home a, counted-for a, buffered, filtered) (go (leb (v .shape .lines) a))
+  line-answered a k f = rw (shaped, worked, proper, line-proper a, line-counted a, buffered, filtered) (go (leb (v .shape .lines) a))
     where
       go : (t : Bool) → Expected (answerOf k r (judged (cond t (Refused status.Address) (Passed v)) f) .status)
       go true = refusal-answered k r status.Address address
       go false = due-answered k r (f v)
+
+  abbrev roomFor : (a : ℕ) → View → List Row
+  roomFor a w = roomRows w (m .work) r (spotOf (m .work) (w .slots) a)
 
   abbrev crowded : ℕ → Bool
   crowded a = undoDue (m .work) (spotOf (m .work) (v .slots) a) (r .epoch) && ltb (v .shape .entries) (v .control .length + r .buffered + 1)
 
   store-answered : (a k : ℕ) (f : View → picl.Outcome) → Expected (answerOf k r (judged (storeChecked (m .board) (m .work) r a) f) .status)
   unfolding storeChecked lineChecked runningChecked memoriesChecked
-  store-answered a k f = rw (shaped, worked, proper, home a, counted-for a, buffered, filtered) (go (leb (v .shape .lines) a) (crowded a) refl)
+  store-answered a k f = rw (shaped, worked, proper, line-proper a, line-counted a, buffered, filtered) (go (leb (v .shape .lines) a) (crowded a) refl)
     where
       go : (t c : Bool) → crowded a ≡ c
-          → Expected (answerOf k r (judged (then (cond t (Refused status.Address) (Passed v)) (λ w. roomRows w (m .work) r a)) f) .status)
+          → Expected (answerOf k r (judged (then (cond t (Refused status.Address) (Passed v)) (roomFor a)) f) .status)
       go true c e = refusal-answered k r status.Address address
       go false true e = rw e (refusal-answered k r status.Room room)
       go false false e = rw e (due-answered k r (f v))
@@ -193,23 +212,11 @@ module _ {N L : ℕ} {m : Machine} {g : Reference} (up : Up N L m g) where
       go false true = refusal-answered k r status.Last last
       go false false = due-answered k r (f v)
 
-  cursor-proper : ltb (r .cursor) (v .slots) && not (properAt (boundsOf v r) (m .work) (r .cursor)) ≡ false
-  cursor-proper = go (ltb (r .cursor) (v .slots)) refl
-    where
-      go : (t : Bool) → ltb (r .cursor) (v .slots) ≡ t → t && not (properAt (boundsOf v r) (m .work) (r .cursor)) ≡ false
-      go true e = rw (slots (r .cursor) (ltb-true _ _ e))
-      go false e = refl
-
-  cursor-counted : ltb (r .cursor) (v .slots) && miscounted v r (dirtyAt (m .work) (r .cursor)) ≡ false
-  cursor-counted = go (ltb (r .cursor) (v .slots)) refl
-    where
-      go : (t : Bool) → ltb (r .cursor) (v .slots) ≡ t → t && miscounted v r (dirtyAt (m .work) (r .cursor)) ≡ false
-      go true e = counted-at (r .cursor) (ltb-true _ _ e)
-      go false e = refl
-
   scan-answered : (k : ℕ) (f : View → picl.Outcome) → Expected (answerOf k r (judged (scanChecked (m .board) (m .work) r) f) .status)
   unfolding scanChecked runningChecked memoriesChecked
-  scan-answered k f = rw (shaped, worked, proper, cursor-proper, cursor-counted, buffered, filtered) (go (eqb (r .epoch) (v .control .persisted + 1)))
+  scan-answered k f =
+      rw (shaped, worked, proper, visited-proper atCursor within-cursor, visited-counted atCursor within-cursor, buffered, filtered)
+      (go (eqb (r .epoch) (v .control .persisted + 1)))
     where
       go : (t : Bool) → Expected (answerOf k r (judged (cond t (Refused status.None) (Passed v)) f) .status)
       go true = refusal-answered k r status.None none
@@ -219,10 +226,10 @@ module _ {N L : ℕ} {m : Machine} {g : Reference} (up : Up N L m g) where
   store-full : (a k : ℕ) (f : View → picl.Outcome) → answerOf k r (judged (storeChecked (m .board) (m .work) r a) f) .status ≡ status.Room
       → v .control .length + r .buffered ≡ L
   unfolding storeChecked lineChecked runningChecked memoriesChecked
-  store-full a k f = rw (shaped, worked, proper, home a, counted-for a, buffered, filtered) (go (leb (v .shape .lines) a) (crowded a) refl)
+  store-full a k f = rw (shaped, worked, proper, line-proper a, line-counted a, buffered, filtered) (go (leb (v .shape .lines) a) (crowded a) refl)
     where
       go : (t c : Bool) → crowded a ≡ c
-          → answerOf k r (judged (then (cond t (Refused status.Address) (Passed v)) (λ w. roomRows w (m .work) r a)) f) .status ≡ status.Room
+          → answerOf k r (judged (then (cond t (Refused status.Address) (Passed v)) (roomFor a)) f) .status ≡ status.Room
           → v .control .length + r .buffered ≡ L
       go t true e =
           let due = undoDue (m .work) (spotOf (m .work) (v .slots) a) (r .epoch) in

@@ -11,6 +11,7 @@ use Rattle.layout.specs.Memory.{bufferIn}
 use Rattle.undo.specs.Filter.{bitsSet}
 use Rattle.board.specs.Verdict.{refused, due}
 use Rattle.status.specs.declared.Status.the-variants as status
+use Rattle.slots.specs.Sets.{spotOf}
 use Rattle.checks.specs.declared.Checked.{Checked}
 use Rattle.checks.specs.declared.Checked.the-variants.{Refused, Passed}
 use Rattle.checks.specs.declared.Registers.{Registers}
@@ -47,7 +48,7 @@ module _ (board work : List ℕ) (r : Registers) where
 
   store-refuses : (a : ℕ) → Refuses (storeChecked board work r a)
   unfolding storeChecked
-  store-refuses a = then-refuses (lineChecked board work r a) (λ v. roomRows v work r a) (line-refuses a) (λ v. refl)
+  store-refuses a = then-refuses (lineChecked board work r a) (λ v. roomRows v work r (spotOf work (v .slots) a)) (line-refuses a) (λ v. refl)
 
   commit-refuses : Refuses (commitChecked board work r)
   unfolding commitChecked

@@ -21,21 +21,22 @@ use Rattle.undo.specs.Log.{placeOf, entryIn, oldIn, olderTill, properAt, firstI
 use Rattle.undo.specs.Filter.{firstBit, secondBit, isSet, withBit, marking, marks, hits}
 use Rattle.undo.specs.Log.{bufferedMarked, bufferMarked, pushed, entryStores, flushed, flushStores, flushedBuffer, expired, dropped, advanceStores}
 use Rattle.undo.specs.Log.{restoreStores, restoreTurn, recoverStores}
+use Rattle.slots.specs.Sets as sets
 use Rattle.slots.specs.Slots as slots
 use Rattle.steps.specs.Effects as steps
-use Rattle.checks.specs.View.{viewOf, goodSizes, goodControl, goodShape, goodWork, properEpoch, properCounts, properRegisters, miscounted, goodBuffer, goodFilter}
+use Rattle.checks.specs.View.{viewOf, goodSizes, goodControl, goodShape, goodSlots, goodWork, properEpoch, properCounts, properRegisters, miscounted, goodBuffer, goodFilter}
 use Rattle.checks.specs.Refusals.{memoriesChecked, runningChecked, lineChecked, storeChecked, commitChecked, scanChecked}
 use Rattle.picl.specs.Answers.{answerOf}
 use Rattle.picl.specs.Calls as calls
 use Rattle.reference.specs.Machine.{upTo}
 use Rattle.crash.specs.Statement.{Step, call, powerUp, made, Both, after, run, persistedOn, lineOn, logOn, start, Stretch, scans}
 
--- "n 4 8 2", with allowances as large as a call can need
+-- "n 4 8 4", with allowances as large as a call can need
 abbrev entries : ℕ
 entries = 8
 
 abbrev blank : List ℕ
-blank = replicate (workWords 2) 0
+blank = replicate (workWords 4) 0
 
 abbrev many : ℕ
 many = 66
@@ -50,14 +51,7 @@ worked =
     ∷ []
 
 abbrev pub pass : List Step
-pass = call calls.scan many ∷ call calls.scan many ∷ call calls.scan many ∷ []
-
--- line 0 leaves the cache; line 1 is stored to, and its eviction is cut behind the first of four stores
-abbrev pub changed : List Step
-changed = call (calls.evict 0) many ∷ call (calls.store 1 5) many ∷ []
-
-abbrev pub cutStep : Step
-cutStep = call (calls.evict 1) 1
+pass = replicate 5 (call calls.scan many)
 
 abbrev pub begun : Both
 begun = run (start entries (formatted 4 entries)) worked
@@ -65,8 +59,15 @@ begun = run (start entries (formatted 4 entries)) worked
 abbrev pub scanned : Both
 scanned = run begun pass
 
+-- line 1 is stored to beside line 0, which then leaves the cache; the eviction of line 1 is cut behind the first of four stores
+abbrev pub beside : Both
+beside = after scanned (call (calls.store 1 5) many)
+
 abbrev pub stored : Both
-stored = run scanned changed
+stored = after beside (call (calls.evict 0) many)
+
+abbrev pub cutStep : Step
+cutStep = call (calls.evict 1) 1
 
 abbrev pub cut : Both
 cut = after stored cutStep
@@ -103,6 +104,8 @@ pub record Met : Type 0 where
   pub one-dirty : (stored .machine .registers .epoch ≡ 3) × (stored .machine .registers .dirty ≡ 1)
   pub tallied : (made (stored .machine) (call calls.tally 0) .status ≡ status.Ok) × (made (stored .machine) (call calls.tally 0) .value ≡ 1)
   pub cut-short : made (stored .machine) cutStep .status ≡ status.Cut
+  -- request 6/13: two lines of one set are held side by side
+  pub shared : (slots.holds (beside .machine .work) 0 0 ≡ true) × (slots.holds (beside .machine .work) 1 1 ≡ true)
 
 differ : _≡_ {A = ℕ} 0 1 → ⊥
 differ e = omega arith
@@ -112,18 +115,18 @@ unfolding update firstFrom applied each shifted boardAfter workAfter width pack 
     encode decode
     covers properEntry properBuffered placeOf entryIn oldIn olderTill properAt firstImproper bufferedIn bufferedProper bufferProper
     firstBit secondBit isSet withBit marking marks hits bufferedMarked bufferMarked pushed entryStores flushed flushStores flushedBuffer expired dropped advanceStores restoreStores restoreTurn recoverStores
-    slots.homeOf slots.properTag slots.properFull slots.properSlot slots.properAt slots.properFor slots.dirtyFor slots.holds slots.spotOf slots.zeroed
-    slots.filled slots.dirtied slots.cleaned slots.entryDue slots.undoDue
+    slots.setOf slots.properTag slots.properFull slots.properSlot slots.properAt slots.holds sets.placesOf sets.properSet sets.takenOf sets.spotOf
+    slots.zeroed slots.filled slots.dirtied slots.cleaned slots.entryDue slots.undoDue
     steps.flushingIf steps.writingOut steps.writingBack steps.emptying steps.lineIn steps.bringing steps.entryFor steps.logged
     steps.storingHeld steps.loading steps.storing steps.evicting steps.cleaning steps.visiting steps.persisting
-    viewOf goodSizes goodControl goodShape goodWork properEpoch properCounts properRegisters miscounted goodBuffer goodFilter
+    viewOf goodSizes goodControl goodShape goodSlots goodWork properEpoch properCounts properRegisters miscounted goodBuffer goodFilter
     memoriesChecked runningChecked lineChecked storeChecked commitChecked scanChecked answerOf
     calls.storeAt calls.storeOutcome calls.storeVerdict calls.evictAt calls.evictOutcome calls.evictVerdict calls.commitOutcome
     calls.commitVerdict calls.scanOutcome calls.scanVerdict calls.tallyVerdict calls.wakeAt calls.wakeVerdict calls.powerUpVerdict
     upTo made run scans
 met =
     record {
-      stretch = (λ e. differ cc, (λ e. differ cc, (λ e. differ cc, tt)));
+      stretch = (λ e. differ cc, (λ e. differ cc, (λ e. differ cc, (λ e. differ cc, (λ e. differ cc, tt)))));
       all-accepted = refl;
       persisted = (refl, refl);
       off = refl;
@@ -141,4 +144,5 @@ met =
       one-dirty = (refl, refl);
       tallied = (refl, refl);
       cut-short = refl;
+      shared = (refl, refl);
     }

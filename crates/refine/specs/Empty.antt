@@ -13,16 +13,16 @@ use Rattle.undo.specs.Log as undo
 use Rattle.undo.specs.Filter.{hits}
 use Rattle.slots.specs.declared.Bounds.{Bounds}
 use Rattle.steps.specs.Effects.{nothing, flushingIf, writingOut, writingBack, emptying}
-use Rattle.slots.specs.Slots.{holds, cleanSlot, dirtySlot}
+use Rattle.slots.specs.Slots.{cleanSlot, dirtySlot}
 use Rattle.history.specs.Machine.{Line, absent, clean, dirty, Volatile, written}
 use Rattle.base.specs.Cases.{update}
 use Rattle.reference.specs.Machine.{Reference}
 use Rattle.history.specs.Invariant.{Live}
 use Rattle.history.specs.Keeps.{discard-live}
 use Rattle.base.specs.Cases.{here-or-there, update-same, update-other}
-use Rattle.volatile.specs.Cache.{cacheOf, cache-clean}
-use Rattle.volatile.specs.Proper.{AtHome, is-clean, is-dirty, ProperSlot, is-empty, is-full, full-holds}
-use Rattle.volatile.specs.Slotted.{slot-kind}
+use Rattle.volatile.specs.Cache.{cacheOf}
+use Rattle.volatile.specs.Proper.{AtHome, is-clean, is-dirty, ProperSlot, is-empty, is-full, clean-holds, dirty-holds}
+use Rattle.volatile.specs.Slotted.{slot-kind, clean-cached}
 use Rattle.volatile.specs.Stores.{Stored, zeroed-empty, zeroed-held}
 use Rattle.layout.specs.ZeroWord.{emptySlot}
 use Rattle.volatile.specs.View.{volatileOf, withLines}
@@ -65,18 +65,16 @@ module _ {L : ℕ} {b : Bounds} {c : ℕ} {board work : List ℕ} {u : LogState}
     clean-keeps : slotIn work k ≡ cleanSlot a → Keeps L b c board g (emptying u work k) c g
     unfolding emptying writingBack
     clean-keeps e =
-        let h : holds work k a ≡ true = full-holds b work k a (is-clean e) in
         rw e
-        (quiet (zeroed-held (o .slotted) k below a h) refl
-        (discard-live (o .live) a (cache-clean work (b .slots) a k (home .home) e)))
+        (quiet (zeroed-held (o .slotted) k below a (clean-holds work k a e)) refl
+        (discard-live (o .live) a (clean-cached (o .slotted) k a below e)))
 
     dirty-keeps : (tag : ℕ) → slotIn work k ≡ dirtySlot a tag → b .persisted < tag → tag ≤ b .epoch → Keeps L b c board g (emptying u work k) c g
     unfolding emptying writingBack writingOut
     dirty-keeps tag e lo hi =
         let t = hits (bufferIn work) (u .buffered) a in
         let x = first o k below a tag home e t refl in
-        let h : holds (flushingIf t u work .work) k a ≡ true =
-        full-holds b (flushingIf t u work .work) k a (is-dirty tag (flushed-slot o k below a tag home e t refl) lo hi) in
+        let h = dirty-holds (flushingIf t u work .work) k a tag (flushed-slot o k below a tag home e t refl) in
         let st = zeroed-held (x .after .slotted) k below a h in
         rw e
         (written-keeps o k below a tag home e t refl absent st c
@@ -100,12 +98,12 @@ module _ {L : ℕ} {b : Bounds} {c : ℕ} {board work : List ℕ} {u : LogState}
     where
       go : ProperSlot b k (slotIn work k) → slotIn (emptying u work k .work) k ≡ emptySlot
       go (is-empty e) = rw e (zeroed-empty (o .slotted) k below e .slot)
-      go (is-full a home (is-clean e)) = rw e (zeroed-held (o .slotted) k below a (full-holds b work k a (is-clean e)) .slot)
+      go (is-full a home (is-clean e)) = rw e (zeroed-held (o .slotted) k below a (clean-holds work k a e) .slot)
       go (is-full a home (is-dirty tag e lo hi)) =
           let t = hits (bufferIn work) (u .buffered) a in
           rw e
           (zeroed-held (first o k below a tag home e t refl .after .slotted) k below a
-          (full-holds b (flushingIf t u work .work) k a (is-dirty tag (flushed-slot o k below a tag home e t refl) lo hi)) .slot)
+          (dirty-holds (flushingIf t u work .work) k a tag (flushed-slot o k below a tag home e t refl)) .slot)
 
 -- emptying flushes, or leaves the log's numbers as they are
 pub record Fewer (u v : LogState) : Type 0 where

@@ -15,7 +15,6 @@ use Rattle.history.specs.Machine.{Volatile, flushed}
 use Rattle.reference.specs.Machine.{Reference}
 use Rattle.history.specs.Invariant.{Live}
 use Rattle.history.specs.Keeps.{flush-safe, flush-live}
-use Rattle.durable.specs.View as durable
 use Rattle.durable.specs.Flush.{flush-cut, flush-reads}
 use Rattle.volatile.specs.Filter.{flushed-exact}
 use Rattle.volatile.specs.Slotted.{with-slotted}

@@ -15,10 +15,11 @@ use Rattle.history.specs.Machine.{absent, Durable}
 use Rattle.reference.specs.Machine.{Reference}
 use Rattle.history.specs.Keeps.{fill-live}
 use Rattle.history.specs.Lines.{held-as}
-use Rattle.volatile.specs.Cache.{cacheOf, cache-at, cache-clean, cache-dirty}
+use Rattle.volatile.specs.Cache.{cacheOf, Alone, cache-at}
 use Rattle.volatile.specs.Held.{empty-held}
 use Rattle.volatile.specs.Proper.{AtHome, FullSlot, is-clean, is-dirty}
-use Rattle.volatile.specs.Slotted.{slot-full}
+use Rattle.volatile.specs.Slotted.{slot-full, clean-cached, dirty-cached}
+use Rattle.volatile.specs.Moves.{moved-empty, alone-moved}
 use Rattle.volatile.specs.Stores.{filled-empty}
 use Rattle.refine.specs.Pass.{pass-cleaned}
 use Rattle.refine.specs.State.{Ok}
@@ -27,14 +28,13 @@ use Rattle.refine.specs.WriteOut.{ok-with}
 use Rattle.refine.specs.Empty.{emptying-keeps, emptying-slot, Fewer, same-fewer, emptying-fewer}
 
 -- a held line's data is the reference machine's line
-pub full-reads : {L : ℕ} {b : Bounds} {c : ℕ} {board work : List ℕ} {u : LogState} {g : Reference} → Ok L b c board work u g → (k a : ℕ) → AtHome b k a
-    → FullSlot b a (slotIn work k) → dataIn work k ≡ g .lines a
-full-reads {b = b} {work = work} o k a home (is-clean e) = held-as (o .live) a (cache-clean work (b .slots) a k (home .home) e) .0
-full-reads {b = b} {work = work} o k a home (is-dirty tag e lo hi) =
-    held-as (o .live) a (cache-dirty work (b .slots) a k (home .home) tag e) .current
+pub full-reads : {L : ℕ} {b : Bounds} {c : ℕ} {board work : List ℕ} {u : LogState} {g : Reference} → Ok L b c board work u g → (k a : ℕ)
+    → k < b .slots → FullSlot b a (slotIn work k) → dataIn work k ≡ g .lines a
+full-reads o k a below (is-clean e) = held-as (o .live) a (clean-cached (o .slotted) k a below e) .0
+full-reads o k a below (is-dirty tag e lo hi) = held-as (o .live) a (dirty-cached (o .slotted) k a below tag e) .current
 
 module _ {L : ℕ} {b : Bounds} {c : ℕ} {board work : List ℕ} {u : LogState} {g : Reference} (o : Ok L b c board work u g) (k : ℕ)
-    (below : k < b .slots) (a : ℕ) (home : AtHome b k a) where
+    (below : k < b .slots) (a : ℕ) (home : AtHome b k a) (alone : Alone work (b .slots) k a) where
   pub emptied : Keeps L b c board g (emptying u work k) c g
   emptied = emptying-keeps o k below
 
@@ -46,16 +46,19 @@ module _ {L : ℕ} {b : Bounds} {c : ℕ} {board work : List ℕ} {u : LogState}
   line-same =
       ap (λ (n : ℕ). getD board′ (linesAt n + a) 0) (o .ring) ∙ ap (λ (d : Durable). d .memory a) (emptied .after .reads .durable)
 
+  still-alone : Alone (emptying u work k .work) (b .slots) k a
+  still-alone = alone-moved (b .slots) k (moved-empty (b .slots) k work (o .slotted .words) u) a alone
+
   absent-now : cacheOf (emptying u work k .work) (b .slots) a ≡ absent
   absent-now =
-      cache-at (emptying u work k .work) (b .slots) a k (home .home)
+      cache-at (emptying u work k .work) (b .slots) k a below still-alone
       ∙ rw (emptying-slot o k below) (empty-held (dataIn (emptying u work k .work) k) a)
 
   pub bringing-keeps : Keeps L b c board g (bringing board u work k a) c g
   unfolding bringing
   bringing-keeps =
       let line = lineIn board′ u a in
-      let st = filled-empty (emptied .after .slotted) k below (emptying-slot o k below) a line home in
+      let st = filled-empty (emptied .after .slotted) k below (emptying-slot o k below) a line home still-alone in
       record {
         along = emptied .along;
         after =
@@ -68,7 +71,7 @@ module _ {L : ℕ} {b : Bounds} {c : ℕ} {board work : List ℕ} {u : LogState}
   unfolding bringing
   bringing-full =
       is-clean
-      (filled-empty (emptied .after .slotted) k below (emptying-slot o k below) a (lineIn board′ u a) home .slot)
+      (filled-empty (emptied .after .slotted) k below (emptying-slot o k below) a (lineIn board′ u a) home still-alone .slot)
 
   -- whether it was held before or not
   module _ (held : Bool) (is : held ≡ holds work k a) where

@@ -14,7 +14,7 @@ use Rattle.undo.specs.Filter.{hits}
 use Rattle.undo.specs.Log.{advanceStores, dropped}
 use Rattle.slots.specs.declared.Bounds.{Bounds}
 use Rattle.steps.specs.Effects.{nothing, flushingIf, writingOut, cleaning, visiting, persisting}
-use Rattle.slots.specs.Slots.{holds, dirtySlot}
+use Rattle.slots.specs.Slots.{dirtySlot}
 use Rattle.history.specs.Machine.{clean, advanced}
 use Rattle.reference.specs.Machine.{Reference, persists}
 use Rattle.history.specs.Keeps.{advance-safe, advance-live}
@@ -22,7 +22,7 @@ use Rattle.durable.specs.Advance.{advance-reads}
 use Rattle.layout.specs.declared.Slot.{Slot}
 use Rattle.base.specs.Tests.{and-left}
 use Rattle.volatile.specs.Buffer.{buffer-none}
-use Rattle.volatile.specs.Proper.{AtHome, is-clean, is-dirty, ProperSlot, is-empty, is-full, full-holds, withEpochs}
+use Rattle.volatile.specs.Proper.{AtHome, is-clean, is-dirty, ProperSlot, is-empty, is-full, dirty-holds, withEpochs}
 use Rattle.volatile.specs.Slotted.{slot-kind}
 use Rattle.volatile.specs.Stores.{cleaned-held}
 use Rattle.volatile.specs.Swept.{SweptTo, swept-scanned, advance-slotted}
@@ -66,7 +66,7 @@ module _ {L : ℕ} {b : Bounds} {c : ℕ} {board work : List ℕ} {u : LogState}
         let t = hits (bufferIn work) (u .buffered) a in
         let f = flushingIf t u work in
         let x = first o c below a tag home e t refl in
-        let h : holds (f .work) c a ≡ true = full-holds b (f .work) c a (is-dirty tag (flushed-slot o c below a tag home e t refl) lo hi) in
+        let h = dirty-holds (f .work) c a tag (flushed-slot o c below a tag home e t refl) in
         let st = cleaned-held (x .after .slotted) c below a h in
         rw e
         (written-keeps o c below a tag home e t refl (clean (dataIn (f .work) c)) st (c + 1)
@@ -117,7 +117,7 @@ module _ {L : ℕ} {b : Bounds} {c : ℕ} {board work : List ℕ} {u : LogState}
   persisting-ok all =
       let p = flush .after in
       let swept = subst (λ (n : ℕ). SweptTo (flushingIf true u work .work) n (target b)) all (p .pass .swept) in
-      let scanned = swept-scanned (p .slotted) (target b) (b .epoch) 0 swept in
+      let scanned = swept-scanned (flushingIf true u work .work) (b .slots) (target b) (b .epoch) 0 swept in
       let after : p .durable .persisted < target b = omega (arith, p .persisted) in
       let empty = buffer-none (bufferIn (flushingIf true u work .work)) in
       rw applied-append

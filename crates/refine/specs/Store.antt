@@ -22,9 +22,9 @@ use Rattle.reference.specs.Machine.{Reference, stores}
 use Rattle.history.specs.Invariant.{Live}
 use Rattle.history.specs.Keeps.{store-safe, store-clean-live, store-committed-live, store-transient-live}
 use Rattle.durable.specs.Reads.{reads-persisted}
-use Rattle.volatile.specs.Cache.{cache-clean, cache-dirty}
 use Rattle.volatile.specs.Filter.{logged-exact}
-use Rattle.volatile.specs.Proper.{AtHome, FullSlot, is-clean, is-dirty, full-holds}
+use Rattle.volatile.specs.Proper.{AtHome, FullSlot, is-clean, is-dirty, clean-holds, dirty-holds}
+use Rattle.volatile.specs.Slotted.{clean-cached, dirty-cached}
 use Rattle.volatile.specs.Stores.{dirtied-held}
 use Rattle.volatile.specs.View.{volatileOf, undoFields, marked-stored, view-marked}
 use Rattle.refine.specs.Pass.{pass-logged, pass-dirtied}
@@ -88,20 +88,19 @@ module _ {L : ℕ} {b : Bounds} {c : ℕ} {board work : List ℕ} {u : LogState}
     clean-keeps : slotIn work k ≡ cleanSlot a → Keeps L b c board g (storingHeld u work k a (b .epoch) value) c (stores g a value)
     unfolding storingHeld entryDue entryFor
     clean-keeps e =
-        let full : FullSlot b a (slotIn work k) = is-clean e in
         let due : u .control .length + u .buffered + 1 ≤ L = room (rw e) in
         rw e
-        (logged-keeps (full-holds b work k a full) (u .control .persisted) (omega (arith, named, ahead)) place due
+        (logged-keeps (clean-holds work k a e) (u .control .persisted) (omega (arith, named, ahead)) place due
         (subst (λ (p : ℕ). Live (b .lines) mostAhead (o .durable) (marked w a p (dataIn work k) value) (stores g a value))
         (sym (reads-persisted (o .reads)))
-        (store-clean-live (o .live) a value (cache-clean work (b .slots) a k (home .home) e) (home .inside))))
+        (store-clean-live (o .live) a value (clean-cached (o .slotted) k a below e) (home .inside))))
 
     module _ (tag : ℕ) (e : slotIn work k ≡ dirtySlot a tag) (lo : b .persisted < tag) (hi : tag ≤ b .epoch) where
-      abbrev full : FullSlot b a (slotIn work k)
-      full = is-dirty tag e lo hi
+      held : holds work k a ≡ true
+      held = dirty-holds work k a tag e
 
       cached : w .cache a ≡ dirty tag (dataIn work k)
-      cached = cache-dirty work (b .slots) a k (home .home) tag e
+      cached = dirty-cached (o .slotted) k a below tag e
 
       committed-keeps : tag < b .epoch → Keeps L b c board g (storingHeld u work k a (b .epoch) value) c (stores g a value)
       unfolding storingHeld entryDue entryFor
@@ -109,12 +108,12 @@ module _ {L : ℕ} {b : Bounds} {c : ℕ} {board work : List ℕ} {u : LogState}
           let other : eqb tag (b .epoch) ≡ false = ne-eqb tag (b .epoch) (omega arith) in
           let due : u .control .length + u .buffered + 1 ≤ L = room (rw (e, other)) in
           rw (e, other)
-          (logged-keeps (full-holds b work k a full) tag early place due (store-committed-live (o .live) a value cached early (home .inside)))
+          (logged-keeps held tag early place due (store-committed-live (o .live) a value cached early (home .inside)))
 
       transient-keeps : tag ≡ b .epoch → Keeps L b c board g (storingHeld u work k a (b .epoch) value) c (stores g a value)
       unfolding storingHeld entryDue applied
       transient-keeps now =
-          let st = dirtied-held (o .slotted) k below a (full-holds b work k a full) (b .epoch) value ahead (omega arith) fits in
+          let st = dirtied-held (o .slotted) k below a held (b .epoch) value ahead (omega arith) fits in
           let again : w .cache a ≡ dirty (b .epoch) (dataIn work k) = cached ∙ ap (λ (t : ℕ). dirty t (dataIn work k)) now in
           rw (e, eq-eqb tag (b .epoch) now)
           record {

@@ -1,9 +1,9 @@
 -- Power-up keeps a board recoverable at every cut and wakes a controller; a commit keeps the invariant.
-use Prim.Native.Nat.{ℕ, _+_, _≤_, _<_}
+use Prim.Native.Nat.{ℕ, _+_, _<_}
 use mathlib.Core.Path.{_≡_, refl}
 use mathlib.Core.List.{List}
 use native.Mathlib.Omega.{arith}
-use Rattle.layout.specs.Limits.{lastEpoch, mostSlots, mostAhead}
+use Rattle.layout.specs.Limits.{lastEpoch, mostAhead}
 use Rattle.board.specs.Stores.{applied}
 use Rattle.undo.specs.declared.LogState.{LogState}
 use Rattle.undo.specs.Log as undo
@@ -20,7 +20,7 @@ use Rattle.durable.specs.Recover.{recover-cut, recover-reads}
 use Rattle.durable.specs.View.{Reads, undoWith}
 use Rattle.volatile.specs.Filter.{exact-awake}
 use Rattle.volatile.specs.Proper.{withEpochs}
-use Rattle.volatile.specs.Slotted.{zeroWork, zero-slotted}
+use Rattle.volatile.specs.Slotted.{WholeSets, zeroWork, zero-slotted}
 use Rattle.volatile.specs.Swept.{commit-slotted}
 use Rattle.volatile.specs.View.{view-awake, view-commit}
 use Rattle.refine.specs.Pass.{pass-none, pass-commit}
@@ -51,15 +51,15 @@ module _ {N L : ℕ} {board : List ℕ} {g : Reference} (off : Off N L board g) 
   abbrev pub wakeBounds : (slots : ℕ) → Bounds
   wakeBounds slots = record { lines = N; slots = slots; persisted = off .control .persisted; epoch = off .control .persisted + 1 }
 
-  pub waking-ok : (slots : ℕ) → 1 ≤ slots → slots ≤ mostSlots
+  pub waking-ok : (slots : ℕ) → WholeSets slots
       → Ok L (wakeBounds slots) 0 (applied board (recoverStores board u)) (zeroWork slots) (undoWith (undo.emptied (off .control)) L) (wakes g)
-  waking-ok slots some most =
+  waking-ok slots sets =
       let p : off .control .persisted ≡ off .durable .persisted = reads-persisted (off .reads) in
       record {
         durable = cleared (restoredAll (off .durable));
         reads = waking-reads;
         ring = refl;
-        slotted = zero-slotted (wakeBounds slots) some most;
+        slotted = zero-slotted (wakeBounds slots) sets;
         persisted = p;
         last = omega (arith, reads-bounded (off .reads));
         room = omega arith;
@@ -68,7 +68,7 @@ module _ {N L : ℕ} {board : List ℕ} {g : Reference} (off : Off N L board g) 
         pass = pass-none (wakeBounds slots) (zeroWork slots);
         safe = power-up-safe (off .safe);
         live =
-            rw (p, view-awake (off .durable) slots some) (power-up-live (off .safe) (omega arith));
+            rw (p, view-awake (off .durable) slots) (power-up-live (off .safe) (omega arith));
       }
 
 -- ---- commit

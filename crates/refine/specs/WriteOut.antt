@@ -23,9 +23,8 @@ use Rattle.durable.specs.Seen.{line-reads}
 use Rattle.durable.specs.Listed.{listed}
 use Rattle.durable.specs.View.{bufferOf}
 use Rattle.volatile.specs.Filter.{Exact, missed-silent}
-use Rattle.volatile.specs.Cache.{cache-dirty}
 use Rattle.volatile.specs.Proper.{AtHome}
-use Rattle.volatile.specs.Slotted.{Slotted, with-slot, with-value}
+use Rattle.volatile.specs.Slotted.{Slotted, dirty-cached, with-slot, with-value}
 use Rattle.volatile.specs.Stores.{Stored, LineStored}
 use Rattle.volatile.specs.View.{volatileOf, withLines, view-stored, flushed-words}
 use Rattle.refine.specs.Pass.{Pass}
@@ -99,7 +98,7 @@ module _ {L : ℕ} {b : Bounds} {c : ℕ} {board work : List ℕ} {u : LogState}
 
   pub flushed-cache : w .cache a ≡ dirty tag value
   flushed-cache =
-      cache-dirty (flush .work) (b .slots) a k (home .home) tag flushed-slot ∙ ap (dirty tag) (flush-value (o .slotted) u k below t)
+      dirty-cached (first .after .slotted) k a below tag flushed-slot ∙ ap (dirty tag) (flush-value (o .slotted) u k below t)
 
   logged : Silent (w .buffer) (d .persisted) a
   logged = flush-silent u work (o .filter) a (d .persisted) t test

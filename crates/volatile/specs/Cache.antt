@@ -1,114 +1,127 @@
--- The cache by address, read from the slots. The laws above this file speak of `Belongs` and do not open where an address may stand.
-use Prim.Native.Nat.{ℕ, _+_, _*_, _<_, _≤_}
-use mathlib.Core.Path.{_≡_, refl, sym, fun-ext, _∙_}
+-- The cache by address, read from the slots: what any of them says of it. Where an address may stand is not asked here, and only Proper and
+-- Sets open it.
+use Prim.Native.Nat.{ℕ, zero, suc, _+_, _*_, _<_, _≤_}
+use mathlib.Core.Path.{_≡_, refl, sym, ap₂, fun-ext, _∙_}
 use mathlib.Core.Logic.{_≢_}
-use mathlib.Core.Bool.{Bool, true, false}
+use mathlib.Core.Bool.{false}
 use mathlib.Core.List.{List}
-use native.Mathlib.Nat.{mod-lt}
 use native.Mathlib.Omega.{arith}
-use borrow.Author.Tests.{eqb-true, eqb-false}
-use lib.Dec.{eqb}
 use lib.ListN.{length, getD}
 use Rattle.layout.specs.declared.Slot.{Slot}
 use Rattle.layout.specs.Memory.{bufferWords, slotIn, dataIn}
 use Rattle.layout.specs.Words.{SlotFits}
-use Rattle.slots.specs.Slots.{homeOf, holds, spotOf, cleanSlot, dirtySlot}
+use Rattle.slots.specs.Slots.{holds}
 use Rattle.history.specs.Machine.{Line, absent, clean, dirty}
 use Rattle.base.specs.Cases.{here-or-there, update, update-same, update-other}
 use Rattle.layout.specs.ZeroWord.{emptySlot}
 use Rattle.volatile.specs.Parts.{slotPut, put-slot, put-value, put-other-word, put-other-value}
-use Rattle.volatile.specs.Held.{heldBy, heldIn, empty-held, clean-held, dirty-held}
+use Rattle.volatile.specs.Held.{heldBy, heldIn, NamesOnly, other-held}
 
--- "Address a belongs in slot a mod S."
-abbrev pub Belongs : (slots address k : ℕ) → Type 0
-Belongs slots address k = homeOf slots address ≡ k
+-- what is said first, if anything is
+abbrev orElse : Line → Line → Line
+orElse absent l = l
+orElse (clean d) l = clean d
+orElse (dirty t d) l = dirty t d
 
+-- what the first so many slots say of an address
 unfoldable pub cacheOf : List ℕ → (slots : ℕ) → ℕ → Line
-cacheOf work slots address = heldIn work (homeOf slots address) address
+cacheOf work zero address = absent
+cacheOf work (suc k) address = orElse (heldIn work k address) (cacheOf work k address)
+
+-- no slot but k holds an address
+abbrev pub Alone : List ℕ → (slots k address : ℕ) → Type 0
+Alone work slots k address = (j : ℕ) → j < slots → j ≢ k → holds work j address ≡ false
 
 -- ---- where an address is found
 
-belongs-below : (slots address k : ℕ) → 1 ≤ slots → Belongs slots address k → k < slots
-unfolding homeOf
-belongs-below slots address k some home = rw home at (mod-lt address some)
+says-nothing : (work : List ℕ) (k address : ℕ) → holds work k address ≡ false → heldIn work k address ≡ absent
+unfolding holds heldBy
+says-nothing work k address h = rw h
 
-pub cache-at : (work : List ℕ) (slots address k : ℕ) → Belongs slots address k → cacheOf work slots address ≡ heldIn work k address
+or-none : (l : Line) → orElse l absent ≡ l
+or-none absent = refl
+or-none (clean d) = refl
+or-none (dirty t d) = refl
+
+cache-none : (work : List ℕ) (slots address : ℕ) → ((k : ℕ) → k < slots → holds work k address ≡ false) → cacheOf work slots address ≡ absent
 unfolding cacheOf
-cache-at work slots address k home = rw home
+cache-none work zero address none = refl
+cache-none work (suc n) address none =
+    rw (says-nothing work n address (none n (omega arith))) (cache-none work n address (λ k below. none k (omega arith)))
 
-module _ (work : List ℕ) (slots address k : ℕ) (home : Belongs slots address k) where
-  pub cache-clean : slotIn work k ≡ cleanSlot address → cacheOf work slots address ≡ clean (dataIn work k)
-  cache-clean e = cache-at work slots address k home ∙ rw (e, clean-held address (dataIn work k))
+pub cache-at : (work : List ℕ) (slots k address : ℕ) → k < slots → Alone work slots k address → cacheOf work slots address ≡ heldIn work k address
+unfolding cacheOf
+cache-at work zero k address below alone = absurd (omega arith)
+cache-at work (suc n) k address below alone =
+    here-or-there n (λ k. k < suc n → Alone work (suc n) k address → cacheOf work (suc n) address ≡ heldIn work k address)
+    (λ _ alone. rw (cache-none work n address (λ j h. alone j (omega arith) (omega arith))) (or-none (heldIn work n address)))
+    (λ k away below alone.
+    rw (says-nothing work n address (alone n (omega arith) (λ e. away (sym e))))
+    (cache-at work n k address (omega arith) (λ j h. alone j (omega arith))))
+    k below alone
 
-  pub cache-dirty : (tag : ℕ) → slotIn work k ≡ dirtySlot address tag → cacheOf work slots address ≡ dirty tag (dataIn work k)
-  cache-dirty tag e = cache-at work slots address k home ∙ rw (e, dirty-held address tag (dataIn work k))
+-- a dirty line is so in a slot
+pub cache-found : (work : List ℕ) (slots address tag value : ℕ) → cacheOf work slots address ≡ dirty tag value
+    → (k : ℕ) × (k < slots) × (heldIn work k address ≡ dirty tag value)
+unfolding cacheOf
+cache-found work zero address tag value e = let z : _≡_ {A = ℕ} 0 1 = cc in absurd (omega arith)
+cache-found work (suc n) address tag value e = go (heldIn work n address) refl e (cache-found work n address tag value)
+  where
+    go : (l : Line) → heldIn work n address ≡ l → orElse l (cacheOf work n address) ≡ dirty tag value
+        → (cacheOf work n address ≡ dirty tag value → (k : ℕ) × (k < n) × (heldIn work k address ≡ dirty tag value))
+        → (k : ℕ) × (k < suc n) × (heldIn work k address ≡ dirty tag value)
+    go absent h e rest = let r = rest e in (r .0, omega (arith, r .1), r .2)
+    go (clean d) h e rest = (n, omega arith, h ∙ e)
+    go (dirty t d) h e rest = (n, omega arith, h ∙ e)
 
-module _ (work : List ℕ) (slots address : ℕ) where
-  pub spot-belongs : Belongs slots address (spotOf work slots address .slot)
-  unfolding spotOf
-  spot-belongs = refl
+-- ---- the cache is in what the slots say alone
 
-  pub spot-holds : spotOf work slots address .held ≡ holds work (spotOf work slots address .slot) address
-  unfolding spotOf
-  spot-holds = refl
+cache-agree : (work work′ : List ℕ) (slots address : ℕ) → ((k : ℕ) → k < slots → heldIn work′ k address ≡ heldIn work k address)
+    → cacheOf work′ slots address ≡ cacheOf work slots address
+unfolding cacheOf
+cache-agree work work′ zero address same = refl
+cache-agree work work′ (suc n) address same =
+    ap₂ orElse (same n (omega arith)) (cache-agree work work′ n address (λ k below. same k (omega arith)))
 
--- ---- the cache is in the slots' words alone
-
-pub cache-same : (work work′ : List ℕ) (slots : ℕ) → 1 ≤ slots → ((i : ℕ) → i < 2 * slots → getD work′ i 0 ≡ getD work i 0)
+pub cache-same : (work work′ : List ℕ) (slots : ℕ) → ((i : ℕ) → i < 2 * slots → getD work′ i 0 ≡ getD work i 0)
     → cacheOf work′ slots ≡ cacheOf work slots
-unfolding cacheOf
-cache-same work work′ slots some same = fun-ext (λ a.
-    let below = belongs-below slots a (homeOf slots a) some refl in
-    rw (same (2 * homeOf slots a) (omega arith), same (2 * homeOf slots a + 1) (omega arith)))
+cache-same work work′ slots same =
+    fun-ext (λ a. cache-agree work work′ slots a (λ k below. rw (same (2 * k) (omega arith), same (2 * k + 1) (omega arith))))
 
 -- no slot holds a line
-pub cache-empty : (work : List ℕ) (slots : ℕ) → 1 ≤ slots → ((k : ℕ) → k < slots → slotIn work k ≡ emptySlot)
-    → cacheOf work slots ≡ (λ a. absent)
-unfolding cacheOf
-cache-empty work slots some empty = fun-ext (λ a.
-    let k = homeOf slots a in
-    rw (empty k (belongs-below slots a k some refl)) (empty-held (dataIn work k) a))
+pub cache-empty : (work : List ℕ) (slots : ℕ) → ((k : ℕ) → k < slots → slotIn work k ≡ emptySlot) → cacheOf work slots ≡ (λ a. absent)
+unfolding holds
+cache-empty work slots empty = fun-ext (λ a. cache-none work slots a (λ k below. rw (empty k below)))
 
 -- ---- a store to slot k
 
 module _ (work : List ℕ) (slots k : ℕ) (s : Slot) (value : ℕ) (within : 2 * k + 2 + bufferWords ≤ length work) (fits : SlotFits s) where
-  abbrev now : ℕ → Line
-  now = cacheOf (slotPut work k s value) slots
+  abbrev work′ : List ℕ
+  work′ = slotPut work k s value
 
-  put-here : (a : ℕ) → Belongs slots a k → now a ≡ heldBy s value a
-  put-here a home =
-      cache-at (slotPut work k s value) slots a k home
-      ∙ rw (put-slot work k s value within fits, put-value work k s value within)
+  put-here : (a : ℕ) → heldIn work′ k a ≡ heldBy s value a
+  put-here a = rw (put-slot work k s value within fits, put-value work k s value within)
 
-  put-there : (a : ℕ) → (Belongs slots a k → ⊥) → now a ≡ cacheOf work slots a
-  unfolding cacheOf
-  put-there a away = rw (put-other-word work k s value (homeOf slots a) away, put-other-value work k s value (homeOf slots a) away)
+  -- what the slot says of one address is what it said
+  put-agrees : (a : ℕ) → heldBy s value a ≡ heldIn work k a → cacheOf work′ slots a ≡ cacheOf work slots a
+  put-agrees a same = cache-agree work work′ slots a (λ j below.
+      here-or-there k (λ j. heldIn work′ j a ≡ heldIn work j a) (put-here a ∙ same)
+      (λ j away. rw (put-other-word work k s value j away, put-other-value work k s value j away)) j)
 
-  -- The new cache is f, if f is what s says of the addresses that belong here, and as the old cache elsewhere.
-  put-is : (f : ℕ → Line) → ((a : ℕ) → Belongs slots a k → heldBy s value a ≡ f a)
-      → ((a : ℕ) → (Belongs slots a k → ⊥) → cacheOf work slots a ≡ f a) → now ≡ f
-  put-is f here there = fun-ext (λ a. go a (eqb (homeOf slots a) k) refl)
-    where
-      go : (a : ℕ) (t : Bool) → eqb (homeOf slots a) k ≡ t → now a ≡ f a
-      go a true e = let home = eqb-true (homeOf slots a) k e in put-here a home ∙ here a home
-      go a false e = let away = eqb-false (homeOf slots a) k e in put-there a away ∙ there a away
+  -- of every address
+  pub cache-put-same : ((a : ℕ) → heldBy s value a ≡ heldIn work k a) → cacheOf work′ slots ≡ cacheOf work slots
+  cache-put-same same = fun-ext (λ a. put-agrees a (same a))
 
-  -- the slot says what it said before
-  pub cache-put-same : ((a : ℕ) → heldBy s value a ≡ heldIn work k a) → cacheOf (slotPut work k s value) slots ≡ cacheOf work slots
-  cache-put-same same = put-is (cacheOf work slots) (λ a home. same a ∙ sym (cache-at work slots a k home)) (λ a away. refl)
-
-  -- neither the slot that was there nor s says anything of another address than one
-  pub cache-put : (address : ℕ) → Belongs slots address k → ((a : ℕ) → a ≢ address → heldIn work k a ≡ absent)
-      → ((a : ℕ) → a ≢ address → heldBy s value a ≡ absent)
-      → cacheOf (slotPut work k s value) slots ≡ update (cacheOf work slots) address (heldBy s value address)
-  cache-put address home old new = put-is (update (cacheOf work slots) address l)
-      (here-or-there address (λ a. Belongs slots a k → heldBy s value a ≡ update (cacheOf work slots) address l a)
-      (λ _. sym (update-same (cacheOf work slots) address l))
-      (λ a away here. new a away ∙ sym (other a away ∙ cache-at work slots a k here ∙ old a away)))
-      (λ a away. sym (other a (λ e. away (rw e home))))
-    where
-      l : Line
-      l = heldBy s value address
-
-      other : (a : ℕ) → a ≢ address → update (cacheOf work slots) address l a ≡ cacheOf work slots a
-      other = update-other (cacheOf work slots) address l
+  -- neither the slot that was there nor s names another address than one, which no other slot holds
+  pub cache-put : (address : ℕ) → k < slots → Alone work slots k address → NamesOnly (slotIn work k) address → NamesOnly s address
+      → cacheOf work′ slots ≡ update (cacheOf work slots) address (heldBy s value address)
+  unfolding holds
+  cache-put address below alone old new =
+      let l = heldBy s value address in
+      let alone′ : Alone work′ slots k address = λ j h away. rw (put-other-word work k s value j away) (alone j h away) in
+      fun-ext
+      (here-or-there address (λ a. cacheOf work′ slots a ≡ update (cacheOf work slots) address l a)
+      (cache-at work′ slots k address below alone′ ∙ put-here address ∙ sym (update-same (cacheOf work slots) address l))
+      (λ a away.
+      put-agrees a (other-held s value address new a away ∙ sym (other-held (slotIn work k) (dataIn work k) address old a away))
+      ∙ sym (update-other (cacheOf work slots) address l a away)))

@@ -1,16 +1,18 @@
 -- The number of dirty slots: how it changes where one slot does.
 use Prim.Native.Nat.{ℕ, zero, suc, _+_, _-_, _*_, _<_, _≤_}
-use mathlib.Core.Path.{_≡_, refl, sym, ap, _∙_}
+use mathlib.Core.Path.{_≡_, refl, sym}
 use mathlib.Core.Logic.{_≢_}
 use mathlib.Core.Bool.{Bool, true, false, _&&_}
 use mathlib.Core.List.{List}
 use native.Mathlib.Decide.{ℕ-discrete}
 use native.Mathlib.Omega.{arith}
 use lib.ListN.{replicate, getD-replicate}
+use Rattle.base.specs.Every.{Every}
+use Rattle.base.specs.Several.{allOf, anyOf, every-all, every-none}
 use Rattle.layout.specs.declared.Slot.{Slot}
 use Rattle.layout.specs.Memory.{slotIn, workWords}
-use Rattle.layout.specs.Words.{bit, decodeSlot}
-use Rattle.layout.specs.ZeroWord.{emptySlot, decode-zero}
+use Rattle.layout.specs.Words.{bit}
+use Rattle.layout.specs.ZeroWord.{decode-zero}
 use Rattle.slots.specs.declared.Bounds.{Bounds}
 use Rattle.slots.specs.Slots.{dirtyAt, dirtySlots}
 use Rattle.volatile.specs.Proper.{ProperSlot, is-empty, is-full, is-clean, is-dirty}
@@ -92,10 +94,10 @@ module _ {b : Bounds} {work : List ℕ} (slotted : Slotted b work) (k : ℕ) (be
   slot-counts : counts (slotIn work k) ≡ dirtyAt work k
   slot-counts = proper-counts (slot-kind slotted k below)
 
-  pub dirty-some : dirtyAt work k ≡ true → 0 < dirtySlots work (b .slots)
+  dirty-some : dirtyAt work k ≡ true → 0 < dirtySlots work (b .slots)
   dirty-some d = omega (arith, rw (slot-counts, d) at (one-counts work (b .slots) k below))
 
-  pub dirty-not-all : dirtyAt work k ≡ false → dirtySlots work (b .slots) < b .slots
+  dirty-not-all : dirtyAt work k ≡ false → dirtySlots work (b .slots) < b .slots
   dirty-not-all d = omega (arith, rw (slot-counts, d) at (one-short work (b .slots) k below))
 
   -- so the count is changed as the slot is
@@ -106,6 +108,22 @@ module _ {b : Bounds} {work : List ℕ} (slotted : Slotted b work) (k : ℕ) (be
       let is : counts (slotIn work′ k) ≡ dirtyAt work′ k = proper-counts (slot-kind slotted′ k (omega arith)) in
       omega
       (arith, rw (was, is) at (changed work work′ k (b .slots) below e), rw was at (one-counts work (b .slots) k below))
+
+-- a count of 0 says that none is dirty, one of S that all are
+module _ {b : Bounds} {work : List ℕ} (slotted : Slotted b work) (ks : List ℕ) (below : Every (λ k. k < b .slots) ks) where
+  pub none-dirty : dirtySlots work (b .slots) ≡ 0 → anyOf (dirtyAt work) ks ≡ false
+  none-dirty none = every-none (dirtyAt work) (λ k. k < b .slots) (λ k h. go k h (dirtyAt work k) refl) ks below
+    where
+      go : (k : ℕ) → k < b .slots → (d : Bool) → dirtyAt work k ≡ d → d ≡ false
+      go k h true e = absurd (omega (arith, dirty-some slotted k h e))
+      go k h false e = refl
+
+  pub all-dirty : dirtySlots work (b .slots) ≡ b .slots → allOf (dirtyAt work) ks ≡ true
+  all-dirty all = every-all (dirtyAt work) (λ k. k < b .slots) (λ k h. go k h (dirtyAt work k) refl) ks below
+    where
+      go : (k : ℕ) → k < b .slots → (d : Bool) → dirtyAt work k ≡ d → d ≡ true
+      go k h true e = refl
+      go k h false e = absurd (omega (arith, dirty-not-all slotted k h e))
 
 -- ---- "Then work memory all zero"
 

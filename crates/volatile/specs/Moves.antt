@@ -13,12 +13,12 @@ use Rattle.layout.specs.Memory.{bufferWords, workWords, bufferIn, slotIn, dataI
 use Rattle.undo.specs.declared.LogState.{LogState}
 use Rattle.undo.specs.Filter.{hits}
 use Rattle.undo.specs.Log.{counted, pushed, flushedBuffer}
-use Rattle.slots.specs.declared.Spot.{Spot}
-use Rattle.slots.specs.Slots.{zeroed, filled, dirtied, cleaned, entryDue}
+use Rattle.slots.specs.Slots.{holds, zeroed, filled, dirtied, cleaned, entryDue}
 use Rattle.steps.specs.Effects.{nothing, flushingIf, writingOut, writingBack, emptying, bringing, entryFor, logged, storingHeld}
 use Rattle.steps.specs.Effects.{loading, storing, evicting, cleaning, visiting, persisting}
 use Rattle.volatile.specs.Parts.{slotPut, zeroed-put, filled-put, dirtied-put, cleaned-put, put-length, put-other-word, with-length, with-word}
 use Rattle.volatile.specs.Buffer.{buffer-length, flushed-length, pushed-length}
+use Rattle.volatile.specs.Cache.{Alone}
 use Rattle.volatile.specs.Dirty.{Elsewhere}
 
 module _ (slots k : ℕ) where
@@ -28,6 +28,11 @@ module _ (slots k : ℕ) where
 
   moved-then : {work work′ work″ : List ℕ} → Moved work work′ → Moved work′ work″ → Moved work work″
   moved-then x y = record { words = y .words; others = λ j below away. y .others j below away ∙ x .others j below away }
+
+  -- an address that no other slot holds
+  pub alone-moved : {work work′ : List ℕ} → Moved work work′ → (address : ℕ) → Alone work slots k address → Alone work′ slots k address
+  unfolding holds
+  alone-moved x address alone j below away = rw (x .others j below away) (alone j below away)
 
   -- ---- a work memory of so many slots
 
@@ -88,7 +93,7 @@ module _ (slots k : ℕ) where
     moved-dirtied address epoch value = rw (dirtied-put work k address epoch value) (moved-put _ _)
 
   module _ (work : List ℕ) (words : length work ≡ workWords slots) (u : LogState) where
-    moved-empty : Moved work (emptying u work k .work)
+    pub moved-empty : Moved work (emptying u work k .work)
     unfolding emptying
     moved-empty = let x = moved-back work words u in moved-then x (moved-zeroed (writingBack u work k .work) (x .words))
 

@@ -1,5 +1,5 @@
 -- What a proper slot is: empty, or a line at home in it that is clean, or dirty since an epoch that waits.
-use Prim.Native.Nat.{ℕ, _*_, _^_, _<_, _≤_}
+use Prim.Native.Nat.{ℕ, _*_, _/_, _^_, _<_, _≤_}
 use mathlib.Core.Path.{_≡_, refl, sym, ap, _∙_}
 use mathlib.Core.Bool.{Bool, true, false, cond, _&&_, _||_, or-true, false≢true}
 use mathlib.Core.List.{List}
@@ -10,19 +10,18 @@ use lib.ListN.{getD}
 use Rattle.base.specs.Tests.{held}
 use Rattle.layout.specs.declared.Slot.{Slot}
 use Rattle.layout.specs.Laws.{slot-laws}
-use Rattle.layout.specs.Limits.{addressBits}
+use Rattle.layout.specs.Limits.{addressBits, ways}
 use Rattle.layout.specs.Memory.{slotIn}
 use Rattle.layout.specs.Words.{encodeSlot, decodeSlot, SlotFits}
 use Rattle.slots.specs.declared.Bounds.{Bounds}
-use Rattle.slots.specs.Slots.{properTag, properFull, properSlot, properAt, holds, cleanSlot, dirtySlot}
+use Rattle.slots.specs.Slots.{setOf, properTag, properFull, properSlot, properAt, holds, cleanSlot, dirtySlot}
 use Rattle.layout.specs.ZeroWord.{emptySlot, encode-empty, decode-zero}
-use Rattle.volatile.specs.Cache.{Belongs}
 
 -- The board has the line at an address, and it may stand in slot k.
 pub record AtHome (b : Bounds) (k address : ℕ) : Type 0 where
   pub inside : address < b .lines
   pub fits : address < 2 ^ addressBits
-  pub home : Belongs (b .slots) address k
+  pub home : setOf (b .slots) address ≡ k / ways
 
 -- A slot with the line at an address: "either clean with tag 0 or dirty with P < tag ≤ s".
 pub data FullSlot (b : Bounds) (address : ℕ) (s : Slot) : Type 0 where
@@ -70,9 +69,9 @@ proper-slot b work k = go (eqb (getD work (2 * k) 0) 0) refl
 module _ (b : Bounds) (k : ℕ) where
   full-proper : (address : ℕ) (s : Slot) → AtHome b k address → FullSlot b address s → properFull b k s ≡ true
   unfolding properFull properTag
-  full-proper a s here (is-clean e) = rw (e, lt-ltb a (b .lines) (here .inside), eq-eqb _ k (here .home))
+  full-proper a s here (is-clean e) = rw (e, lt-ltb a (b .lines) (here .inside), eq-eqb _ (k / ways) (here .home))
   full-proper a s here (is-dirty t e low high) =
-      rw (e, lt-ltb a (b .lines) (here .inside), eq-eqb _ k (here .home), lt-ltb (b .persisted) t low, le-leb t (b .epoch) high)
+      rw (e, lt-ltb a (b .lines) (here .inside), eq-eqb _ (k / ways) (here .home), lt-ltb (b .persisted) t low, le-leb t (b .epoch) high)
 
   pub slot-proper : (s : Slot) → SlotFits s → ProperSlot b k s → properSlot b k (encodeSlot s) ≡ true
   unfolding properSlot
@@ -115,11 +114,14 @@ full-address : {b : Bounds} {address : ℕ} {s : Slot} → FullSlot b address s 
 full-address (is-clean e) = rw e
 full-address (is-dirty t e low high) = rw e
 
-module _ (b : Bounds) (work : List ℕ) (k address : ℕ) where
-  pub full-holds : FullSlot b address (slotIn work k) → holds work k address ≡ true
+module _ (work : List ℕ) (k address : ℕ) where
+  pub clean-holds : slotIn work k ≡ cleanSlot address → holds work k address ≡ true
   unfolding holds
-  full-holds (is-clean e) = rw (e, eq-eqb address address refl)
-  full-holds (is-dirty t e low high) = rw (e, eq-eqb address address refl)
+  clean-holds e = rw (e, eq-eqb address address refl)
+
+  pub dirty-holds : (tag : ℕ) → slotIn work k ≡ dirtySlot address tag → holds work k address ≡ true
+  unfolding holds
+  dirty-holds tag e = rw (e, eq-eqb address address refl)
 
   pub empty-holds : slotIn work k ≡ emptySlot → holds work k address ≡ false
   unfolding holds
@@ -129,7 +131,7 @@ module _ (b : Bounds) (work : List ℕ) (k address : ℕ) where
   unfolding holds
   holds-address h = search held
 
-  module _ (h : holds work k address ≡ true) where
+  module _ (b : Bounds) (h : holds work k address ≡ true) where
     pub held-home : ProperSlot b k (slotIn work k) → AtHome b k address
     held-home (is-empty e) = absurd (false≢true (sym (empty-holds e) ∙ h))
     held-home (is-full a here f) = rw (sym (full-address f) ∙ holds-address h) at here

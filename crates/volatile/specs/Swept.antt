@@ -15,12 +15,10 @@ use Rattle.undo.specs.declared.LogState.{LogState}
 use Rattle.slots.specs.declared.Bounds.{Bounds}
 use Rattle.layout.specs.Memory.{withBuffer}
 use Rattle.steps.specs.Effects.{logged}
-use Rattle.slots.specs.Laws.{spot-below}
-use Rattle.slots.specs.Slots.{spotOf}
 use Rattle.history.specs.Machine.{Line, Scanned}
 use Rattle.base.specs.Cases.{here-or-there}
 use Rattle.volatile.specs.Held.{marked-dirty}
-use Rattle.volatile.specs.Cache.{cache-at, spot-belongs}
+use Rattle.volatile.specs.Cache.{cache-found}
 use Rattle.volatile.specs.Proper.{is-clean, is-dirty, ProperSlot, is-empty, is-full}
 use Rattle.volatile.specs.Proper.{DirtyAfter, withEpochs, proper-rebound}
 use Rattle.volatile.specs.Slotted.{Slotted, slot-kind, with-slot}
@@ -83,23 +81,22 @@ swept-passed {b} {work} slotted c target below near passed swept = swept-next wo
 
 -- ---- the end
 
-module _ {b : Bounds} {work : List ℕ} (slotted : Slotted b work) where
-  pub swept-scanned : (target epoch count : ℕ) → SweptTo work (b .slots) target
-      → Scanned (volatileOf work (b .slots) epoch count) target
-  swept-scanned target epoch count swept a t d e =
-      let k = spotOf work (b .slots) a .slot in
-      let found = sym (cache-at work (b .slots) a k (spot-belongs work (b .slots) a)) ∙ e in
-      let m = marked-dirty (slotIn work k) (dataIn work k) a t d found in
-      rw (m .1) at (swept k (spot-below work (b .slots) a (slotted .some)) (m .0))
+pub swept-scanned : (work : List ℕ) (slots target epoch count : ℕ) → SweptTo work slots target → Scanned (volatileOf work slots epoch count) target
+swept-scanned work slots target epoch count swept a t d e =
+    let found = cache-found work slots a t d e in
+    let k = found .0 in
+    let m = marked-dirty (slotIn work k) (dataIn work k) a t d (found .2) in
+    rw (m .1) at (swept k (found .1) (m .0))
 
+module _ {b : Bounds} {work : List ℕ} (slotted : Slotted b work) where
   slotted-rebound : (persisted epoch : ℕ) → b .epoch ≤ epoch → SweptTo work (b .slots) persisted
       → Slotted (withEpochs b persisted epoch) work
   slotted-rebound persisted epoch later swept =
       record {
         proper = λ k below. proper-rebound b persisted epoch later work k (swept k below) (slotted .proper k below);
+        once = slotted .once;
         words = slotted .words;
-        some = slotted .some;
-        most = slotted .most;
+        sets = slotted .sets;
       }
 
   -- "Commit: s becomes s + 1."

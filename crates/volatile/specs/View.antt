@@ -1,6 +1,6 @@
 -- The work memory and the registers as the abstract machine's volatile state, and what each step makes of it in that machine's
 -- terms.
-use Prim.Native.Nat.{ℕ, _+_, _^_, _<_, _≤_}
+use Prim.Native.Nat.{ℕ, _+_, _^_, _<_}
 use mathlib.Core.Path.{_≡_, ap, _∙_}
 use mathlib.Core.Bool.{true}
 use mathlib.Core.List.{List, [], _∷_, _++_}
@@ -45,9 +45,9 @@ undoFields s address from = record { address = address; from = from; till = s }
 
 -- ---- power-up and commit
 
-pub view-awake : (d : Durable) (slots : ℕ) → 1 ≤ slots → volatileOf (zeroWork slots) slots (d .persisted + 1) 0 ≡ awake d
+pub view-awake : (d : Durable) (slots : ℕ) → volatileOf (zeroWork slots) slots (d .persisted + 1) 0 ≡ awake d
 unfolding listed
-view-awake d slots some = λ i. record { running = add-one (d .persisted) i; buffer = []; cache = zero-cache slots some i }
+view-awake d slots = λ i. record { running = add-one (d .persisted) i; buffer = []; cache = zero-cache slots i }
 
 pub view-commit : (work : List ℕ) (slots epoch count : ℕ)
     → volatileOf work slots (epoch + 1) count ≡ nextEpoch (volatileOf work slots epoch count)
