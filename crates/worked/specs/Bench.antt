@@ -1,5 +1,5 @@
--- The bench of the worked examples: a board as the paper's replay formats it, "n 4 8 2", and one line in the cache. Every example
--- is about line 3, which belongs in slot 1; the board has 7 for it, and a store puts 9.
+-- The bench of the worked examples: a board as the paper's replay formats it, "n 4 8 4", and one line in the cache. Every example
+-- is about line 3, which slot 1 of the only set holds; the board has 7 for it, and a store puts 9.
 use Prim.Native.Nat.{ℕ, _-_, _*_}
 use mathlib.Core.Bool.{Bool, true, false}
 use mathlib.Core.List.{List, [], _∷_, _++_}
@@ -68,8 +68,8 @@ marked1 = set (filter 0 0x4000000000000000) 39 0x10000000
 abbrev pub marked13 : List ℕ
 marked13 = set (set (filter 0 0x5000000000000000) 39 0x10000000) 54 0x200000
 
--- the memories: a board with a control word, the log's first words and line 3; a work memory with slot 1, the undo places' first words and the
--- filter
+-- the memories: a board with a control word, the log's first words and line 3; a work memory with slot 1 and three empty ones, the undo places'
+-- first words and the filter
 abbrev pub padded : ℕ → List ℕ → List ℕ
 padded size words = words ++ replicate (size - length words) 0
 
@@ -77,7 +77,7 @@ abbrev pub board : Control → (log : List ℕ) → (line : ℕ) → List ℕ
 board c log line = encodeControl c ∷ encodeShape (shapeFor 4 8) ∷ padded (2 * 8) log ++ 0 ∷ 0 ∷ 0 ∷ line ∷ []
 
 abbrev pub work : Slot → (line : ℕ) → (places filter : List ℕ) → List ℕ
-work s line places filter = 0 ∷ 0 ∷ encodeSlot s ∷ line ∷ padded (2 * 32) places ++ filter
+work s line places filter = 0 ∷ 0 ∷ encodeSlot s ∷ line ∷ 0 ∷ 0 ∷ 0 ∷ 0 ∷ padded (2 * 32) places ++ filter
 
 -- a board with an empty log
 abbrev pub quiet : (persisted : ℕ) → List ℕ
@@ -87,7 +87,7 @@ quiet persisted = board (control persisted 0 0) [] 7
 abbrev pub wake : Control → (log : List ℕ) → Verdict
 wake c log = powerUpVerdict (board c log 7) (work clean 7 [] unmarked)
 
--- a store to line 3, as slot 1 holds it: slot 0 is empty, so that slot 1 alone counts as dirty or not
+-- a store to line 3, as slot 1 holds it: the others are empty, so that slot 1 alone counts as dirty or not
 abbrev pub store : (persisted epoch : ℕ) → Slot → Verdict
 store persisted epoch held = storeVerdict (quiet persisted) (work held 7 [] unmarked) (given epoch 0 0 (bit (held .dirty))) 3 9
 

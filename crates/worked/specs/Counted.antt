@@ -1,4 +1,4 @@
--- Request 5/13 on the bench of the worked examples: two slots, the first empty, the second with line 3; epoch 2 runs and 0 is persisted.
+-- Request 5/13 on the bench of the worked examples: four slots, the second with line 3, the others empty; epoch 2 runs and 0 is persisted.
 use Prim.Native.Nat.{ℕ}
 use mathlib.Core.List.{List, []}
 use Rattle.layout.specs.declared.Slot.{Slot}
@@ -35,4 +35,4 @@ before7 = evictVerdict (quiet 0) badEntry (given 2 1 0 0) 3
 
 -- no epoch waits, and the count is wrong: 4 comes before 11
 abbrev pub before11 : Verdict
-before11 = scanVerdict (quiet 1) (holding clean) (given 2 0 0 2)
+before11 = scanVerdict (quiet 1) (holding clean) (given 2 0 0 4)

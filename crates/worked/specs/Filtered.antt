@@ -35,7 +35,7 @@ wide length log line = encodeControl (control 0 0 length) ∷ encodeShape (shape
 
 -- line 0 in slot 0, stored to in the running epoch 2; line 233's entry is buffered
 abbrev pub shared : List ℕ
-shared = encodeSlot (slot true true 0 2) ∷ 9 ∷ 0 ∷ 0 ∷ padded (2 * 32) (undo 233 0 2 5) ++ set (filter 0 0x8000000000000000) 3 0x400000
+shared = encodeSlot (slot true true 0 2) ∷ 9 ∷ replicate 6 0 ++ padded (2 * 32) (undo 233 0 2 5) ++ set (filter 0 0x8000000000000000) 3 0x400000
 
 abbrev pub evictShared : Verdict
 evictShared = evictVerdict (wide 0 [] 7) shared (given 2 1 0 1) 0

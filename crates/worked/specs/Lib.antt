@@ -2,4 +2,6 @@ pub mod Bench
 pub mod Recorded
 pub mod Filtered
 pub mod Counted
+pub mod Sets
+pub mod FourWays
 pub mod Table

@@ -29,11 +29,14 @@ committing = recordOf 0x40 0
 abbrev pub scanning : List ℕ
 scanning = recordOf 0x60 0
 
--- `s 0 7`, `c`, `s 0 9`, `c`, `a`, `a`, `a`, `l 0`
+-- `a` four times, a visit of each slot
+abbrev pub visiting : List ℕ
+visiting = scanning ++ (scanning ++ (scanning ++ scanning))
+
+-- `s 0 7`, `c`, `s 0 9`, `c`, five `a`, `l 0`
 abbrev pub listing : List ℕ
-listing =
-    storing 7 ++ (committing ++ (storing 9 ++ (committing ++ (scanning ++ (scanning ++ (scanning ++ recordOf 0x00 0))))))
+listing = storing 7 ++ (committing ++ (storing 9 ++ (committing ++ (visiting ++ (scanning ++ recordOf 0x00 0)))))
 
 -- the same with a bad record before its last scan
 abbrev pub broken : List ℕ → List ℕ
-broken file = take 96 file ++ (recordOf 0xA0 0 ++ scanning)
+broken file = take 128 file ++ (recordOf 0xA0 0 ++ scanning)

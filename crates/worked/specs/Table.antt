@@ -17,13 +17,14 @@ use Rattle.undo.specs.Log.{expired, dropped, advanceStores}
 use Rattle.undo.specs.Filter.{firstBit, secondBit, isSet, withBit, marking, marks, hits, onesOf}
 use Rattle.undo.specs.Log.{bufferedMarked, bufferMarked, pushed, entryStores, flushed, flushStores, flushedBuffer, restoreStores, restoreTurn, recoverStores}
 use Rattle.slots.specs.Slots as slots
+use Rattle.slots.specs.Sets as sets
 use Rattle.layout.specs.Memory.{withBuffer, shapeFor, formatted}
 use Rattle.steps.specs.Effects.{flushingIf, writingOut, writingBack, emptying, entryFor, logged, storingHeld}
 use Rattle.slots.specs.Slots.{entryDue, undoDue}
 use Rattle.steps.specs.Effects as steps
 use Rattle.steps.specs.Effects.{bringing, cleaning, visiting, persisting}
 use Rattle.checks.specs.Registers.{zero, given}
-use Rattle.checks.specs.View.{viewOf, goodSizes, goodControl, goodShape, goodWork, properEpoch, properCounts, properRegisters, miscounted, goodBuffer, goodFilter}
+use Rattle.checks.specs.View.{viewOf, goodSizes, goodControl, goodShape, goodSlots, goodWork, properEpoch, properCounts, properRegisters, miscounted, goodBuffer, goodFilter}
 use Rattle.checks.specs.Refusals.{memoriesChecked, runningChecked, lineChecked, storeChecked, commitChecked, scanChecked}
 use Rattle.picl.specs.Answers.{cutOff, answerOf}
 use Rattle.board.specs.Verdict.{refused, boardAfter, workAfter}
@@ -44,6 +45,7 @@ use Rattle.worked.specs.Recorded.{zeros, wrote, bad, listing, broken}
 use Rattle.worked.specs.Bench.{control, entry, slot, clean, dirty, undo, twice, board, work, quiet, unmarked, filter, marked1, marked3, marked13}
 use Rattle.worked.specs.Bench.{ending, endingLast, wake, store, evict, commit, scan, still, ok, improper}
 use Rattle.worked.specs.Filtered.{buffer, full, store14, commit14, scan14, wide, evictShared}
+use Rattle.worked.specs.FourWays.{FourWays, four-ways}
 use Rattle.worked.specs.Counted.{holding, loading, storing, evicting, scanning, committing, badEntry, before7, before11}
 
 pub record Worked : Type 0 where
@@ -113,9 +115,9 @@ pub record Worked : Type 0 where
   pub false-hit-board : boardAfter 4 (quiet 0) (evict (undo 1 0 2 7) marked13) ≡ board (control 0 0 1) (undo 1 0 2 7) 9
   pub false-hit-shared : boardAfter 4 (wide 0 [] 7) evictShared ≡ wide 1 (undo 233 0 2 5) 9
   -- "The filter is cleared at each flush with b > 0."
-  pub flush-clears : workAfter 4 (work (dirty 2) 9 (undo 3 0 2 7) marked3) (evict (undo 3 0 2 7) marked3) ≡ replicate (2 * 2 + 128) 0
+  pub flush-clears : workAfter 4 (work (dirty 2) 9 (undo 3 0 2 7) marked3) (evict (undo 3 0 2 7) marked3) ≡ replicate (2 * 4 + 128) 0
   pub flush-keeps : workAfter 1 (work (dirty 2) 9 [] full) (evictVerdict (quiet 0) (work (dirty 2) 9 [] full) (given 2 0 0 1) 3)
-      ≡ replicate (2 * 2 + 64) 0 ++ full
+      ≡ replicate (2 * 4 + 64) 0 ++ full
   -- "14 filter, a buffered entry with either bit unset"
   pub lacks-first : evict (undo 3 0 2 7) (filter 54 0x200000) ≡ refused status.Filter 0
   pub lacks-second : evict (undo 3 0 2 7) (filter 0 0x1000000000000000) ≡ refused status.Filter 0
@@ -128,9 +130,9 @@ pub record Worked : Type 0 where
   -- "A status question gives the number of filter bits set, and refuses only by number 2"
   pub bits-of-three : filterBitsReport (work clean 7 [] (set (filter 0 1) 63 3)) ≡ report status.Ok 3
   pub bits-of-all : filterBitsReport (work clean 7 [] full) ≡ report status.Ok 4096
-  pub bits-refused : filterBitsReport (replicate 129 0) ≡ report status.Work 0
-  -- a work memory of 2S + 64 words, made for 33 slots before, is one of 1 slot
-  pub bits-of-old : filterBitsReport (replicate (2 * 33 + 64) 0) ≡ report status.Ok 0
+  pub bits-refused : filterBitsReport (replicate 137 0) ≡ report status.Work 0
+  -- a work memory of 2S + 64 words, made for 36 slots before, is one of 4
+  pub bits-of-old : filterBitsReport (replicate (2 * 36 + 64) 0) ≡ report status.Ok 0
   -- 2/13: "A log entry is now proper only if ValidTill ≤ P + 16 as well." P is 1: 17 is taken, and the line wakes as the oldest has it ..
   pub till-16 : answerOf 3 zero (wake (control 1 0 2) (ending 2 17)) ≡ ok 0 3 (given 2 0 0 0)
   pub till-16-board : boardAfter 3 (board (control 1 0 2) (ending 2 17) 7) (wake (control 1 0 2) (ending 2 17)) ≡ board (control 1 0 0) (ending 2 17) 4
@@ -164,9 +166,9 @@ pub record Worked : Type 0 where
   -- "each total is the sum modulo 2^64"
   pub wraps : plus (2 ^ 64 - 1) 3 ≡ 2
   -- the paper's replay as a trace, with no `n` and no `p`: its last scan makes the listing's 6 stores
-  pub listing-line : printed 4 8 2 listing ≡ bytes "ok 0 0 0 6\n"
+  pub listing-line : printed 4 8 4 listing ≡ bytes "ok 0 0 0 6\n"
   -- "tested before its call and ending the run": the calls before it are counted, the one behind it is not made
-  pub trace-line : printed 4 8 2 (broken listing) ≡ bytes "trace 0 0 0 0\n"
+  pub trace-line : printed 4 8 4 (broken listing) ≡ bytes "trace 0 0 0 0\n"
   -- 4/13: "every number gives its old row without the spaces", the first, one of each length, and the last
   pub row-slot : (rowOf 6 ≡ bytes "slot    ") × (nameOf 6 ≡ bytes "slot")
   pub named-0 : nameOf 0 ≡ bytes "ok"
@@ -181,51 +183,51 @@ pub record Worked : Type 0 where
   pub text-filled : withName (nameOf 12) (1 ∷ 2 ∷ 3 ∷ []) ≡ bytes "cut"
   pub text-too-short : withName (nameOf 12) (1 ∷ 2 ∷ []) ≡ 1 ∷ 2 ∷ []
   pub text-unnamed : (withName (nameOf 15) [] ≡ []) × (withName (nameOf 15) (1 ∷ []) ≡ 1 ∷ [])
-  -- 5/13: "Registers are also improper when the count exceeds S": 3 does, 2 does not
-  pub count-beyond : committing clean 3 ≡ refused status.Regs 0
-  pub count-all : committing clean 2 ≡ still (given 3 0 0 2) (holding clean)
+  -- 5/13: "Registers are also improper when the count exceeds S": 5 does, 4 does not
+  pub count-beyond : committing clean 5 ≡ refused status.Regs 0
+  pub count-all : committing clean 4 ≡ still (given 3 0 0 4) (holding clean)
   -- "a count of 0 with the visited slot dirty", in each call that has 6
   pub none-load : loading (dirty 2) 0 3 ≡ refused status.Regs 0
   pub none-store : storing (dirty 2) 0 3 ≡ refused status.Regs 0
   pub none-evict : evicting (dirty 2) 0 3 ≡ refused status.Regs 0
   pub none-scan : scanning (dirty 1) 0 1 ≡ refused status.Regs 0
-  -- where the line is another's: line 1 belongs in slot 1 too
+  -- where the line is another's: line 1 belongs in the set too
   pub none-other : (loading (dirty 2) 0 1 ≡ refused status.Regs 0) × (evicting (dirty 2) 0 1 ≡ refused status.Regs 0)
-  -- "or of S with it not": a clean slot, or an empty one, as line 2's
-  pub all-load : (loading clean 2 3 ≡ refused status.Regs 0) × (loading clean 2 2 ≡ refused status.Regs 0)
-  pub all-store : (storing clean 2 3 ≡ refused status.Regs 0) × (storing clean 2 2 ≡ refused status.Regs 0)
-  pub all-evict : (evicting clean 2 3 ≡ refused status.Regs 0) × (evicting clean 2 2 ≡ refused status.Regs 0)
-  pub all-scan : (scanning clean 2 1 ≡ refused status.Regs 0) × (scanning clean 2 0 ≡ refused status.Regs 0)
+  -- "or of S with it not": a line that is clean, or one that is not held; a scan's slot that is clean, or empty
+  pub all-load : (loading clean 4 3 ≡ refused status.Regs 0) × (loading clean 4 2 ≡ refused status.Regs 0)
+  pub all-store : (storing clean 4 3 ≡ refused status.Regs 0) × (storing clean 4 2 ≡ refused status.Regs 0)
+  pub all-evict : (evicting clean 4 3 ≡ refused status.Regs 0) × (evicting clean 4 2 ≡ refused status.Regs 0)
+  pub all-scan : (scanning clean 4 1 ≡ refused status.Regs 0) × (scanning clean 4 0 ≡ refused status.Regs 0)
   -- "Right after 6": 5 and 6 come first, 7 and 11 later; a tag of 3 is after the running epoch
   pub five-first : loading (dirty 2) 0 5 ≡ refused status.Address 0
   pub six-first : (loading (dirty 3) 0 3 ≡ refused status.Slot 0) × (scanning (dirty 3) 0 1 ≡ refused status.Slot 0)
   pub four-first : (before7 ≡ refused status.Regs 0) × (before11 ≡ refused status.Regs 0)
   -- a scan's last step visits no slot, and commit none
-  pub no-visit : answerOf 1 (given 2 0 2 0) (scanning (dirty 2) 0 2) ≡ ok 1 1 (given 2 0 0 0)
+  pub no-visit : answerOf 1 (given 2 0 4 0) (scanning (dirty 2) 0 4) ≡ ok 1 1 (given 2 0 0 0)
   pub no-visit-commit : committing (dirty 2) 0 ≡ still (given 3 0 0 0) (holding (dirty 2))
-  -- a fill over a dirty line lowers the count, and a store's does not; a wrong count goes on as wrong
-  pub fill-lowers : answerOf 1 (given 2 0 0 1) (loading (dirty 2) 1 1) ≡ ok 0 1 (given 2 0 0 0)
-  pub store-over : answerOf 1 (given 2 0 0 1) (storing (dirty 2) 1 1) ≡ ok 0 1 (given 2 1 0 1)
+  -- a wrong count goes on as wrong; what a fill makes of the count stands with 6/13
   pub wrong-on : answerOf 1 (given 2 0 0 2) (evicting (dirty 2) 2 3) ≡ ok 1 1 (given 2 0 0 1)
   -- "The tally is then read from the registers", and "refuses as commit does up to 4", so not by 7
   pub tally-told : (tallyReport (quiet 0) (holding (dirty 2)) (given 2 0 0 1) ≡ report status.Ok 1) × (tallyReport (quiet 0) badEntry (given 2 1 0 1) ≡ report status.Ok 1)
   pub tally-wrong : tallyReport (quiet 0) (holding (dirty 2)) (given 2 0 0 2) ≡ report status.Ok 2
-  pub tally-1 : tallyReport [] (replicate 129 0) zero ≡ report status.Shape 0
-  pub tally-2 : tallyReport (quiet 0) (replicate 129 0) zero ≡ report status.Work 0
-  pub tally-4 : (tallyReport (quiet 0) (holding clean) zero ≡ report status.Regs 0) × (tallyReport (quiet 0) (holding clean) (given 2 0 0 3) ≡ report status.Regs 0)
+  pub tally-1 : tallyReport [] (replicate 137 0) zero ≡ report status.Shape 0
+  pub tally-2 : tallyReport (quiet 0) (replicate 137 0) zero ≡ report status.Work 0
+  pub tally-4 : (tallyReport (quiet 0) (holding clean) zero ≡ report status.Regs 0) × (tallyReport (quiet 0) (holding clean) (given 2 0 0 5) ≡ report status.Regs 0)
+  -- 6/13: sets of four slots
+  pub in-sets : FourWays
 
 -- a filter of which every word has all its bits
 all-counted : (word : ℕ) → ones word ≡ 64 → filterBitsReport (work clean 7 [] (replicate 64 word)) ≡ report status.Ok 4096
-unfolding filterBitsReport filterBitsVerdict goodWork answerOf onesOf
+unfolding filterBitsReport filterBitsVerdict goodSlots goodWork answerOf onesOf
 all-counted word e = rw e
 
 pub worked : Worked
 unfolding width pack unpack encode decode
     firstFrom applied each shifted covers properEntry properBuffered placeOf entryIn oldIn olderTill properAt firstImproper bufferedIn
     bufferedProper bufferProper firstBit secondBit isSet withBit marking marks hits onesOf ones onesIn bufferedMarked bufferMarked pushed entryStores flushed flushStores flushedBuffer restoreStores restoreTurn recoverStores
-    slots.homeOf slots.properTag slots.properFull slots.properSlot slots.properAt slots.properFor slots.dirtyFor slots.holds slots.spotOf slots.zeroed
+    slots.setOf slots.properTag slots.properFull slots.properSlot slots.properAt slots.holds sets.placesOf sets.properSet sets.takenOf sets.spotOf slots.zeroed
     slots.dirtied slots.cleaned withBuffer flushingIf writingOut writingBack emptying slots.entryDue slots.undoDue entryFor logged storingHeld
-    steps.loading steps.storing steps.evicting steps.lineIn cleaning visiting viewOf goodSizes goodControl goodShape goodWork properEpoch properCounts
+    steps.loading steps.storing steps.evicting steps.lineIn cleaning visiting viewOf goodSizes goodControl goodShape goodSlots goodWork properEpoch properCounts
     properRegisters miscounted goodBuffer goodFilter memoriesChecked runningChecked lineChecked storeChecked commitChecked scanChecked answerOf boardAfter
     storeAt storeOutcome storeVerdict evictAt evictOutcome evictVerdict commitOutcome commitVerdict scanOutcome scanVerdict
     wakeAt wakeVerdict powerUpVerdict
@@ -339,12 +341,11 @@ worked =
       four-first = (refl, refl);
       no-visit = refl;
       no-visit-commit = refl;
-      fill-lowers = refl;
-      store-over = refl;
       wrong-on = refl;
       tally-told = (refl, refl);
       tally-wrong = refl;
       tally-1 = refl;
       tally-2 = refl;
       tally-4 = (refl, refl);
+      in-sets = four-ways;
     }
