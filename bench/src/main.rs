@@ -6,6 +6,7 @@ mod library;
 mod loom;
 mod memories;
 mod order;
+mod placement;
 mod replay;
 mod repository;
 mod trace;

@@ -1,10 +1,9 @@
 //! The write-out of a call, as the memories before the call show it, and whether the filter alone had it flush.
 
 use crate::call::Call;
-use crate::handwritten::layout::{
-    buffer_and_filter_of, head_of, slot_count, slots_of, Range, SlotWord, ENTRY_WORDS, MOST_LINES,
-};
+use crate::handwritten::layout::{buffer_and_filter_of, head_of, slot_count, slots_of, Range, SlotWord, ENTRY_WORDS};
 use crate::handwritten::Registers;
+use crate::placement::Placement;
 
 /// What a call writes out, if it is accepted.
 #[derive(Clone, Copy, Debug, PartialEq, Eq)]
@@ -23,12 +22,13 @@ impl WriteOut {
         let slots = slot_count(work.len())?;
         let (control, _) = head_of(board)?;
         let word_of = |place: u64| slots_of(work, slots).get(place as usize).map(|slot| SlotWord(slot[0]));
-        let word_for = |address: u64| word_of(address % slots as u64).filter(|_| address < MOST_LINES);
+        let word_for = |address, is_held| {
+            let placement = Placement::of(work, address)?;
+            (placement.is_held == is_held).then_some(placement.word)
+        };
         let word = match call {
-            Call::Load { address, .. } | Call::Store { address, .. } => {
-                word_for(address).filter(|word| !word.holds(address))
-            }
-            Call::Evict { address, .. } => word_for(address).filter(|word| word.holds(address)),
+            Call::Load { address, .. } | Call::Store { address, .. } => word_for(address, false),
+            Call::Evict { address, .. } => word_for(address, true),
             Call::Scan { .. } => word_of(registers.cursor).filter(|word| word.tag() == control.persisted + 1),
             _ => None,
         }?;
@@ -71,7 +71,7 @@ mod tests {
         let sizes = Sizes {
             lines: 234,
             entries: 8,
-            slots: 3,
+            slots: 4,
         };
         let (mut loom, _) = Loom::wake(sizes);
         let mut seen = |call| {
@@ -79,19 +79,23 @@ mod tests {
             let stores = loom.make(call).stores;
             write_out.map(|out| (out.address, out.flushed(stores), out.is_false_hit(stores)))
         };
-        assert_eq!(seen(Call::store(0, 7)), None);
-        assert_eq!(seen(Call::store(1, 7)), None);
+        for address in 0..4 {
+            assert_eq!(seen(Call::store(address, 7)), None);
+        }
         assert_eq!(seen(Call::load(1)), None);
         assert_eq!(seen(Call::evict(4)), None);
-        assert_eq!(seen(Call::load(4)), Some((1, true, false)));
-        assert_eq!(seen(Call::evict(4)), None);
-        assert_eq!(seen(Call::store(2, 7)), None);
-        assert_eq!(seen(Call::store(233, 7)), Some((2, true, false)));
+        // Line 0 is in the first slot of equals.
+        assert_eq!(seen(Call::load(4)), Some((0, true, false)));
+        assert_eq!(seen(Call::store(0, 7)), None);
+        assert_eq!(seen(Call::evict(1)), Some((1, false, false)));
+        assert_eq!(seen(Call::store(233, 7)), None);
+        assert_eq!(seen(Call::evict(233)), Some((233, true, false)));
+        assert_eq!(seen(Call::store(233, 7)), None);
         assert_eq!(seen(Call::COMMIT), None);
         assert_eq!(seen(Call::SCAN), Some((0, true, true)));
-        assert_eq!(seen(Call::store(1, 7)), None);
-        assert_eq!(seen(Call::SCAN), None);
         assert_eq!(seen(Call::SCAN), Some((233, false, false)));
+        assert_eq!(seen(Call::SCAN), Some((2, false, false)));
+        assert_eq!(seen(Call::SCAN), Some((3, false, false)));
         assert_eq!(seen(Call::SCAN), None);
     }
 }

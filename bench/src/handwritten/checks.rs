@@ -75,24 +75,36 @@ fn registers_are_proper(registers: &Registers, control: Control, shape: Shape, s
         && dirty <= slots
 }
 
-/// Whether `word` may stand in slot `place` of `slots`.
-#[inline]
-pub fn slot_is_proper(word: SlotWord, place: usize, slots: usize, lines: usize, persisted: u64, epoch: u64) -> bool {
-    if word == SlotWord::EMPTY {
-        return true;
+/// What slot words are held to, as numbers with which one comparison each is enough.
+pub struct SlotTest {
+    lines: u64,
+    /// A dirty word with the least proper tag, P + 1, but for its address.
+    least_dirty: u64,
+    /// How many tags are proper from there on, up to the running epoch.
+    dirty_tags: u64,
+}
+
+impl SlotTest {
+    #[inline]
+    pub fn new(lines: usize, persisted: u64, epoch: u64) -> Self {
+        SlotTest {
+            lines: lines as u64,
+            least_dirty: SlotWord::dirty(0, persisted + 1).0,
+            dirty_tags: epoch - persisted,
+        }
     }
-    let address = word.address() as u32;
-    let tag = word.tag();
-    let tag_is_proper = if word.is_dirty() {
-        persisted < tag && tag <= epoch
-    } else {
-        tag == 0
-    };
-    word.is_valid()
-        && word.ends_in_zeros()
-        && tag_is_proper
-        && (address as usize) < lines
-        && (address % slots as u32) as usize == place
+
+    /// Whether a word is that of a line, clean or dirty, wherever the line belongs.
+    #[inline(always)]
+    pub fn accepts(&self, word: SlotWord) -> bool {
+        let besides_address = word.besides_address();
+        // A zero bit that is set comes first and is too much, and so is a word below the least, which wraps round.
+        let tags_behind = besides_address
+            .wrapping_sub(self.least_dirty)
+            .rotate_right(SlotWord::ZERO_BITS);
+        let is_clean_or_dirty = tags_behind < self.dirty_tags || besides_address == SlotWord::VALID;
+        is_clean_or_dirty && word.address() < self.lines
+    }
 }
 
 /// How many slots are dirty besides one with this proper word, going by the count of all, which may be wrong. It is refused

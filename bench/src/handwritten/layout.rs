@@ -34,6 +34,10 @@ pub const ENTRY_WORDS: usize = 2;
 pub type Slot = [u64; SLOT_WORDS];
 const SLOT_WORDS: usize = 2;
 
+/// Set g is slots 4g to 4g + 3.
+pub type Set = [Slot; WAYS];
+pub const WAYS: usize = 4;
+
 /// Where the range of the log entry at a place of the ring stands on a board.
 #[inline]
 pub const fn entry_place(ring_place: usize) -> usize {
@@ -70,13 +74,13 @@ pub const fn slots_in(words: usize) -> usize {
     words.saturating_sub(work_words(0)) / SLOT_WORDS
 }
 
-/// The number of slots that a work memory of so many words has, where it has a right one.
+/// The number of slots that a work memory of so many words has, where it is a right one: whole sets, and not too many.
 #[inline]
 pub fn slot_count(words: usize) -> Option<usize> {
     let slot_words = words.wrapping_sub(work_words(0));
-    let slots = slot_words / SLOT_WORDS;
-    let is_right = slot_words.is_multiple_of(SLOT_WORDS) && (1..=MOST_SLOTS).contains(&slots);
-    is_right.then_some(slots)
+    let is_right = slot_words.is_multiple_of(slot_place(WAYS))
+        && (slot_place(WAYS)..=slot_place(MOST_SLOTS)).contains(&slot_words);
+    is_right.then_some(slot_words / SLOT_WORDS)
 }
 
 /// The slots of a work memory that has so many.
@@ -327,9 +331,10 @@ impl SlotWord {
         self.0 >> Self::TAG_SHIFT & LAST_EPOCH
     }
 
+    /// The word without its address: valid, dirty, tag and zero bits, where they stand.
     #[inline]
-    pub fn ends_in_zeros(self) -> bool {
-        self.0 & ones(Self::ZERO_BITS) == 0
+    pub fn besides_address(self) -> u64 {
+        self.0 & !(LAST_ADDRESS << Self::ADDRESS_SHIFT)
     }
 
     /// Whether the line at `address` is held here.

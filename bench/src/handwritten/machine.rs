@@ -1,9 +1,11 @@
 //! Board and work memory of a call once shape, work and registers are tested, and the steps that calls are made of.
 
-use super::checks::{self, Refusal};
+use super::checks::{self, Refusal, SlotTest};
 use super::layout::{
-    board_parts_mut, is_marked, mark, work_parts_mut, Control, Entry, Filter, Range, Slot, SlotWord, BUFFER_ENTRIES,
+    board_parts_mut, is_marked, mark, work_parts_mut, Control, Entry, Filter, Range, Set, Slot, SlotWord,
+    BUFFER_ENTRIES, WAYS,
 };
+use super::sets::{self, Sets};
 use super::Registers;
 
 /// Why a call ends early.
@@ -50,11 +52,13 @@ impl Mains {
     }
 }
 
-/// A slot that a call visits, once it is tested.
+/// The slot that a call works on, once all that it visits is tested.
 #[derive(Clone, Copy)]
 pub struct Visited {
     pub place: usize,
     pub word: SlotWord,
+    /// It holds the line that the call is for; to a scan, any line.
+    pub is_held: bool,
     /// The other slots that are dirty, going by the registers.
     pub dirty_besides: u64,
 }
@@ -97,35 +101,66 @@ impl<'a> Machine<'a> {
         })
     }
 
-    /// Tests the address, and visits the slot that it belongs in.
-    #[inline]
-    pub fn slot_of(&self, address: u64) -> Result<Visited, Refusal> {
+    #[inline(always)]
+    fn slot_test(&self) -> SlotTest {
+        SlotTest::new(self.lines.len(), self.control.persisted, self.registers.epoch)
+    }
+
+    /// The set in which an address belongs, and its number, once the address is tested.
+    #[inline(always)]
+    fn set_of(&self, address: u64, sets: Sets) -> Result<(&Set, usize), Refusal> {
         if address >= self.lines.len() as u64 {
             return Err(Refusal::Address);
         }
-        let place = (address as u32 % self.slots.len() as u32) as usize;
-        self.visit(place)
+        let number = sets.set_of(address);
+        Ok((&self.slots.as_chunks().0[number], number))
     }
 
-    /// Tests a slot, and then the count of dirty slots.
-    #[inline]
+    /// The slot in which the line at an address is held, if it is. Tests the address, the whole set, and then the count of
+    /// dirty slots.
+    #[inline(always)]
+    pub fn slot_with(&self, address: u64) -> Result<Option<usize>, Refusal> {
+        let sets = Sets::of(self.slots.len());
+        let (set, number) = self.set_of(address, sets)?;
+        let way = sets::way_with(set, number, sets, &self.slot_test(), address).ok_or(Refusal::Slot)?;
+        sets::check_count(set, self.registers.dirty, self.slots.len())?;
+        Ok(way.map(|way| WAYS * number + way))
+    }
+
+    /// The slot in which the line at an address is held, or that it takes. The tests are the same.
+    #[inline(always)]
+    pub fn slot_for(&self, address: u64) -> Result<Visited, Refusal> {
+        let sets = Sets::of(self.slots.len());
+        let (set, number) = self.set_of(address, sets)?;
+        let way = sets::way_for(set, number, sets, &self.slot_test(), address).ok_or(Refusal::Slot)?;
+        sets::check_count(set, self.registers.dirty, self.slots.len())?;
+        Ok(self.visited(WAYS * number + way.number, way.is_held))
+    }
+
+    #[inline(always)]
+    pub fn visited(&self, place: usize, is_held: bool) -> Visited {
+        let word = SlotWord(self.slots[place][0]);
+        Visited {
+            place,
+            word,
+            is_held,
+            dirty_besides: self.registers.dirty.wrapping_sub(u64::from(word.is_dirty())),
+        }
+    }
+
+    /// Tests the slot at the scan's cursor, and then the count of dirty slots.
+    #[inline(always)]
     pub fn visit(&self, place: usize) -> Result<Visited, Refusal> {
         let word = SlotWord(self.slots[place][0]);
-        let proper = checks::slot_is_proper(
-            word,
-            place,
-            self.slots.len(),
-            self.lines.len(),
-            self.control.persisted,
-            self.registers.epoch,
-        );
-        if !proper {
+        let belongs = |address| Sets::of(self.slots.len()).set_of(address) == place / WAYS;
+        if word != SlotWord::EMPTY && !(self.slot_test().accepts(word) && belongs(word.address())) {
             return Err(Refusal::Slot);
         }
         let dirty_besides = checks::other_dirty_slots(self.registers.dirty, word, self.slots.len())?;
         Ok(Visited {
             place,
             word,
+            is_held: true,
             dirty_besides,
         })
     }
@@ -188,10 +223,10 @@ impl<'a> Machine<'a> {
         Ok(())
     }
 
-    /// Holds the line at `address` in its slot, clean unless it was held before.
+    /// Holds the line at `address` in the slot that it has or, clean, in the one that it takes.
     #[inline(always)]
     pub fn hold(&mut self, visited: Visited, address: u64) -> Result<(), Stop> {
-        if !visited.word.holds(address) {
+        if !visited.is_held {
             self.write_out_if_dirty(visited)?;
             self.slots[visited.place] = [SlotWord::clean(address).0, self.lines[address as usize]];
         }

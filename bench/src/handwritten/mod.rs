@@ -7,6 +7,7 @@ mod machine;
 pub mod names;
 pub mod record;
 mod registers;
+mod sets;
 mod side;
 #[cfg(test)]
 mod tests;
@@ -75,7 +76,7 @@ fn recover(board: &mut [u64], work: &[u64], mains: &mut Mains) -> Result<u64, St
 #[inline(never)]
 pub fn load(board: &mut [u64], work: &mut [u64], registers: &mut Registers, address: u64, allowance: u32) -> Answer {
     with_machine(board, work, registers, allowance, |machine| {
-        let visited = machine.slot_of(address)?;
+        let visited = machine.slot_for(address)?;
         machine.check_buffer()?;
         machine.hold(visited, address)?;
         Ok(machine.slots[visited.place][1])
@@ -92,12 +93,12 @@ pub fn store(
     allowance: u32,
 ) -> Answer {
     with_machine(board, work, registers, allowance, |machine| {
-        let visited = machine.slot_of(address)?;
+        let visited = machine.slot_for(address)?;
         machine.check_buffer()?;
         let epoch = machine.registers.epoch;
         let Visited { place, word, .. } = visited;
-        let held_dirty = word.holds(address) && word.is_dirty();
-        if held_dirty && word.tag() == epoch {
+        let stored = SlotWord::dirty(address, epoch);
+        if word == stored {
             machine.slots[place][1] = data;
             return Ok(0);
         }
@@ -106,34 +107,34 @@ pub fn store(
             return Err(Stop::Refused(Refusal::Room));
         }
         machine.hold(visited, address)?;
-        let valid_from = if held_dirty {
+        let valid_from = if visited.is_held && word.is_dirty() {
             word.tag()
         } else {
             machine.control.persisted
         };
         let old_data = machine.slots[place][1];
-        machine.slots[place] = [SlotWord::dirty(address, epoch).0, data];
+        machine.slots[place] = [stored.0, data];
         machine.registers.dirty = visited.dirty_besides + 1;
         let range = Range {
             address,
             valid_from,
             valid_till: epoch,
         };
-        machine.record(range, old_data)?;
-        Ok(0)
+        machine.record(range, old_data).map(|()| 0)
     })
 }
 
 #[inline(never)]
 pub fn evict(board: &mut [u64], work: &mut [u64], registers: &mut Registers, address: u64, allowance: u32) -> Answer {
     with_machine(board, work, registers, allowance, |machine| {
-        let visited = machine.slot_of(address)?;
+        let held = machine.slot_with(address)?;
         machine.check_buffer()?;
-        if !visited.word.holds(address) {
+        let Some(held) = held else {
             return Ok(0);
-        }
-        machine.write_out_if_dirty(visited)?;
-        machine.slots[visited.place] = [SlotWord::EMPTY.0, 0];
+        };
+        let held = machine.visited(held, true);
+        machine.write_out_if_dirty(held)?;
+        machine.slots[held.place] = [SlotWord::EMPTY.0, 0];
         Ok(1)
     })
 }

@@ -43,9 +43,9 @@ fn the_count_is_the_fourth_register() {
 
 #[test]
 fn a_store_raises_it_where_a_line_becomes_dirty() {
-    let mut loom = Loom::new(8, 16, 2);
+    let mut loom = Loom::new(8, 16, 4);
     assert_eq!(loom.registers.dirty, 0);
-    // An empty slot; the line again; the other slot.
+    // An empty slot; the line again; another slot.
     assert_eq!(loom.count_after(Call::store(0, 7)), 1);
     assert_eq!(loom.count_after(Call::store(0, 8)), 1);
     assert_eq!(loom.count_after(Call::store(1, 7)), 2);
@@ -53,30 +53,33 @@ fn a_store_raises_it_where_a_line_becomes_dirty() {
     assert_eq!(loom.count_after(Call::COMMIT), 2);
     assert_eq!(loom.count_after(Call::store(0, 9)), 2);
     assert_eq!(loom.registers.buffered, 3);
+    assert_eq!(loom.count_after(Call::store(2, 7)), 3);
+    assert_eq!(loom.count_after(Call::store(3, 7)), 4);
     // Another dirty line goes, and the new one is dirty.
-    assert_eq!(loom.count_after(Call::store(2, 7)), 2);
+    assert_eq!(loom.count_after(Call::store(4, 7)), 4);
     // Clean lines: the one that is held, and another.
-    assert_eq!(loom.count_after(Call::load(4)), 1);
-    assert_eq!(loom.count_after(Call::store(4, 7)), 2);
-    assert_eq!(loom.count_after(Call::load(3)), 1);
-    assert_eq!(loom.count_after(Call::store(5, 7)), 2);
+    assert_eq!(loom.count_after(Call::load(5)), 3);
+    assert_eq!(loom.count_after(Call::store(5, 7)), 4);
+    assert_eq!(loom.count_after(Call::load(6)), 3);
+    assert_eq!(loom.count_after(Call::store(7, 7)), 4);
 }
 
 #[test]
 fn a_load_and_an_eviction_lower_it_where_a_dirty_line_goes() {
-    let mut loom = Loom::new(8, 16, 2);
-    loom.store(0, 7);
-    loom.store(1, 7);
-    assert_eq!(loom.count_after(Call::load(0)), 2);
-    assert_eq!(loom.count_after(Call::load(2)), 1);
-    assert_eq!(loom.count_after(Call::load(4)), 1);
-    assert_eq!(loom.count_after(Call::evict(0)), 1);
-    assert_eq!(loom.count_after(Call::evict(4)), 1);
-    assert_eq!(loom.count_after(Call::evict(4)), 1);
-    assert_eq!(loom.count_after(Call::load(0)), 1);
-    // Line 3 belongs in the slot of line 1, which stays there.
-    assert_eq!(loom.count_after(Call::evict(3)), 1);
-    assert_eq!(loom.count_after(Call::evict(1)), 0);
+    let mut loom = Loom::new(8, 16, 4);
+    for address in 0..4 {
+        loom.store(address, 7);
+    }
+    assert_eq!(loom.count_after(Call::load(0)), 4);
+    assert_eq!(loom.count_after(Call::load(4)), 3);
+    assert_eq!(loom.count_after(Call::load(5)), 3);
+    assert_eq!(loom.count_after(Call::evict(0)), 3);
+    assert_eq!(loom.count_after(Call::evict(5)), 3);
+    assert_eq!(loom.count_after(Call::evict(5)), 3);
+    assert_eq!(loom.count_after(Call::load(0)), 3);
+    // Line 6 belongs in the set of line 1, which stays there.
+    assert_eq!(loom.count_after(Call::evict(6)), 3);
+    assert_eq!(loom.count_after(Call::evict(1)), 2);
     assert_eq!(loom.line(1), 7);
 }
 
@@ -111,14 +114,14 @@ fn a_full_buffer_and_a_full_cache() {
     // The 32nd entry flushes, and the last slot becomes dirty.
     assert_eq!(loom.count_after(Call::store(31, 1)), 32);
     assert_eq!(loom.registers.buffered, 0);
-    // Line 63 belongs in slot 31: all slots stay dirty.
+    // Line 63 belongs in set 7 of 8, and takes the slot of line 7: all slots stay dirty.
     assert_eq!(loom.count_after(Call::store(63, 1)), 32);
-    assert_eq!(loom.count_after(Call::load(31)), 31);
+    assert_eq!(loom.count_after(Call::load(7)), 31);
 }
 
 #[test]
 fn power_up_leaves_none() {
-    let mut loom = Loom::new(4, 8, 2);
+    let mut loom = Loom::new(4, 8, 4);
     loom.store(0, 7);
     loom.store(1, 7);
     assert_eq!(loom.registers.dirty, 2);
@@ -133,19 +136,20 @@ fn power_up_leaves_none() {
 #[test]
 fn a_cut_and_a_refused_power_up_leave_none() {
     let loom = || {
-        let mut loom = Loom::new(4, 8, 2);
-        loom.store(0, 7);
-        loom.store(1, 7);
+        let mut loom = Loom::new(8, 8, 4);
+        for address in 0..4 {
+            loom.store(address, 7);
+        }
         loom.commit();
         loom
     };
     let calls = [
         Call::Load {
-            address: 2,
+            address: 4,
             allowance: 5,
         },
         Call::Store {
-            address: 2,
+            address: 4,
             data: 9,
             allowance: 5,
         },
@@ -170,7 +174,8 @@ fn a_cut_and_a_refused_power_up_leave_none() {
 
 #[test]
 fn a_store_that_is_cut_behind_its_line_leaves_none() {
-    // Line 0 is stored first, its entry being in the log; then the 32nd entry flushes: 1 + 2 * 32 + 1.
+    // Lines 0, 10, 20 and 30 fill set 0 of 10, so that line 40 takes the slot of line 0. That is stored first, its entry
+    // being in the log; then the 32nd entry flushes: 1 + 2 * 32 + 1.
     let mut loom = Loom::new(64, 64, 40);
     loom.store(0, 7);
     loom.store(1, 7);
@@ -190,7 +195,7 @@ fn a_store_that_is_cut_behind_its_line_leaves_none() {
 
 #[test]
 fn the_tally_is_read_from_the_registers() {
-    let mut loom = Loom::new(4, 8, 2);
+    let mut loom = Loom::new(4, 8, 4);
     assert_eq!(loom.tally(), answer(0, 0, 0));
     loom.store(1, 7);
     assert_eq!(loom.tally(), answer(0, 1, 0));
@@ -208,23 +213,23 @@ fn the_tally_is_read_from_the_registers() {
 
 #[test]
 fn the_tally_is_given_where_commit_answers_more_than_4() {
-    let mut loom = Loom::new(4, 8, 2);
+    let mut loom = Loom::new(4, 8, 4);
     loom.store(1, 7);
-    loom.work[2 * 2 + 64..].fill(0);
+    loom.work[2 * 4 + 64..].fill(0);
     assert_eq!(loom.commit(), answer(14, 0, 0));
     assert_eq!(loom.tally(), answer(0, 1, 0));
-    loom.work[2 * 2] = 0;
+    loom.work[2 * 4] = 0;
     assert_eq!(loom.commit(), answer(7, 0, 0));
     assert_eq!(loom.tally(), answer(0, 1, 0));
 
-    let mut loom = Loom::new(4, 8, 2);
+    let mut loom = Loom::new(4, 8, 4);
     for _ in 1..16 {
         loom.commit();
     }
     assert_eq!(loom.commit(), answer(9, 0, 0));
     assert_eq!(loom.tally(), answer(0, 0, 0));
 
-    let mut loom = Loom::new(4, 8, 2);
+    let mut loom = Loom::new(4, 8, 4);
     loom.board[CONTROL_PLACE] = Control {
         persisted: LAST_EPOCH - 1,
         start: 0,
@@ -238,36 +243,37 @@ fn the_tally_is_given_where_commit_answers_more_than_4() {
 
 #[test]
 fn a_wrong_count_that_no_test_refuses_is_carried_on() {
-    // Lines 0 and 1 are dirty in slots 0 and 1 of 4.
-    let loom = |count| {
-        let mut loom = Loom::new(8, 8, 4);
-        loom.store(0, 7);
-        loom.store(1, 7);
+    // Even lines belong in set 0 of two, odd ones in set 1; so many are dirty in set 0.
+    let loom = |dirty, count| {
+        let mut loom = Loom::new(16, 8, 8);
+        for turn in 0..dirty {
+            loom.store(2 * turn, 7);
+        }
         loom.registers.dirty = count;
         loom
     };
-    let mut high = loom(3);
+    let mut high = loom(3, 7);
     assert_eq!(high.load(0), answer(0, 7, 0));
-    assert_eq!(high.registers.dirty, 3);
-    assert_eq!(high.store(2, 7), answer(0, 0, 0));
-    assert_eq!(high.registers.dirty, 4);
-    assert_eq!(high.tally(), answer(0, 4, 0));
-    // Slot 3 is not dirty, so not all are.
-    assert_eq!(high.without_change(Call::store(3, 7)), answer(4, 0, 0));
-    assert_eq!(high.evict(2, NO_CUT).number, 0);
-    assert_eq!(high.registers.dirty, 3);
+    assert_eq!(high.registers.dirty, 7);
+    assert_eq!(high.store(6, 7), answer(0, 0, 0));
+    assert_eq!(high.registers.dirty, 8);
+    assert_eq!(high.tally(), answer(0, 8, 0));
+    // No slot of set 1 is dirty, so not all are.
+    assert_eq!(high.without_change(Call::store(1, 7)), answer(4, 0, 0));
+    assert_eq!(high.evict(6, NO_CUT).number, 0);
+    assert_eq!(high.registers.dirty, 7);
 
-    let mut low = loom(1);
-    assert_eq!(low.load(4).number, 0);
+    let mut low = loom(2, 1);
+    assert_eq!(low.evict(0, NO_CUT).number, 0);
     assert_eq!(low.registers.dirty, 0);
     assert_eq!(low.tally(), answer(0, 0, 0));
     // Slot 1 is dirty, so one is.
-    assert_eq!(low.without_change(Call::load(1)), answer(4, 0, 0));
+    assert_eq!(low.without_change(Call::load(2)), answer(4, 0, 0));
     assert_eq!(low.store(3, 7), answer(0, 0, 0));
     assert_eq!(low.registers.dirty, 1);
     low.commit();
     low.registers.cursor = 1;
     assert_eq!(low.scan().number, 0);
-    assert_eq!(low.work[2], SlotWord::clean(1).0);
+    assert_eq!(low.work[2], SlotWord::clean(2).0);
     assert_eq!(low.registers.dirty, 0);
 }

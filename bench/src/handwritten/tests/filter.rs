@@ -66,12 +66,14 @@ impl Loom {
     }
 }
 
-/// A loom whose line `kept` is dirty, its entry in the log; then entries for these addresses are buffered. All of them have
+/// A loom whose lines `kept` are dirty, their entries in the log; then entries for these addresses are buffered. All of them have
 /// slots of their own, and so has `other`, which is no more held.
-fn with_buffered(mut loom: Loom, kept: u64, other: u64, addresses: &[u64]) -> Loom {
-    loom.store(kept, 7);
-    loom.store(other, 7);
-    assert_eq!(loom.evict(other, NO_CUT), answer(0, 1, 6));
+fn with_buffered(mut loom: Loom, kept: &[u64], other: u64, addresses: &[u64]) -> Loom {
+    for &line in kept.iter().chain([&other]) {
+        loom.store(line, 7);
+    }
+    let flushed = kept.len() as u64 + 1;
+    assert_eq!(loom.evict(other, NO_CUT), answer(0, 1, 2 * flushed + 2));
     for &address in addresses {
         assert_eq!(loom.store(address, 7), answer(0, 0, 0));
     }
@@ -138,13 +140,13 @@ fn corner_bits_as_second_ones() {
 fn addresses_that_share_a_bit() {
     // Bit 1 is the first of both; bit 2,531 is the second of 1 and the first of 2,531; one address has the same bits again.
     for (other, bits) in [(4_097, 3), (2_531, 3), (2, 4)] {
-        let mut loom = Loom::new(4_098, 8, 7);
+        let mut loom = Loom::new(4_098, 8, 8);
         loom.store(1, 7);
         assert_eq!(loom.filter_bits(), answer(0, 2, 0));
         loom.store(other, 7);
         assert_eq!(loom.filter_bits(), answer(0, bits, 0), "{other}");
     }
-    let mut loom = Loom::new(4_098, 8, 7);
+    let mut loom = Loom::new(4_098, 8, 8);
     loom.store(1, 7);
     loom.commit();
     loom.store(1, 8);
@@ -155,7 +157,7 @@ fn addresses_that_share_a_bit() {
 #[test]
 fn false_hits_flush() {
     // Line 1 has the bits 1 and 2,531. 4,097 sets 1 and 227, 2,531 sets 2,531 and 924.
-    let loom = |buffered: &[u64]| with_buffered(Loom::new(4_098, 8, 7), 1, 3, buffered);
+    let loom = |buffered: &[u64]| with_buffered(Loom::new(4_098, 8, 8), &[1], 3, buffered);
     let mut hit = loom(&[4_097, 2_531]);
     assert_eq!(hit.filter_bits(), answer(0, 4, 0));
     assert_eq!(hit.evict(1, NO_CUT), answer(0, 1, 6));
@@ -174,8 +176,8 @@ fn false_hits_flush() {
 
 #[test]
 fn one_entry_is_enough_for_a_line_with_one_bit() {
-    // Line 0 has bit 0 alone, which is the second of 233.
-    let loom = || with_buffered(Loom::new(234, 8, 3), 0, 1, &[233]);
+    // Line 0 has bit 0 alone, which is the second of 233. The set is full, and line 0 in the first slot of equals.
+    let loom = || with_buffered(Loom::new(234, 8, 4), &[0, 2, 4], 1, &[233]);
     assert_eq!(loom().evict(0, NO_CUT), answer(0, 1, 4));
     assert_eq!(loom().evict(0, 3), answer(12, 0, 3));
     assert_eq!(loom().load(3), answer(0, 0, 4));
@@ -187,20 +189,22 @@ fn one_entry_is_enough_for_a_line_with_one_bit() {
     // 3 has the bits 3 and 3 * 40,503 - 65,536 = 55,973, divided by 16 3,498 = 54 * 64 + 42.
     assert_eq!(store.filter_words(), [(0, 1 << 60), (54, 1 << 21)]);
 
-    let mut scan = loom();
+    // Lines 0 and 233 are in slots 0 and 1; the entry for 233 is in the log once line 0 is stored.
+    let mut scan = with_buffered(Loom::new(234, 8, 4), &[0], 1, &[233]);
     scan.commit();
     assert_eq!(scan.scan(), answer(0, 0, 4));
+    assert_eq!(scan.scan(), answer(0, 0, 1));
     assert_eq!(scan.scan(), answer(0, 0, 0));
 
     // Without the entry, line 0 is stored alone.
-    let mut alone = with_buffered(Loom::new(234, 8, 3), 0, 1, &[]);
+    let mut alone = with_buffered(Loom::new(234, 8, 4), &[0], 1, &[]);
     assert_eq!(alone.evict(0, NO_CUT), answer(0, 1, 1));
 }
 
 #[test]
 fn lines_123_157_and_70() {
     // 123: bits 123 and 4,981,869 - 76 * 65,536 = 1,133, so 70. 157: 6,358,971 - 97 * 65,536 = 1,979, so 123. 70: its first.
-    let loom = |buffered: &[u64]| with_buffered(Loom::new(158, 8, 5), 123, 4, buffered);
+    let loom = |buffered: &[u64]| with_buffered(Loom::new(158, 8, 8), &[123], 4, buffered);
     assert_eq!(loom(&[157, 70]).evict(123, NO_CUT), answer(0, 1, 6));
     assert_eq!(loom(&[157]).evict(123, NO_CUT), answer(0, 1, 1));
     assert_eq!(loom(&[70]).evict(123, NO_CUT), answer(0, 1, 1));
@@ -208,14 +212,17 @@ fn lines_123_157_and_70() {
 
 #[test]
 fn a_store_with_31_entries_buffered_makes_66_stores_or_64() {
-    // Line 0 is in the way of line 64. It is stored, then the entry for 64 is the 32nd: 1 + 2 * 32 + 1.
-    let mut loom = with_buffered(Loom::new(234, 64, 64), 0, 1, &Vec::from_iter(2..33));
+    // Lines 0, 16, 32 and 48 fill set 0 of 16, so that line 64 takes the slot of line 0. That is stored, then the entry for 64
+    // is the 32nd: 1 + 2 * 32 + 1.
+    let buffered = Vec::from_iter((2..31).chain([32, 48]));
+    let mut loom = with_buffered(Loom::new(234, 64, 64), &[0], 1, &buffered);
     assert_eq!(loom.store(64, 7), answer(0, 0, 66));
     assert_eq!(loom.registers.buffered, 0);
     assert_eq!(loom.filter_bits(), answer(0, 0, 0));
 
     // With an entry for 233 among the 31, line 0 is a false hit: 2 * 31 + 1 and the line, and the entry for 64 is the first.
-    let mut loom = with_buffered(Loom::new(234, 64, 64), 0, 1, &Vec::from_iter((2..32).chain([233])));
+    let buffered = Vec::from_iter((2..30).chain([32, 48, 233]));
+    let mut loom = with_buffered(Loom::new(234, 64, 64), &[0], 1, &buffered);
     assert_eq!(loom.store(64, 7), answer(0, 0, 64));
     assert_eq!(loom.registers.buffered, 1);
     assert_eq!(loom.filter_bits(), answer(0, 2, 0));
@@ -232,7 +239,7 @@ fn two_buffered() -> Loom {
 
 #[test]
 fn a_filter_whose_every_bit_is_set() {
-    let mut loom = with_buffered(Loom::new(4, 8, 4), 0, 1, &[2]);
+    let mut loom = with_buffered(Loom::new(4, 8, 4), &[0], 1, &[2]);
     loom.filter_mut().fill(u64::MAX);
     assert_eq!(loom.filter_bits(), answer(0, 4_096, 0));
     assert_eq!(loom.store(3, 7), answer(0, 0, 0));
@@ -244,7 +251,7 @@ fn a_filter_whose_every_bit_is_set() {
 
 #[test]
 fn without_entries_the_filter_decides_nothing_and_stays() {
-    let mut loom = with_buffered(Loom::new(4, 8, 4), 0, 1, &[]);
+    let mut loom = with_buffered(Loom::new(4, 8, 4), &[0], 1, &[]);
     loom.filter_mut().fill(u64::MAX);
     assert_eq!(loom.evict(0, NO_CUT), answer(0, 1, 1));
     assert_eq!(loom.filter_bits(), answer(0, 4_096, 0));
@@ -300,7 +307,7 @@ fn power_up_and_a_cut_clear_the_filter() {
 
 #[test]
 fn the_status_question_counts_the_filters_words_alone() {
-    let mut loom = Loom::new(4, 8, 2);
+    let mut loom = Loom::new(4, 8, 4);
     loom.work.fill(u64::MAX);
     assert_eq!(loom.without_change(Call::FilterBits), answer(0, 4_096, 0));
     loom.filter_mut().fill(0);
@@ -318,18 +325,22 @@ fn the_status_question_counts_the_filters_words_alone() {
 
 #[test]
 fn the_status_question_refuses_by_the_work_memorys_length() {
-    let mut loom = Loom::new(4, 8, 2);
+    let mut loom = Loom::new(4, 8, 4);
     for (words, number) in [
         (0, 2),
         (64, 2),
-        (66, 2),
+        (72, 2),
         (127, 2),
         (128, 2),
-        (129, 2),
-        (130, 0),
-        (131, 2),
+        (130, 2),
+        (135, 2),
+        (136, 0),
+        (137, 2),
+        (138, 2),
         (640, 0),
+        (641, 2),
         (642, 2),
+        (648, 2),
     ] {
         loom.work = vec![0; words];
         assert_eq!(
@@ -343,11 +354,13 @@ fn the_status_question_refuses_by_the_work_memorys_length() {
 
 #[test]
 fn an_old_work_memory_is_one_of_fewer_slots() {
-    // 2 * 33 + 64 words, for 33 slots once, have room for one: lines 1 and 2 are in each other's way.
-    let mut loom = Loom::new(4, 8, 1);
-    assert_eq!(loom.work.len(), 2 * 33 + 64);
-    loom.store(1, 7);
-    assert_eq!(loom.load(2), answer(0, 0, 4));
+    // 2 * 36 + 64 words, for 36 slots once, have room for four: a fifth line is in the way of the first.
+    let mut loom = Loom::new(8, 8, 4);
+    assert_eq!(loom.work.len(), 2 * 36 + 64);
+    for address in 1..5 {
+        assert_eq!(loom.store(address, 7), answer(0, 0, 0));
+    }
+    assert_eq!(loom.load(5), answer(0, 0, 10));
     // And 2 * 32 + 64 have none.
     loom.work = vec![0; 2 * 32 + 64];
     assert_eq!(loom.without_change(Call::load(1)), answer(2, 0, 0));
@@ -355,11 +368,11 @@ fn an_old_work_memory_is_one_of_fewer_slots() {
 
 #[test]
 fn a_line_that_a_slot_holds_dirty_without_entry_is_asked_for_by_its_address() {
-    // A slot word by hand: line 2 dirty in slot 0 of 2. Its bits are 2 and 966, of which the entry for 1 has none.
-    let mut loom = Loom::new(4, 8, 2);
+    // A slot word by hand: line 2 dirty in slot 1. Its bits are 2 and 966, of which the entry for 1 has none.
+    let mut loom = Loom::new(4, 8, 4);
     loom.store(1, 7);
-    loom.work[0] = SlotWord::dirty(2, 1).0;
-    loom.work[1] = 9;
+    loom.work[2] = SlotWord::dirty(2, 1).0;
+    loom.work[3] = 9;
     loom.registers.dirty = 2;
     assert_eq!(loom.evict(2, NO_CUT), answer(0, 1, 1));
     assert_eq!(loom.line(2), 9);

@@ -4,7 +4,7 @@ use super::{answer, range, two_buffered, Loom};
 use crate::call::Call;
 use crate::handwritten::layout::{buffer_place, Control, CONTROL_PLACE, LAST_EPOCH};
 
-/// Each call that looks at the buffer, on a loom with slot 0 empty.
+/// Each call that looks at the buffer.
 const CALLS: [Call; 5] = [
     Call::load(0),
     Call::store(0, 7),
