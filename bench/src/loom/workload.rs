@@ -16,7 +16,7 @@ pub enum Order {
     ByPicks,
 }
 
-const PICKS_PER_EPOCH: usize = 10;
+pub const PICKS_PER_EPOCH: usize = 10;
 
 impl Order {
     pub const ALL: [Order; 2] = [Order::ByPicks, Order::Scattered];

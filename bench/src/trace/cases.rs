@@ -70,34 +70,41 @@ const LARGEST: &str = "largest";
 const FIRST_RECORD_BROKEN: &str = "first_record_broken";
 
 /// Stored traces with other sizes than those that they are made for: N, L, S.
-const OTHER_SIZES: [([u64; 3], &str); 23] = [
-    ([2_048, 1, 1], SMALLEST),
-    ([1, 1_024, 1], SMALLEST),
+const OTHER_SIZES: [([u64; 3], &str); 29] = [
+    ([2_048, 1, 4], SMALLEST),
+    ([1, 1_024, 4], SMALLEST),
     ([1, 1, 64], SMALLEST),
-    ([2_049, 1, 1], SMALLEST),
-    ([1, 1_025, 1], SMALLEST),
+    ([2_049, 1, 4], SMALLEST),
+    ([1, 1_025, 4], SMALLEST),
     ([1, 1, 65], SMALLEST),
+    ([1, 1, 68], SMALLEST),
     ([2_049, 1_024, 64], LARGEST),
     ([2_048, 1_025, 64], LARGEST),
     ([2_048, 1_024, 65], LARGEST),
     // Those of the listing once they are cut to 32 bits.
-    ([(1 << 32) + 4, 8, 2], LISTING),
-    ([4, (1 << 32) + 8, 2], LISTING),
-    ([4, 8, (1 << 32) + 2], LISTING),
-    ([u64::MAX, 8, 2], LISTING),
-    ([4, u64::MAX, 2], LISTING),
+    ([(1 << 32) + 4, 8, 4], LISTING),
+    ([4, (1 << 32) + 8, 4], LISTING),
+    ([4, 8, (1 << 32) + 4], LISTING),
+    ([u64::MAX, 8, 4], LISTING),
+    ([4, u64::MAX, 4], LISTING),
     ([4, 8, u64::MAX], LISTING),
-    ([0, 8, 2], LISTING),
-    ([4, 0, 2], LISTING),
+    ([0, 8, 4], LISTING),
+    ([4, 0, 4], LISTING),
+    // Slots that are no whole sets.
     ([4, 8, 0], LISTING),
+    ([4, 8, 2], LISTING),
+    ([4, 8, 6], LISTING),
+    ([4, 8, 63], LISTING),
     // Format refuses before power-up does.
     ([0, 8, 0], LISTING),
     ([4, 0, 0], LISTING),
+    ([4, 0, 6], LISTING),
     // Sizes outside the replay's are refused before the wake.
     ([2_049, 8, 0], LISTING),
-    ([4, 1_025, 0], LISTING),
+    ([4, 1_025, 6], LISTING),
     // The board is woken before the first record is read.
     ([4, 8, 0], FIRST_RECORD_BROKEN),
+    ([4, 8, 6], FIRST_RECORD_BROKEN),
 ];
 
 /// Names under which there is no file to open: none at all, and a folder.
@@ -105,12 +112,13 @@ const ABSENT: &str = "absent.trace";
 const FOLDER: &str = ".";
 
 /// The board is woken before the file is opened.
-const NOT_OPENED: [([u64; 3], &str); 5] = [
-    ([4, 8, 2], ABSENT),
+const NOT_OPENED: [([u64; 3], &str); 6] = [
+    ([4, 8, 4], ABSENT),
     ([4, 8, 0], ABSENT),
-    ([0, 8, 2], ABSENT),
-    ([2_049, 8, 2], ABSENT),
-    ([4, 8, 2], FOLDER),
+    ([4, 8, 6], ABSENT),
+    ([0, 8, 4], ABSENT),
+    ([2_049, 8, 4], ABSENT),
+    ([4, 8, 4], FOLDER),
 ];
 
 /// A run: its arguments and the file's bytes, None where the file does not open. It shows as a line of the table.

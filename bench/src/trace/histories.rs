@@ -7,8 +7,11 @@ use crate::interface::RECORD_BYTES;
 use crate::random::Random;
 use crate::sizes::{Sizes, MOST_OF_THE_REPLAY};
 
-/// The sizes of the paper's listing, and of the traces that need no others.
-pub const SMALL: Sizes = sizes(4, 8, 2);
+/// The sizes of the paper's listing.
+const LISTED: Sizes = sizes(4, 8, 4);
+
+/// Those of the traces that need no others: more lines than slots.
+pub const SMALL: Sizes = sizes(8, 16, 4);
 
 const fn sizes(lines: u64, entries: u64, slots: u64) -> Sizes {
     Sizes { lines, entries, slots }
@@ -29,38 +32,55 @@ pub fn listing() -> (Sizes, Vec<u8>) {
         Call::SCAN,
         Call::SCAN,
         Call::SCAN,
+        Call::SCAN,
+        Call::SCAN,
         Call::load(0),
     ];
-    (SMALL, records(&calls))
+    (LISTED, records(&calls))
 }
 
-/// Loads, stores, evictions and scans make 4, 8, 12 and 1 board stores. At the end line 0 is dirty in its slot, its undo
-/// entry is buffered, and the next scan call ends a pass: an eviction of 0, a load of 2 and a scan would make 4 each.
+/// Loads, stores, evictions and scans make 10, 12, 13 and 5 board stores. At the end the four slots are dirty in the running
+/// epoch, line 0 in the first of them, its undo entry is buffered, and the next scan call ends a pass: an eviction of 0, a load
+/// of 2 and a scan would make 4 each.
 pub fn every_kind() -> Vec<Call> {
-    vec![
-        Call::store(0, 7),
-        Call::load(2),
-        Call::store(1, 5),
-        Call::store(3, 6),
-        Call::evict(3),
-        Call::COMMIT,
-        Call::SCAN,
-        Call::SCAN,
-        Call::SCAN,
-        Call::store(1, 9),
-        Call::store(3, 4),
-        Call::evict(3),
-        Call::store(1, 2),
-        Call::evict(1),
-        Call::COMMIT,
-        Call::SCAN,
-        Call::SCAN,
+    let parts: [&[Call]; 5] = [
+        &[
+            Call::store(0, 7),
+            Call::store(1, 5),
+            Call::store(3, 6),
+            Call::store(4, 1),
+        ],
+        &[Call::load(2), Call::evict(1), Call::COMMIT],
+        &[Call::SCAN; 5],
+        &second_epoch_of_every_kind(),
+        &[Call::SCAN; 4],
+    ];
+    let end = [
+        Call::store(3, 1),
+        Call::store(4, 1),
+        Call::store(6, 1),
+        Call::evict(6),
         Call::store(0, 3),
+    ];
+    [parts.concat(), end.to_vec()].concat()
+}
+
+/// Line 0 is of epoch 2 and in the first slot, so that line 5 takes its place in epoch 3.
+fn second_epoch_of_every_kind() -> [Call; 8] {
+    [
+        Call::store(1, 2),
+        Call::store(0, 9),
+        Call::store(3, 4),
+        Call::store(4, 4),
+        Call::COMMIT,
+        Call::store(1, 3),
+        Call::store(5, 8),
+        Call::evict(5),
     ]
 }
 
 /// Evictions of a dirty line with its entry buffered, of one not held, of a clean one, of one whose entry is flushed already,
-/// and of one whose slot holds another.
+/// and of one whose set holds another.
 pub fn evictions() -> (Sizes, Vec<u8>) {
     let calls = [
         Call::store(1, 7),
@@ -80,26 +100,26 @@ pub fn evictions() -> (Sizes, Vec<u8>) {
 /// A write-out of line 0, whose entry is in the log, beside a buffered entry for 233, in a load, a store, an eviction and a scan.
 /// Line 0 has bit 0 of the filter alone, and 233 * 40503 mod 65,536 = 15, so 233 has it too: each flushes.
 pub fn false_hits() -> (Sizes, Vec<u8>) {
-    // Line 0 dirty and its entry in the log, and an entry for 233 buffered, whether that line is held or not.
+    // With lines 2 and 4 the four slots are full before each hit, line 0 being in the first.
+    let at_first = [Call::store(0, 7), Call::store(2, 7), Call::store(4, 7)];
+    // Line 0 dirty and its entry in the log, and an entry for 233 buffered, whether lines 3 and 233 are held or not.
     let before_a_hit = [
+        Call::evict(3),
         Call::store(0, 7),
+        Call::evict(233),
         Call::store(1, 7),
         Call::evict(1),
-        Call::evict(233),
         Call::store(233, 7),
     ];
     let hits: [&[Call]; 4] = [
         &[Call::load(3)],
         &[Call::store(3, 7)],
         &[Call::evict(0)],
-        &[Call::COMMIT, Call::SCAN, Call::SCAN, Call::SCAN, Call::SCAN],
+        &[Call::COMMIT, Call::SCAN, Call::SCAN, Call::SCAN, Call::SCAN, Call::SCAN],
     ];
-    let calls: Vec<Call> = hits
-        .iter()
-        .flat_map(|hit| before_a_hit.iter().chain(*hit))
-        .copied()
-        .collect();
-    (sizes(234, 16, 3), records(&calls))
+    let with_hits = hits.iter().flat_map(|hit| before_a_hit.iter().chain(*hit));
+    let calls: Vec<Call> = at_first.iter().chain(with_hits).copied().collect();
+    (sizes(234, 16, 4), records(&calls))
 }
 
 /// Evictions of line 123, whose entry is in the log. It has the bits 123 and 70 of the filter; 157 has 157 and 123, 70 has 70 and
@@ -119,7 +139,7 @@ pub fn false_hit_of_two() -> (Sizes, Vec<u8>) {
         Call::store(157, 8),
         Call::evict(123),
     ];
-    (sizes(158, 8, 5), records(&calls))
+    (sizes(158, 8, 8), records(&calls))
 }
 
 /// Calls that are refused as address, room, waiting and none, and accepted ones after them.
@@ -140,6 +160,8 @@ pub fn refused() -> (Sizes, Vec<u8>) {
         Call::SCAN,
         Call::SCAN,
         Call::SCAN,
+        Call::SCAN,
+        Call::SCAN,
         Call::COMMIT,
         Call::COMMIT,
         Call::store(2, 9),
@@ -148,10 +170,10 @@ pub fn refused() -> (Sizes, Vec<u8>) {
         Call::store(0, 2),
         Call::evict(0),
     ]);
-    (sizes(4, 3, 2), records(&calls))
+    (sizes(4, 3, 4), records(&calls))
 }
 
-/// For a board of one line, one entry and one slot. With more of any of them it has other totals.
+/// For a board of one line, one entry and one set. With more of any of them it has other totals.
 pub fn smallest() -> (Sizes, Vec<u8>) {
     let calls = [
         Call::store(0, 7),
@@ -163,10 +185,15 @@ pub fn smallest() -> (Sizes, Vec<u8>) {
         Call::SCAN,
         Call::SCAN,
         Call::SCAN,
+        Call::SCAN,
+        Call::SCAN,
+        Call::SCAN,
+        Call::store(1, 9),
+        Call::evict(1),
         Call::store(0, 9),
         Call::load(0),
     ];
-    (sizes(1, 1, 1), records(&calls))
+    (sizes(1, 1, 4), records(&calls))
 }
 
 /// Each entry, slot and last address of the largest board is used.

@@ -5,7 +5,7 @@ use super::run::{Outcome, Run, Totals};
 use crate::call::Call;
 use crate::handwritten::names::name_of;
 use crate::interface::{NONE, OK};
-use crate::loom::workload::{lines_of_pick, pick_of, Order, Work, STORES_PER_EPOCH};
+use crate::loom::workload::{lines_of_pick, pick_of, Order, Work, PICKS_PER_EPOCH, STORES_PER_EPOCH};
 use crate::random::Random;
 use crate::replay::line_of;
 use crate::repository::write;
@@ -69,11 +69,15 @@ fn epoch(work: Work, random: &mut Random) -> Vec<Call> {
     calls
 }
 
-/// The controller reads the lines of the next pick, and then gives back those of the one that is done, for which it has no
-/// use before the next epoch. Some of these are in the way of the others: so loads make board stores, and evictions the rest.
+/// The controller reads the lines of the next pick, and then gives back those of the pick before the one that is done, for which
+/// it has no use before the next epoch. Those of two picks fill the cache, and some are in the way of the third's: so loads make
+/// board stores, and evictions the rest.
 fn change_of_picks(lines: &[u64], done: usize) -> impl Iterator<Item = Call> + '_ {
     let loads = lines_of_pick(lines, done + 1).iter().copied().map(Call::load);
-    let evictions = lines_of_pick(lines, done).iter().copied().map(Call::evict);
+    let evictions = lines_of_pick(lines, done + PICKS_PER_EPOCH - 1)
+        .iter()
+        .copied()
+        .map(Call::evict);
     loads.chain(evictions)
 }
 

@@ -42,22 +42,30 @@ fn the_listing_stores_at_its_last_scan_alone() {
 #[test]
 fn lines_worked_by_hand() {
     assert_eq!(line("empty"), "ok 0 0 0 0");
-    assert_eq!(line("every_kind"), "ok 4 8 12 1");
+    // Line 2 takes the slot of line 0, with four entries (10). Line 1 goes alone (1); lines 3 and 4, then the control word (3). Line 5
+    // takes the slot of line 0 with five entries (12), and goes with its own (4); lines 3 and 4 again (2); line 6 goes with three (8).
+    assert_eq!(line("every_kind"), format!("ok 10 12 {} {}", 1 + 4 + 8, 3 + 2));
     assert_eq!(line("evictions"), "ok 0 0 11 0");
-    assert_eq!(line("refused"), "ok 4 6 8 2");
+    // Line 2 with three entries (8); lines 0 and 1 and the control word (3); line 0 with two entries (6).
+    assert_eq!(line("refused"), format!("ok 0 0 {} 3", 8 + 6));
     assert_eq!(line("smallest"), "ok 0 0 4 1");
-    // A flush at each 32nd of 1,024 entries, and a line at each store but the first 64.
-    assert_eq!(line("largest"), format!("ok 1 {} 1 63", 32 * 65 + 960));
+    // The first 64 stores fill the cache and flush twice. Each of the other 960 takes the first slot of its set, and so the place of the
+    // 16th before it: a line each, and with the entry of that, from the 17th on, a flush of 16 at each 16th. 16 stay
+    // buffered, and go with line 2,047.
+    let flushes = 960 / 16 - 1;
+    let stores = 2 * 65 + 960 + flushes * 33;
+    assert_eq!(line("largest"), format!("ok 1 {stores} {} 63", 33 + 1));
 }
 
 #[test]
 fn lines_with_false_hits_worked_by_hand() {
     // Each hit makes 4 stores: the entry for 233, the control word, line 0. To come to it, line 1 is evicted with its entry and
-    // that of line 0 (6), and from the second time on line 233, whose entry is in the log (1). Line 3, stored to for the second
-    // hit, gives way to line 0 with its entry (4). Behind the last hit, the scans store line 233 and the control word.
+    // that of line 0 (6), the first time with those of 2 and 4 as well (10), and from the second time on line 233, whose entry is in
+    // the log (1). Line 3, stored to for the second hit, gives way to line 0 with its entry (4). Behind the last hit, the scans
+    // store lines 2, 4 and 233 and the control word.
     assert_eq!(
         line("false_hits"),
-        format!("ok 4 {} {} {}", 4 + 4, 4 * 6 + 3 + 4, 4 + 2)
+        format!("ok 4 4 {} {}", 10 + 3 * 6 + 3 + 4 + 4, 4 + 4)
     );
     // Line 4 with two entries, 123 alone, 4 with three, 157 alone; then 123 with the entries for 70 and 157.
     assert_eq!(line("false_hit_of_two"), format!("ok 0 0 {} 0", 6 + 1 + 8 + 1 + 6));
@@ -73,23 +81,23 @@ fn refused_calls_occur_and_end_nothing() {
 #[test]
 fn a_broken_record_ends_the_run_before_its_call() {
     for (name, ..) in BROKEN {
-        assert_eq!(line(name), "trace 4 8 12 1", "{name}");
+        assert_eq!(line(name), "trace 10 12 13 5", "{name}");
     }
     assert_eq!(line("first_record_broken"), "trace 0 0 0 0");
 }
 
 #[test]
 fn a_call_made_for_a_broken_record_or_after_it_would_show() {
-    assert_eq!(line_with(&[Call::evict(0)]), "ok 4 8 16 1");
-    assert_eq!(line_with(&[Call::load(2)]), "ok 8 8 12 1");
-    assert_eq!(line_with(&[Call::SCAN]), "ok 4 8 12 5");
-    assert_ne!(line_with(&every_kind()), "ok 4 8 12 1");
+    assert_eq!(line_with(&[Call::evict(0)]), "ok 10 12 17 5");
+    assert_eq!(line_with(&[Call::load(2)]), "ok 14 12 13 5");
+    assert_eq!(line_with(&[Call::SCAN]), "ok 10 12 13 9");
+    assert_ne!(line_with(&every_kind()), "ok 10 12 13 5");
 }
 
 #[test]
 fn a_record_that_ends_early_ends_the_run() {
     for (name, _) in PARTS {
-        assert_eq!(line(name), "trace 4 8 12 1", "{name}");
+        assert_eq!(line(name), "trace 10 12 13 5", "{name}");
     }
     assert_eq!(line("only_1_byte"), "trace 0 0 0 0");
     assert_eq!(line("only_15_bytes"), "trace 0 0 0 0");
@@ -126,23 +134,25 @@ fn traces_reach_to_64_kib_and_beyond() {
 
 #[test]
 fn each_size_of_a_board_counts() {
-    assert_eq!(table("2048 1 1 smallest.trace: "), ["ok 4 0 0 1"]);
-    assert_eq!(table("1 1024 1 smallest.trace: "), ["ok 0 0 6 1"]);
+    assert_eq!(table("2048 1 4 smallest.trace: "), ["ok 0 0 8 1"]);
+    assert_eq!(table("1 1024 4 smallest.trace: "), ["ok 0 0 6 1"]);
     assert_eq!(table("1 1 64 smallest.trace: "), ["ok 0 0 4 0"]);
 }
 
 #[test]
 fn the_wake_comes_before_the_file() {
-    assert_eq!(
-        table("4 8 0 "),
-        [
-            "listing.trace: work 0 0 0 0",
-            "first_record_broken.trace: work 0 0 0 0",
-            "absent.trace: work 0 0 0 0"
-        ]
-    );
-    assert_eq!(table("0 8 2 absent.trace: "), ["shape 0 0 0 0"]);
-    assert_eq!(table("4 8 2 absent.trace: "), ["trace 0 0 0 0"]);
+    for sizes in ["4 8 0 ", "4 8 6 "] {
+        assert_eq!(
+            table(sizes),
+            [
+                "listing.trace: work 0 0 0 0",
+                "first_record_broken.trace: work 0 0 0 0",
+                "absent.trace: work 0 0 0 0"
+            ]
+        );
+    }
+    assert_eq!(table("0 8 4 absent.trace: "), ["shape 0 0 0 0"]);
+    assert_eq!(table("4 8 4 absent.trace: "), ["trace 0 0 0 0"]);
 }
 
 #[test]
@@ -151,8 +161,10 @@ fn sizes_outside_the_replays_are_shape() {
         "2049 1024 64",
         "2048 1025 64",
         "2048 1024 65",
+        "1 1 68",
         "2049 8 0",
-        "18446744073709551615 8 2",
+        "4 1025 6",
+        "18446744073709551615 8 4",
     ] {
         let lines = table(sizes);
         assert!(!lines.is_empty(), "{sizes}");
