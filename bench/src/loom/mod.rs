@@ -1,5 +1,5 @@
 //! What the loom's work asks of a board: undo entries, waiting epochs, board stores and the filter's false hits, counted by
-//! replaying it on the library, and the log's size that follows, tried out.
+//! replaying it on the library, and the log's size that follows, tried out. Each plan is a line of one table.
 
 mod controller;
 pub mod workload;
@@ -9,34 +9,53 @@ use workload::{Order, LINES_OF_A_LOOM, STORES_PER_EPOCH};
 
 use crate::handwritten::layout::MOST_ENTRIES;
 
-const SLOTS: [usize; 2] = [64, 256];
+const SLOTS: [usize; 3] = [64, 128, 256];
 
 /// Scan calls an epoch, as multiples of the S + 1 that persist one.
 const SCAN_RATES: [usize; 2] = [1, 2];
 
+/// A plan and what it took, or the headings: one line of the table.
+macro_rules! print_line {
+    ($($cell:expr),* $(,)?) => {
+        println!("{:<15}{:>4}{:>7}{:>9}{:>9}{:>8}{:>9}{:>8}{:>8}{:>8}{:>11}{:>7}{:>9}", $($cell),*)
+    };
+}
+
 pub fn print_figures() -> Result<(), String> {
     println!(
-        "The loom: {STORES_PER_EPOCH} stores to {LINES_OF_A_LOOM} lines and as many loads an epoch; {EPOCHS_COUNTED} epochs \
-         counted.\n"
+        "The loom: {STORES_PER_EPOCH} stores and as many loads an epoch, to {LINES_OF_A_LOOM} lines (jacquard: to 20 pairs); \
+         {EPOCHS_COUNTED} epochs counted.\n\
+         log needed: the most entries at once, in log and buffer; with a log of one less, so many stores are refused for room.\n"
     );
-    println!(
-        "{:<10}{:>5}{:>7}{:>9}{:>9}{:>9}{:>9}{:>9}{:>9}{:>9}{:>11}{:>9}",
+    print_line!(
         "order",
         "S",
         "scans",
         "entries",
         "waiting",
-        "entries",
+        "log",
         "stores",
         "entry",
         "control",
         "line",
         "write-outs",
-        "false"
+        "false",
+        "refused"
     );
-    println!(
-        "{:<10}{:>5}{:>7}{:>9}{:>9}{:>9}{:>9}{:>9}{:>9}{:>9}{:>11}{:>9}",
-        "", "", "/epoch", "/epoch", "at once", "at once", "/epoch", "words", "words", "words", "with b > 0", "hits"
+    print_line!(
+        "",
+        "",
+        "/epoch",
+        "/epoch",
+        "at once",
+        "needed",
+        "/epoch",
+        "words",
+        "words",
+        "words",
+        "with b > 0",
+        "hits",
+        "below"
     );
     for order in Order::ALL {
         for slots in SLOTS {
@@ -58,8 +77,7 @@ fn print_row(order: Order, slots: usize, scans_per_epoch: usize) -> Result<(), S
     let figures = work_through(plan)?;
     let [entry_words, control_words, line_words] =
         [figures.entry_stores, figures.control_stores, figures.line_stores].map(per_epoch);
-    println!(
-        "{:<10}{:>5}{:>7}{:>9}{:>9}{:>9}{:>9}{:>9}{:>9}{:>9}{:>11}{:>9.2}",
+    print_line!(
         order.name(),
         slots,
         scans_per_epoch,
@@ -71,25 +89,20 @@ fn print_row(order: Order, slots: usize, scans_per_epoch: usize) -> Result<(), S
         control_words,
         line_words,
         per_epoch(figures.write_outs_beside_entries),
-        figures.false_hits as f64 / EPOCHS_COUNTED as f64
+        format!("{:.2}", figures.false_hits as f64 / EPOCHS_COUNTED as f64),
+        refused_below(plan, figures)?
     );
-    try_log_size(plan, figures)
+    Ok(())
 }
 
-/// The same work with a log of just the size that was needed, and with one entry less.
-fn try_log_size(plan: Plan, figures: Figures) -> Result<(), String> {
+/// The same work with a log of just the size that was needed, and with one entry less: how many stores are refused for room then.
+fn refused_below(plan: Plan, figures: Figures) -> Result<u64, String> {
     let enough = figures.most_entries_at_once;
     let refused = |entries| work_through(Plan { entries, ..plan }).map(|figures| figures.refused_for_room);
-    let (at_size, below) = (refused(enough)?, refused(enough - 1)?);
-    println!(
-        "{:<10}L = {enough}: {at_size} stores refused for room; L = {}: {below}",
-        "",
-        enough - 1
-    );
-    if at_size != 0 || below == 0 {
-        return Err("the log's size is not what the replay says".to_string());
+    match (refused(enough)?, refused(enough - 1)?) {
+        (0, below @ 1..) => Ok(below),
+        _ => Err("the log's size is not what the replay says".to_string()),
     }
-    Ok(())
 }
 
 fn per_epoch(count: u64) -> u64 {

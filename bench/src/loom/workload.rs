@@ -7,24 +7,35 @@ pub const STORES_PER_EPOCH: usize = 2_600;
 pub const LINES_OF_A_LOOM: usize = 400;
 
 /// How an epoch's stores go over the lines. The customer counted stores and lines, not their order, so both ends are
-/// measured.
+/// measured, and what he tells of Jacquard patterns.
 #[derive(Clone, Copy, Debug, PartialEq, Eq)]
 pub enum Order {
     /// Each store is to any of the lines, and these stand anywhere on the board: hardly a line is found in the cache again.
     Scattered,
     /// Ten picks an epoch: each pick works on lines of its own, side by side, over and over.
     ByPicks,
+    /// The same, and at the end of a pick the controller evicts its lines.
+    ByPicksEvicted,
+    /// Pairs of lines that a cache of 64, 128 or 256 slots with one slot for a line has in one slot: a store to one of them, and
+    /// then a load of the other, all day.
+    Jacquard,
 }
 
 pub const PICKS_PER_EPOCH: usize = 10;
 
+const PAIRS: u64 = 20;
+/// A multiple of every number of slots that the work is measured with.
+const PAIR_DISTANCE: u64 = 256;
+
 impl Order {
-    pub const ALL: [Order; 2] = [Order::ByPicks, Order::Scattered];
+    pub const ALL: [Order; 4] = [Order::ByPicks, Order::ByPicksEvicted, Order::Scattered, Order::Jacquard];
 
     pub fn name(self) -> &'static str {
         match self {
             Order::Scattered => "scattered",
             Order::ByPicks => "by picks",
+            Order::ByPicksEvicted => "picks, evicted",
+            Order::Jacquard => "jacquard",
         }
     }
 
@@ -32,7 +43,8 @@ impl Order {
     pub fn lines(self, random: &mut Random, board_lines: u64) -> Vec<u64> {
         match self {
             Order::Scattered => scattered_lines(random, board_lines),
-            Order::ByPicks => (0..LINES_OF_A_LOOM as u64).collect(),
+            Order::ByPicks | Order::ByPicksEvicted => (0..LINES_OF_A_LOOM as u64).collect(),
+            Order::Jacquard => (0..PAIRS).flat_map(|line| [line, line + PAIR_DISTANCE]).collect(),
         }
     }
 
@@ -40,10 +52,29 @@ impl Order {
     pub fn address(self, random: &mut Random, lines: &[u64], turn: usize) -> u64 {
         match self {
             Order::Scattered => random.pick(lines),
-            Order::ByPicks => {
+            Order::ByPicks | Order::ByPicksEvicted => {
                 let lines = lines_of_pick(lines, pick_of(turn));
                 lines[turn % lines.len()]
             }
+            Order::Jacquard => lines[turn % lines.len()],
+        }
+    }
+
+    /// The address of the access that comes after that store.
+    fn accessed(self, random: &mut Random, lines: &[u64], turn: usize) -> u64 {
+        match self {
+            // The lines of a pair are neighbours in the list, the first in an even place.
+            Order::Jacquard => lines[turn % lines.len() ^ 1],
+            _ => self.address(random, lines, turn),
+        }
+    }
+
+    /// What the controller evicts after a turn.
+    fn evicted(self, lines: &[u64], turn: usize) -> &[u64] {
+        if self == Order::ByPicksEvicted && pick_of(turn + 1) != pick_of(turn) {
+            lines_of_pick(lines, pick_of(turn))
+        } else {
+            &[]
         }
     }
 }
@@ -77,13 +108,18 @@ impl Work<'_> {
         turns.chain([Call::COMMIT]).collect()
     }
 
-    /// A store, an access, and the scan calls that are due then: they are spread evenly over the epoch.
+    /// A store, an access, and the scan calls that are due then: they are spread evenly over the epoch. Then what is evicted.
     pub fn turn(self, random: &mut Random, turn: usize) -> Vec<Call> {
         let store = Call::store(self.order.address(random, self.lines, turn), random.word());
-        let access = (self.access)(self.order.address(random, self.lines, turn));
+        let access = (self.access)(self.order.accessed(random, self.lines, turn));
         let scans_before = |turn: usize| (turn * self.scans_per_epoch).div_ceil(STORES_PER_EPOCH);
         let scans = scans_before(turn + 1) - scans_before(turn);
-        [store, access].into_iter().chain(vec![Call::SCAN; scans]).collect()
+        let evicted = self.order.evicted(self.lines, turn).iter().copied();
+        [store, access]
+            .into_iter()
+            .chain(vec![Call::SCAN; scans])
+            .chain(evicted.map(Call::evict))
+            .collect()
     }
 }
 
