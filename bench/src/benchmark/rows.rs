@@ -68,7 +68,7 @@ const fn row(name: &'static str, about: &'static str, only: Option<Kind>, build:
     }
 }
 
-pub static ROWS: [Row; 16] = [
+pub static ROWS: [Row; 18] = [
     row(
         "loom-64",
         "a loom's epoch, S = 64: 2,600 stores, 2,600 loads, 65 scans, 1 commit",
@@ -97,9 +97,21 @@ pub static ROWS: [Row; 16] = [
     }),
     row(
         "conflict",
-        "stores to 16 lines of one slot: each empties a dirty slot and flushes",
+        "stores to 16 lines of one set that is dirty: each empties its first slot and flushes",
         None,
         || traces::conflict(64),
+    ),
+    row(
+        "jacquard",
+        "an epoch on pairs of lines that shared a slot, S = 64: 2,600 stores, 2,600 loads, 65 scans, 1 commit",
+        None,
+        || traces::jacquard(64),
+    ),
+    row(
+        "last-slots",
+        "loads of the 64 lines in the last slots of their sets, S = 256: no board store",
+        None,
+        || traces::loads_of_last_slots(256),
     ),
     row(
         "evict",

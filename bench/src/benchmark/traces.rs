@@ -3,7 +3,7 @@
 use super::region::{Memories, Start};
 use crate::call::Call;
 use crate::handwritten::layout::{
-    entry_place, Control, Range, BUFFER_ENTRIES, CONTROL_PLACE, MOST_AHEAD, MOST_ENTRIES, MOST_LINES,
+    entry_place, Control, Range, BUFFER_ENTRIES, CONTROL_PLACE, MOST_AHEAD, MOST_ENTRIES, MOST_LINES, WAYS,
 };
 use crate::handwritten::HandWritten;
 use crate::interface::{Answer, NO_REGISTERS, OK};
@@ -39,9 +39,8 @@ fn after(start: Start, calls: &[Call]) -> Start {
 }
 
 /// An epoch in the midst of work: one epoch waits before it, which its scan calls persist.
-fn epoch_in_midst(slots: usize, access: fn(u64) -> Call) -> (Start, Vec<Call>) {
+fn epoch_in_midst(order: Order, slots: usize, access: fn(u64) -> Call) -> (Start, Vec<Call>) {
     let random = &mut Random::new(SEED);
-    let order = Order::Scattered;
     let lines = order.lines(random, MOST_LINES);
     let before = Work {
         order,
@@ -62,24 +61,44 @@ fn epoch_in_midst(slots: usize, access: fn(u64) -> Call) -> (Start, Vec<Call>) {
 }
 
 pub fn loom(slots: usize) -> (Start, Vec<Call>) {
-    epoch_in_midst(slots, Call::load)
+    epoch_in_midst(Order::Scattered, slots, Call::load)
 }
 
 pub fn loom_with_evictions(slots: usize) -> (Start, Vec<Call>) {
-    epoch_in_midst(slots, Call::evict)
+    epoch_in_midst(Order::Scattered, slots, Call::evict)
 }
 
-/// Stores by turns to lines of one slot: each one empties it of a line whose undo entry is buffered.
+pub fn jacquard(slots: usize) -> (Start, Vec<Call>) {
+    epoch_in_midst(Order::Jacquard, slots, Call::load)
+}
+
+/// Stores by turns to lines of one set, all of whose slots are dirty in the running epoch: three stale lines keep theirs, and
+/// each store empties the first slot of a line whose undo entry is buffered.
 pub fn conflict(slots: usize) -> (Start, Vec<Call>) {
-    const LINES_IN_THE_SLOT: usize = 16;
+    const FIGHTING: usize = 16;
     let random = &mut Random::new(SEED);
-    let addresses = (0..LINES_IN_THE_SLOT).map(|turn| (5 + turn * slots) as u64);
-    let stores: Vec<Call> = addresses
-        .cycle()
-        .take(STORES_PER_EPOCH)
-        .map(|address| Call::store(address, random.word()))
-        .collect();
-    (after(fresh_board(slots), &stores), stores)
+    let mut store = |place: usize| Call::store((5 + place * slots) as u64, random.word());
+    // A line in the first slot, the stale ones in the others, and a second line, which flushes what they have buffered.
+    let stale = FIGHTING..FIGHTING + WAYS - 1;
+    let before: Vec<Call> = [0].into_iter().chain(stale).chain([1]).map(&mut store).collect();
+    let turns = (0..FIGHTING).cycle().skip(2).take(STORES_PER_EPOCH);
+    let stores: Vec<Call> = turns.map(store).collect();
+    let start = after(fresh_board(slots), &before);
+    let mut memories = Memories::<HandWritten>::new(&start);
+    for &call in &stores {
+        let Answer { number, stores, .. } = memories.make(call);
+        // An entry, the control word and the line.
+        assert_eq!((number, stores), (OK, 4), "{call}");
+    }
+    (start, stores)
+}
+
+/// Loads of the lines in the last slot of each set, all slots being dirty.
+pub fn loads_of_last_slots(slots: usize) -> (Start, Vec<Call>) {
+    let stores: Vec<Call> = (0..slots as u64).map(|line| Call::store(line, line)).collect();
+    let start = after(fresh_board(slots), &stores);
+    let last_slots = (slots - slots / WAYS) as u64..slots as u64;
+    (start, last_slots.map(Call::load).collect())
 }
 
 /// Evictions of dirty lines whose entries are in the log, with 31 entries of other lines buffered: each makes one board store,
