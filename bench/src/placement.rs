@@ -1,6 +1,6 @@
 //! The slot that a line has or takes, as a work memory shows it before a call: looked for rule by rule, not as the calls do.
 
-use crate::handwritten::layout::{slot_count, slots_of, SlotWord, MOST_LINES, WAYS};
+use crate::handwritten::layout::{slot_count, slots_of, SlotWord, WAYS};
 
 #[derive(Clone, Copy, Debug, PartialEq, Eq)]
 pub struct Placement {
@@ -9,10 +9,10 @@ pub struct Placement {
     pub is_held: bool,
 }
 
-/// The number of an address's set and its words, in a work memory that has a right length.
+/// The number of an address's set and its words, in a work memory that has a right length. Any number has a set.
 pub fn set_of(work: &[u64], address: u64) -> Option<(usize, [SlotWord; WAYS])> {
     let slots = slot_count(work.len())?;
-    let set = (address < MOST_LINES).then_some(address as usize % (slots / WAYS))?;
+    let set = (address % (slots / WAYS) as u64) as usize;
     let words = |way: usize| SlotWord(slots_of(work, slots)[WAYS * set + way][0]);
     Some((set, std::array::from_fn(words)))
 }

@@ -4,19 +4,15 @@
 mod seen;
 mod steps;
 
+use super::turn_lists;
 use crate::call::Kind;
 use crate::interface::{BUFFER, CUT, FILTER, LAST, NONE, ROOM, WAITING};
 pub use seen::Seen;
 
-type Turn = fn(&Seen) -> bool;
+type Turn = turn_lists::Turn<Seen>;
+type List = turn_lists::List<Seen>;
 
-/// What each of some kinds of calls has to do.
-struct List {
-    kinds: &'static [Kind],
-    turns: &'static [(&'static str, Turn)],
-}
-
-/// The calls that visit the slot of an address, those that visit a slot, and those that test the registers.
+/// The calls that visit the set of an address, those that visit a set or a slot, and those that test the registers.
 const WITH_ADDRESS: &[Kind] = &[Kind::Load, Kind::Store, Kind::Evict];
 const VISITING: &[Kind] = &[Kind::Load, Kind::Store, Kind::Evict, Kind::Scan];
 const TESTING: &[Kind] = &[
@@ -39,7 +35,10 @@ const TAKING: &[Kind] = &[
     Kind::Tally,
 ];
 
-const LISTS: [List; 8] = [
+/// Every list.
+pub static ALL: [&[List]; 2] = [&LISTS, &steps::LISTS];
+
+static LISTS: [List; 8] = [
     List {
         kinds: TAKING,
         turns: &OF_THE_ARRAY,
@@ -85,12 +84,23 @@ const OF_THE_ARRAY: [(&str, Turn); 2] = [
     }),
 ];
 
-const OF_AN_ADDRESS: [(&str, Turn); 7] = [
+const OF_AN_ADDRESS: [(&str, Turn); 11] = [
     ("regs for a count of 0 beside its own line, dirty", |seen| {
-        seen.is_by_test() && seen.is_none_beside_dirty() && seen.is_held()
+        seen.is_by_test() && seen.is_none_beside_dirty() && seen.is_held() && seen.visits_dirty()
     }),
-    ("regs for a count of 0 beside another line, dirty", |seen| {
-        seen.is_by_test() && seen.is_none_beside_dirty() && !seen.is_held()
+    ("regs for a count of 0 beside other lines alone, all dirty", |seen| {
+        seen.is_by_test() && seen.is_none_beside_dirty() && !seen.is_held() && seen.visits_dirty()
+    }),
+    (
+        "regs for a count of 0 beside another line, dirty, its own being clean",
+        |seen| seen.is_by_test() && seen.is_none_beside_dirty() && seen.is_held() && seen.visits_clean(),
+    ),
+    (
+        "regs for a count of 0 beside another line, dirty, with an empty slot",
+        |seen| seen.is_by_test() && seen.is_none_beside_dirty() && !seen.is_held() && seen.visits_empty(),
+    ),
+    ("regs for a count of 0 beside the last slot alone, dirty", |seen| {
+        seen.is_by_test() && seen.is_none_beside_dirty() && seen.is_dirty_in_last_alone()
     }),
     ("regs for a count of S beside its own line, clean", |seen| {
         seen.is_by_test() && seen.is_all_beside_not_dirty() && seen.visits_clean() && seen.is_held()
@@ -98,6 +108,10 @@ const OF_AN_ADDRESS: [(&str, Turn); 7] = [
     ("regs for a count of S beside another line, clean", |seen| {
         seen.is_by_test() && seen.is_all_beside_not_dirty() && seen.visits_clean() && !seen.is_held()
     }),
+    (
+        "regs for a count of S beside another slot, not dirty, its own line being dirty",
+        |seen| seen.is_by_test() && seen.is_all_beside_not_dirty() && seen.visits_dirty() && seen.is_held(),
+    ),
     ("address, and a count of 0 beside a dirty slot", |seen| {
         seen.is_for_address() && seen.is_none_beside_dirty()
     }),
@@ -200,44 +214,3 @@ const OF_A_TALLY: [(&str, Turn); 6] = [
         seen.is_ok() && seen.would_be() == LAST
     }),
 ];
-
-/// Each turn, with the kind of call that has to take it.
-fn all() -> impl Iterator<Item = (Kind, &'static str, Turn)> {
-    let of_list = |list: &'static List| {
-        let of_kind = |&kind| list.turns.iter().map(move |&(what, turn)| (kind, what, turn));
-        list.kinds.iter().flat_map(of_kind)
-    };
-    LISTS.iter().chain(&steps::LISTS).flat_map(of_list)
-}
-
-/// How often each turn was taken.
-#[derive(Clone)]
-pub struct Counts(Vec<u64>);
-
-impl Default for Counts {
-    fn default() -> Self {
-        Counts(vec![0; all().count()])
-    }
-}
-
-impl Counts {
-    pub fn count(&mut self, seen: &Seen) {
-        for (count, (kind, _, turn)) in self.0.iter_mut().zip(all()) {
-            *count += u64::from(kind == seen.kind && turn(seen));
-        }
-    }
-
-    pub fn iter(&self) -> impl Iterator<Item = &u64> {
-        self.0.iter()
-    }
-
-    pub fn iter_mut(&mut self) -> impl Iterator<Item = &mut u64> {
-        self.0.iter_mut()
-    }
-
-    /// What each turn is, and its count.
-    pub fn named(&self) -> impl Iterator<Item = (String, u64)> + '_ {
-        let names = all().map(|(kind, what, _)| format!("{}: {what}", kind.name()));
-        names.zip(self.0.iter().copied())
-    }
-}

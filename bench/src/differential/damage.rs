@@ -2,20 +2,22 @@
 
 use super::sides::Lent;
 use crate::handwritten::layout::{
-    FilterBit, Range, Shape, SlotWord, BUFFER_ENTRIES, ENTRY_WORDS, FILTER_BITS, LAST_ADDRESS, LAST_EPOCH, MOST_AHEAD,
+    slot_place, FilterBit, Range, Shape, SlotWord, BUFFER_ENTRIES, ENTRY_WORDS, FILTER_BITS, LAST_ADDRESS, LAST_EPOCH,
+    MOST_AHEAD, WAYS,
 };
 use crate::interface::REGISTER_WORDS;
 use crate::random::Random;
 
 /// Does one thing to a state with a board of at least two words.
 pub fn damage(random: &mut Random, state: &mut Lent) {
-    let kinds: [fn(&mut Random, &mut Lent); 14] = [
+    let kinds: [fn(&mut Random, &mut Lent); 15] = [
         flip_a_bit,
         damage_control,
         damage_shape,
         damage_log_entry,
         damage_slot,
         damage_slot,
+        hold_a_line_twice,
         damage_buffer,
         damage_buffer,
         damage_filter,
@@ -172,7 +174,7 @@ fn damaged_slot(random: &mut Random, state: &Lent, place: u64, slots: u64) -> Sl
     let address = match random.below(4) {
         0 => old.address(),
         1 => lines & LAST_ADDRESS,
-        2 => (place + slots * random.below(3)) & LAST_ADDRESS,
+        2 => (place / WAYS as u64 + slots / WAYS as u64 * random.below(12)) & LAST_ADDRESS,
         _ => random.below(lines.max(1)) & LAST_ADDRESS,
     };
     let tag = match random.below(3) {
@@ -188,6 +190,22 @@ fn damaged_slot(random: &mut Random, state: &Lent, place: u64, slots: u64) -> Sl
         4 => SlotWord(SlotWord::dirty(address, tag).0 & !SlotWord::VALID),
         _ => SlotWord(SlotWord::dirty(address, tag).0 | 1 << random.below(u64::from(SlotWord::ZERO_BITS))),
     }
+}
+
+/// Two slots of a set with one line: the word of one in the place of the other, most times of the slot under the scan's cursor.
+fn hold_a_line_twice(random: &mut Random, state: &mut Lent) {
+    let slots = state.slots() as u64;
+    if slots < WAYS as u64 {
+        return flip_a_bit(random, state);
+    }
+    let any = random.below(slots);
+    let cursor = state.registers().cursor.min(slots - 1);
+    let place = random.pick(&[cursor, any]);
+    let other = place - place % WAYS as u64 + random.below(WAYS as u64);
+    if other < slots {
+        state.set_slot(other as usize, state.slot(place as usize));
+    }
+    state.set_count(state.dirty_slots());
 }
 
 fn damage_registers(random: &mut Random, state: &mut Lent) {
@@ -212,14 +230,14 @@ fn damage_registers(random: &mut Random, state: &mut Lent) {
 /// A count with a bit from here on is proper if it is cut to half a word, or to less.
 const LOWEST_UPPER_BIT: u64 = 32;
 
-/// A count of dirty slots that is one more or less than it was, none, all, just more than all, as large as may be, too large
-/// by its upper bits alone, or any.
+/// A count of dirty slots that is one more or less than it was, none or one, all or all but one, just more than all, as large as
+/// may be, too large by its upper bits alone, or any.
 pub fn damage_count(random: &mut Random, state: &mut Lent) {
     let slots = state.slots() as u64;
     let count = match random.below(9) {
         0..3 => random.near(state.registers().dirty, 1),
-        3 => 0,
-        4 => slots,
+        3 => random.below(2),
+        4 => slots.saturating_sub(random.below(2)),
         5 => slots + 1,
         6 => u64::MAX,
         7 => random.with_an_upper_bit(slots, LOWEST_UPPER_BIT),
@@ -242,6 +260,8 @@ fn change_length(random: &mut Random, state: &mut Lent) {
     } else {
         &mut state.work
     };
-    let length = random.near(memory.len() as u64, 3).max(2) as usize;
+    // By a few words, or by a whole set of slots.
+    let reach = random.pick(&[3, slot_place(WAYS) as u64]);
+    let length = random.near(memory.len() as u64, reach).max(2) as usize;
     memory.resize(length, random.word());
 }

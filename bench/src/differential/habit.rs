@@ -2,7 +2,7 @@
 
 use super::player::{Outcome, Player};
 use crate::call::{Call, NO_CUT};
-use crate::handwritten::layout::{FilterBit, ENTRY_WORDS, FILTER_BITS, MOST_LINES};
+use crate::handwritten::layout::{FilterBit, ENTRY_WORDS, FILTER_BITS, MOST_LINES, WAYS};
 use crate::interface::{NONE, ROOM, WAITING};
 use crate::random::Random;
 use crate::sizes::Sizes;
@@ -117,16 +117,16 @@ impl Habit {
     }
 }
 
-/// None, some anywhere, some that meet in one or two slots, a row of which no two meet, or some that meet in the filter.
+/// None, some anywhere, some that meet in one or two sets, a row of which four meet in each, or some that meet in the filter.
 fn hot_addresses(random: &mut Random, sizes: Sizes) -> Vec<u64> {
     let count = random.between(1, 24);
     match random.below(5) {
         0 => Vec::new(),
         1 => (0..count).map(|_| random.below(sizes.lines)).collect(),
         2 => {
-            let slot = random.below(sizes.slots);
+            let set = random.below(sizes.sets());
             (0..count)
-                .map(|turn| slot + turn % 2 + sizes.slots * random.below(6))
+                .map(|turn| set + turn % 2 + sizes.sets() * random.below(12))
                 .map(|address| address % sizes.lines)
                 .collect()
         }
@@ -135,15 +135,16 @@ fn hot_addresses(random: &mut Random, sizes: Sizes) -> Vec<u64> {
     }
 }
 
-/// A line, lines with its bits, so that it may be a false hit, and another line for its slot. Lines on a small board may
-/// have no bits in common: then just the line and the other.
+/// A line, lines with its bits, so that it may be a false hit, and as many other lines of its set as there are slots. Lines on a
+/// small board may have no bits in common: then just the line and the others.
 fn meeting_in_the_filter(random: &mut Random, sizes: Sizes) -> Vec<u64> {
-    let Sizes { lines, slots, .. } = sizes;
+    let lines = sizes.lines;
     let address = *meeting_lines(lines)
         .get(random.below(8) as usize)
         .unwrap_or(&random.below(lines));
     let [first, second] = FilterBit::both_of(address).map(|bit| others_with(bit, address, lines));
-    let mut hot = vec![address, (address + slots) % lines];
+    let of_its_set = |turn| (address + sizes.sets() * turn) % lines;
+    let mut hot: Vec<u64> = (0..=WAYS as u64).map(of_its_set).collect();
     for others in [first, second] {
         if !others.is_empty() {
             hot.push(random.pick(&others));

@@ -13,7 +13,9 @@ mod occurrences;
 mod player;
 mod power_up_turns;
 mod record_turns;
+mod set_turns;
 mod sides;
+mod turn_lists;
 mod words;
 mod would_be;
 

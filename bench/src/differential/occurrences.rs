@@ -2,7 +2,8 @@
 
 use super::asked::{Asked, Function};
 use super::sides::Lent;
-use super::{count_turns, filter_turns, name_turns, power_up_turns, record_turns};
+use super::turn_lists::Counts;
+use super::{count_turns, filter_turns, name_turns, power_up_turns, record_turns, set_turns};
 use crate::call::{Call, Kind};
 use crate::handwritten::layout::Control;
 use crate::handwritten::names::{name_of, NAMES};
@@ -95,7 +96,8 @@ pub struct Occurrences {
     turns: [u64; TURNS.len()],
     power_up_turns: [u64; power_up_turns::TURNS.len()],
     filter_turns: [u64; filter_turns::TURNS.len()],
-    count_turns: count_turns::Counts,
+    count_turns: Counts<count_turns::Seen>,
+    set_turns: Counts<set_turns::Seen>,
     record_turns: [u64; record_turns::TURNS.len()],
     name_turns: name_turns::Counts,
 }
@@ -107,7 +109,8 @@ impl Default for Occurrences {
             turns: [0; TURNS.len()],
             power_up_turns: [0; power_up_turns::TURNS.len()],
             filter_turns: [0; filter_turns::TURNS.len()],
-            count_turns: count_turns::Counts::default(),
+            count_turns: Counts::new(&count_turns::ALL),
+            set_turns: Counts::new(&set_turns::ALL),
             record_turns: [0; record_turns::TURNS.len()],
             name_turns: name_turns::Counts::default(),
         }
@@ -142,7 +145,10 @@ impl Occurrences {
             count_taken(&mut self.filter_turns, taken);
         }
         if let Some(seen) = count_turns::Seen::new(call, number, before, after) {
-            self.count_turns.count(&seen);
+            self.count_turns.count(kind, &seen);
+        }
+        if let Some(seen) = set_turns::Seen::new(call, number, before, after) {
+            self.set_turns.count(kind, &seen);
         }
     }
 
@@ -183,11 +189,14 @@ impl Occurrences {
         let more = other.numbers.iter().flatten();
         let more = more.chain(&other.turns).chain(&other.power_up_turns);
         let more = more.chain(&other.filter_turns).chain(&other.record_turns);
-        let more = more.chain(other.count_turns.iter()).chain(other.name_turns.iter());
+        let more = more.chain(other.count_turns.iter()).chain(other.set_turns.iter());
+        let more = more.chain(other.name_turns.iter());
         let counts = self.numbers.iter_mut().flatten();
         let counts = counts.chain(&mut self.turns).chain(&mut self.power_up_turns);
         let counts = counts.chain(&mut self.filter_turns).chain(&mut self.record_turns);
-        let counts = counts.chain(self.count_turns.iter_mut());
+        let counts = counts
+            .chain(self.count_turns.iter_mut())
+            .chain(self.set_turns.iter_mut());
         let counts = counts.chain(self.name_turns.iter_mut());
         for (count, more) in counts.zip(more) {
             *count += more;
@@ -201,8 +210,11 @@ impl Occurrences {
         let of_filters = named(filter_turns::TURNS, self.filter_turns);
         let of_records = named(record_turns::TURNS, self.record_turns);
         let of_memories = of_calls.chain(of_power_ups).chain(of_filters);
-        let of_counts_and_records = self.count_turns.named().chain(of_records);
-        of_memories.chain(of_counts_and_records).chain(self.name_turns.named())
+        let of_slots = self.count_turns.named().chain(self.set_turns.named());
+        of_memories
+            .chain(of_slots)
+            .chain(of_records)
+            .chain(self.name_turns.named())
     }
 
     pub fn calls(&self) -> u64 {

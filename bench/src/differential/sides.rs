@@ -170,10 +170,10 @@ mod tests {
         assert_eq!(ask_for_entry(0, 0), (255, bytes, vec![]));
     }
 
-    /// Whether a count, and a first answer word, are true after such a call where one slot of three is dirty.
+    /// Whether a count, and a first answer word, are true after such a call where one slot of four is dirty.
     fn is_true(call: Call, number: u64, count: u64, value: u64) -> bool {
         let mut lent = Lent {
-            work: vec![0; work_words(3)],
+            work: vec![0; work_words(4)],
             registers: vec![1, 0, 0, count],
             answer: vec![value, 0],
             ..Lent::default()

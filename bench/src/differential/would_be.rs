@@ -2,8 +2,9 @@
 
 use super::sides::Lent;
 use crate::call::{Call, Kind, NO_CUT};
-use crate::handwritten::layout::{LAST_EPOCH, MOST_AHEAD};
+use crate::handwritten::layout::{SlotWord, LAST_EPOCH, MOST_AHEAD};
 use crate::interface::{BUFFER, CUT, FILTER, LAST, NONE, OK, ROOM, WAITING};
+use crate::placement::Placement;
 use crate::write_out::WriteOut;
 
 /// Each by itself: several may hold.
@@ -61,8 +62,8 @@ fn owes_entry(call: Call, lent: &Lent) -> bool {
     let Call::Store { address, .. } = call else {
         return false;
     };
-    let word = lent.slot(address as usize % lent.slots());
-    !(word.holds(address) && word.is_dirty() && word.tag() == lent.registers().epoch)
+    let is_newest = |word: SlotWord| word.is_dirty() && word.tag() == lent.registers().epoch;
+    !Placement::of(&lent.work, address).is_some_and(|place| place.is_held && is_newest(place.word))
 }
 
 /// The allowance of a call that may write a line out.

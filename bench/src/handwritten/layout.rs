@@ -284,7 +284,7 @@ pub fn mark(filter: &mut Filter, address: u64) {
 }
 
 /// A slot word: valid 1, dirty 1, address 16, tag 24, zero 22. An empty slot is zero.
-#[derive(Clone, Copy, Debug, PartialEq, Eq)]
+#[derive(Clone, Copy, Debug, Default, PartialEq, Eq)]
 pub struct SlotWord(pub u64);
 
 impl SlotWord {

@@ -7,6 +7,7 @@ use crate::handwritten::layout::{Control, SlotWord, BUFFER_ENTRIES, LAST_EPOCH, 
 use crate::handwritten::Registers;
 use crate::interface::{ADDRESS, ANSWER_WORDS, CUT, OK, REGISTER_WORDS, REGS, SHAPE, SLOT, WORK};
 use crate::library::TOO_SHORT;
+use crate::placement::{set_of, Placement};
 
 /// A call on a board and a work memory of right sizes; or one that is lent too short an array, of which nothing else is noted.
 pub struct Seen {
@@ -32,8 +33,11 @@ pub struct Seen {
     would_be: u64,
 }
 
-/// The slot visited, before the call.
+/// What is visited, before the call.
 struct Visited {
+    /// All that the count is held to: the whole set, or the slot at the scan's cursor.
+    words: Vec<SlotWord>,
+    /// The slot that the line has or takes, or the one at the cursor.
     word: SlotWord,
     /// It holds the line that the call has the address of.
     is_held: bool,
@@ -228,8 +232,21 @@ impl Seen {
         self.visits(SlotWord::is_valid_and_dirty)
     }
 
+    /// One that is tested, whether the call would work on it or not.
+    fn visits_any(&self, is_such: impl Fn(SlotWord) -> bool) -> bool {
+        let visited = self.visited.as_ref();
+        visited.is_some_and(|visited| visited.words.iter().any(|&word| is_such(word)))
+    }
+
     pub fn visits_invalid(&self) -> bool {
-        self.visits(is_invalid)
+        self.visits_any(is_invalid)
+    }
+
+    /// The last slot of a set is dirty, and no other of it.
+    pub fn is_dirty_in_last_alone(&self) -> bool {
+        let words = self.visited.iter().flat_map(|visited| &visited.words);
+        let dirty: Vec<bool> = words.map(|word| word.is_valid_and_dirty()).collect();
+        dirty == [false, false, false, true]
     }
 
     /// A dirty line stored to in the running epoch.
@@ -256,33 +273,40 @@ impl Seen {
 
     /// The first form of the test: a count of 0 beside a dirty slot.
     pub fn is_none_beside_dirty(&self) -> bool {
-        self.before == 0 && self.visits_dirty()
+        self.before == 0 && self.visits_any(SlotWord::is_valid_and_dirty)
     }
 
     /// The second form: a count of S beside a slot that is not dirty.
     pub fn is_all_beside_not_dirty(&self) -> bool {
-        self.counts_all() && self.visits(|word| !word.is_dirty())
+        self.counts_all() && self.visits_any(|word| !word.is_dirty())
     }
 }
 
 impl Visited {
     fn by(call: Call, lent: &Lent) -> Option<Self> {
-        let slots = lent.slots() as u64;
-        let (place, address) = match call {
+        match call {
             Call::Load { address, .. } | Call::Store { address, .. } | Call::Evict { address, .. } => {
-                (address % slots, Some(address))
+                let Placement { word, is_held, .. } = Placement::of(&lent.work, address)?;
+                let (_, words) = set_of(&lent.work, address)?;
+                Some(Visited {
+                    words: words.to_vec(),
+                    word,
+                    is_held,
+                    is_beyond: address >= lent.shape().lines,
+                })
             }
-            Call::Scan { .. } => (lent.registers().cursor, None),
-            _ => return None,
-        };
-        (place < slots).then(|| {
-            let word = lent.slot(place as usize);
-            Visited {
-                word,
-                is_held: address.is_some_and(|address| word.holds(address)),
-                is_beyond: address.is_some_and(|address| address >= lent.shape().lines),
+            Call::Scan { .. } => {
+                let cursor = lent.registers().cursor as usize;
+                let word = (cursor < lent.slots()).then(|| lent.slot(cursor))?;
+                Some(Visited {
+                    words: vec![word],
+                    word,
+                    is_held: false,
+                    is_beyond: false,
+                })
             }
-        })
+            _ => None,
+        }
     }
 }
 

@@ -6,7 +6,7 @@ use crate::call::Kind;
 /// The steps by which a slot may be dirty no more.
 const LOWERING: &[Kind] = &[Kind::Load, Kind::Evict, Kind::Scan];
 
-pub const LISTS: [List; 8] = [
+pub static LISTS: [List; 9] = [
     List {
         kinds: &[Kind::Load],
         turns: &OF_A_LOAD,
@@ -39,9 +39,19 @@ pub const LISTS: [List; 8] = [
         kinds: LOWERING,
         turns: &OF_A_LOWERING,
     },
+    // A load takes a dirty slot where all four of a set are dirty, and no other.
+    List {
+        kinds: &[Kind::Evict, Kind::Scan],
+        turns: &[("lowers a true count to 0", |seen| {
+            seen.is_true() && seen.lowers() && seen.leaves(0)
+        })],
+    },
 ];
 
-const OF_A_LOAD: [(&str, Turn); 4] = [
+const OF_A_LOAD: [(&str, Turn); 5] = [
+    ("lowers a true count of 4 to 3", |seen| {
+        seen.is_true() && seen.lowers() && seen.leaves(3)
+    }),
     ("lowers a true count for another line, dirty", |seen| {
         seen.is_true() && seen.lowers() && seen.visits_dirty() && !seen.is_held()
     }),
@@ -133,12 +143,9 @@ const OF_A_POWER_UP: [(&str, Turn); 3] = [
     }),
 ];
 
-const OF_A_LOWERING: [(&str, Turn); 5] = [
+const OF_A_LOWERING: [(&str, Turn); 4] = [
     ("lowers a true count of S", |seen| {
         seen.is_true() && seen.lowers() && seen.counts_all()
-    }),
-    ("lowers a true count to 0", |seen| {
-        seen.is_true() && seen.lowers() && seen.leaves(0)
     }),
     ("lowers a count that is one too high", |seen| {
         seen.is_one_too_high() && seen.lowers()

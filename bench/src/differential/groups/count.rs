@@ -5,7 +5,7 @@ use crate::call::{Call, NO_CUT};
 use crate::differential::damage::{damage_count, damage_filter};
 use crate::differential::player::{Outcome, Player};
 use crate::differential::sides::Lent;
-use crate::handwritten::layout::{Control, Range, SlotWord, BUFFER_ENTRIES, LAST_EPOCH, MOST_AHEAD, MOST_LINES};
+use crate::handwritten::layout::{Control, Range, SlotWord, BUFFER_ENTRIES, LAST_EPOCH, MOST_AHEAD, MOST_LINES, WAYS};
 use crate::handwritten::Registers;
 use crate::random::Random;
 use crate::sizes::Sizes;
@@ -27,8 +27,7 @@ pub fn history(player: &mut Player) -> Outcome {
 
 /// Few slots, most times: the more there are, the less often none or all of them are dirty.
 fn draw_sizes(random: &mut Random) -> Sizes {
-    let most_slots = random.pick(&[1, 2, 3, 5, 5, 40]);
-    let slots = random.between(1, most_slots);
+    let slots = random.pick(&[4, 4, 4, 8, 8, 40]);
     Sizes {
         lines: random.between(1, 3 * slots + 1),
         entries: random.between(1, 40),
@@ -56,7 +55,7 @@ fn lend(player: &mut Player, sizes: Sizes) {
 }
 
 /// The control word and the registers but for the count.
-fn lend_registers(random: &mut Random, state: &mut Lent, sizes: Sizes) {
+pub fn lend_registers(random: &mut Random, state: &mut Lent, sizes: Sizes) {
     let most_buffered = sizes.entries.min(BUFFER_ENTRIES as u64 - 1);
     let buffered = random.between(0, most_buffered);
     let room = sizes.entries - buffered;
@@ -90,28 +89,23 @@ fn lend_slots(random: &mut Random, state: &mut Lent, sizes: Sizes) {
     let is_mixed = random.one_in(2);
     let target = state.control().persisted + 1;
     let epoch = state.registers().epoch;
-    for place in 0..sizes.slots {
-        let address = place + sizes.slots * random.below(lines_of_slot(place, sizes));
-        let any_tag = random.between(target, epoch);
-        let tag = random.pick(&[target, epoch, any_tag]);
-        let kind = if is_mixed { random.below(KINDS) } else { of_all };
-        let word = match kind {
-            _ if address >= sizes.lines => SlotWord::EMPTY,
-            0 => SlotWord::EMPTY,
-            1 => SlotWord::clean(address),
-            _ => SlotWord::dirty(address, tag),
-        };
-        state.set_slot(place as usize, word);
+    for set in 0..sizes.sets() {
+        for (way, line) in sizes.draw_lines_of_set(random, set).into_iter().enumerate() {
+            let any_tag = random.between(target, epoch);
+            let tag = random.pick(&[target, epoch, any_tag]);
+            let kind = if is_mixed { random.below(KINDS) } else { of_all };
+            let word = match (kind, line) {
+                (1, Some(address)) => SlotWord::clean(address),
+                (2, Some(address)) => SlotWord::dirty(address, tag),
+                _ => SlotWord::EMPTY,
+            };
+            state.set_slot(WAYS * set as usize + way, word);
+        }
     }
 }
 
-/// How many lines belong in a slot. There may be none.
-fn lines_of_slot(place: u64, sizes: Sizes) -> u64 {
-    sizes.lines.saturating_sub(place).div_ceil(sizes.slots)
-}
-
 /// The buffered entries and the filter, of which one may not be proper.
-fn lend_buffer(random: &mut Random, state: &mut Lent, sizes: Sizes) {
+pub fn lend_buffer(random: &mut Random, state: &mut Lent, sizes: Sizes) {
     let Registers { epoch, buffered, .. } = state.registers();
     for place in 0..buffered as usize {
         let valid_till = random.between(state.control().persisted + 1, epoch);
@@ -153,9 +147,10 @@ fn make_a_slot_improper(random: &mut Random, state: &mut Lent) {
 fn draw_call(random: &mut Random, sizes: Sizes, state: &Lent) -> Call {
     let slot = random.below(sizes.slots);
     let held = state.slot(slot as usize).address();
-    let of_the_slot = slot + sizes.slots * random.below(lines_of_slot(slot, sizes));
+    let set = slot / WAYS as u64;
+    let of_the_set = set + sizes.sets() * random.below(sizes.lines_of_set(set));
     let beyond = random.pick(&[sizes.lines, sizes.lines + 1, MOST_LINES + slot, u64::MAX - slot]);
-    let address = random.pick(&[held, held, of_the_slot, of_the_slot, of_the_slot, beyond]);
+    let address = random.pick(&[held, held, of_the_set, of_the_set, of_the_set, beyond]);
     let allowance = random.pick(&[NO_CUT, NO_CUT, 0, 1]);
     match random.below(16) {
         0..4 => Call::Load { address, allowance },

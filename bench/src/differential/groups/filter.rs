@@ -1,12 +1,13 @@
-//! States in which the filter decides: a dirty line in its slot, entries buffered for lines that have its bits or one of them,
+//! States in which the filter decides: a dirty line in its set, entries buffered for lines that have its bits or one of them,
 //! and a filter that has just their bits, or more, or less.
 
 use crate::call::{Call, NO_CUT};
 use crate::differential::damage::damage_filter;
 use crate::differential::habit::others_with;
 use crate::differential::player::{Outcome, Player};
+use crate::differential::sides::Lent;
 use crate::handwritten::layout::{
-    Control, FilterBit, Range, SlotWord, BUFFER_ENTRIES, FILTER_BITS, LAST_EPOCH, MOST_AHEAD,
+    Control, FilterBit, Range, SlotWord, BUFFER_ENTRIES, FILTER_BITS, LAST_EPOCH, MOST_AHEAD, WAYS,
 };
 use crate::handwritten::Registers;
 use crate::random::Random;
@@ -35,7 +36,7 @@ fn draw_sizes(random: &mut Random) -> Sizes {
     Sizes {
         lines: random.between(fewest, most),
         entries: random.between(1, 80),
-        slots: random.between(1, 40),
+        slots: random.pick(&[4, 4, 8, 12, 40]),
     }
 }
 
@@ -47,14 +48,24 @@ fn draw_line(random: &mut Random, lines: u64) -> u64 {
     random.below(lines)
 }
 
-/// Lends a board, registers and a work memory whose one line is dirty, and gives that line.
+/// Lends a board, registers and a work memory with a dirty line, and gives that line.
 fn lend(player: &mut Player, sizes: Sizes) -> u64 {
     let random = &mut player.random;
     let state = &mut player.state;
     let line = draw_line(random, sizes.lines);
-    let slot = line % sizes.slots;
+    let slot = WAYS as u64 * (line % sizes.sets()) + random.below(WAYS as u64);
     let addresses = draw_addresses(random, sizes, line);
-    let buffered = addresses.len() as u64;
+    state.board = random.words(sizes.board_words());
+    state.work = random.words(sizes.work_words());
+    state.set_shape(sizes.shape());
+    lend_registers(random, state, sizes, slot, addresses.len() as u64);
+    lend_slots(random, state, sizes, line, slot);
+    lend_buffer(random, state, sizes, &addresses);
+    line
+}
+
+/// The control word and the registers but for the count; the scan's cursor is at the slot, most times.
+fn lend_registers(random: &mut Random, state: &mut Lent, sizes: Sizes, slot: u64, buffered: u64) {
     let room = sizes.entries - buffered;
     let some_of_room = random.below(room + 1);
     let control = Control {
@@ -65,34 +76,51 @@ fn lend(player: &mut Player, sizes: Sizes) -> u64 {
     let any_ahead = random.between(1, MOST_AHEAD);
     let ahead = random.pick(&[1, 2, 3, MOST_AHEAD, any_ahead]);
     let epoch = LAST_EPOCH.min(control.persisted + ahead);
-    let target = control.persisted + 1;
     let any_cursor = random.between(0, sizes.slots);
-    let cursor = if epoch == target {
+    let cursor = if epoch == control.persisted + 1 {
         0
     } else {
         random.pick(&[slot, slot, slot, sizes.slots, any_cursor])
     };
-    state.board = random.words(sizes.board_words());
-    state.work = random.words(sizes.work_words());
     state.set_control(control);
-    state.set_shape(sizes.shape());
     state.set_registers(Registers {
         epoch,
         buffered,
         cursor,
-        dirty: 1,
+        ..Registers::default()
     });
+}
+
+/// The line alone, or in a set that is full of dirty lines of which it is the one to go, most times.
+fn lend_slots(random: &mut Random, state: &mut Lent, sizes: Sizes, line: u64, slot: u64) {
     for place in 0..sizes.slots as usize {
         state.set_slot(place, SlotWord::EMPTY);
     }
+    let (target, epoch) = (state.control().persisted + 1, state.registers().epoch);
     let any_tag = random.between(target, epoch);
     let tag = random.pick(&[target, target, epoch, any_tag]);
+    let set = line % sizes.sets();
+    if !random.one_in(3) {
+        for (way, other) in sizes.draw_lines_of_set(random, set).into_iter().enumerate() {
+            let place = WAYS as u64 * set + way as u64;
+            let least_tag = epoch.min(tag + u64::from(place < slot));
+            let other = other.filter(|&address| address != line);
+            let word = other.map(|address| SlotWord::dirty(address, random.between(least_tag, epoch)));
+            state.set_slot(place as usize, word.unwrap_or(SlotWord::EMPTY));
+        }
+    }
     state.set_slot(slot as usize, SlotWord::dirty(line, tag));
+    state.set_count(state.dirty_slots());
+}
+
+/// The buffered entries, one of them not proper now and then, and the filter.
+fn lend_buffer(random: &mut Random, state: &mut Lent, sizes: Sizes, addresses: &[u64]) {
+    let (target, epoch) = (state.control().persisted + 1, state.registers().epoch);
     for (place, &address) in addresses.iter().enumerate() {
         state.set_buffered(place, draw_range(random, address, target, epoch));
     }
-    if buffered > 0 && random.one_in(12) {
-        let place = random.below(buffered) as usize;
+    if !addresses.is_empty() && random.one_in(12) {
+        let place = random.below(addresses.len() as u64) as usize;
         let range = state.buffered(place);
         state.set_buffered(place, improper(random, range, sizes.lines, epoch));
     }
@@ -100,7 +128,6 @@ fn lend(player: &mut Player, sizes: Sizes) -> u64 {
     for _ in 0..random.pick(&[0, 0, 1, 1, 2]) {
         damage_filter(random, state);
     }
-    line
 }
 
 /// The addresses of the buffered entries: of any other lines, and among them one with the line's first bit, one with its
@@ -150,10 +177,10 @@ fn improper(random: &mut Random, mut range: Range, lines: u64, epoch: u64) -> Ra
 }
 
 fn draw_call(random: &mut Random, sizes: Sizes, line: u64) -> Call {
-    let Sizes { lines, slots, .. } = sizes;
-    let of_the_same_slot = line % slots + slots * random.below(lines.div_ceil(slots));
-    let any = draw_line(random, lines);
-    let address = random.pick(&[line, of_the_same_slot, of_the_same_slot, any]);
+    let set = line % sizes.sets();
+    let of_the_same_set = set + sizes.sets() * random.below(sizes.lines_of_set(set));
+    let any = draw_line(random, sizes.lines);
+    let address = random.pick(&[line, of_the_same_set, of_the_same_set, any]);
     let some = random.below(70) as u32;
     let allowance = random.pick(&[NO_CUT, NO_CUT, NO_CUT, NO_CUT, 0, 1, some]);
     match random.below(17) {

@@ -14,7 +14,7 @@ pub fn history(player: &mut Player) -> Outcome {
         (1, MOST_ENTRIES),
         (MOST_LINES - 1, MOST_ENTRIES - 1),
     ]);
-    let slots = player.random.pick(&[1, MOST_SLOTS as u64 - 1, MOST_SLOTS as u64]);
+    let slots = player.random.pick(&[4, MOST_SLOTS as u64 - 4, MOST_SLOTS as u64]);
     let sizes = Sizes { lines, entries, slots };
     begin(player, sizes)?;
     let habit = Habit::draw(&mut player.random, sizes);

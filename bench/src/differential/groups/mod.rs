@@ -11,6 +11,7 @@ mod log_edges;
 mod names;
 mod random_words;
 mod records;
+mod sets;
 
 use super::player::{Outcome, Player};
 
@@ -21,10 +22,10 @@ pub struct Group {
     pub history: fn(&mut Player) -> Outcome,
 }
 
-pub const GROUPS: [Group; 11] = [
+pub const GROUPS: [Group; 12] = [
     Group {
         name: "histories",
-        share: 330,
+        share: 270,
         history: histories::history,
     },
     Group {
@@ -51,6 +52,11 @@ pub const GROUPS: [Group; 11] = [
         name: "count",
         share: 60,
         history: count::history,
+    },
+    Group {
+        name: "sets",
+        share: 60,
+        history: sets::history,
     },
     Group {
         name: "last-epochs",

@@ -6,7 +6,7 @@ use crate::differential::player::{Outcome, Player};
 use crate::differential::sides::Lent;
 use crate::handwritten::layout::{
     entry_place, work_words, Control, Range, Shape, SlotWord, BUFFER_ENTRIES, COUNT_BITS, ENTRY_WORDS, LAST_EPOCH,
-    MOST_AHEAD, MOST_ENTRIES, MOST_LINES, MOST_SLOTS,
+    MOST_AHEAD, MOST_ENTRIES, MOST_LINES, MOST_SLOTS, WAYS,
 };
 use crate::handwritten::Registers;
 use crate::interface::REGISTER_WORDS;
@@ -55,28 +55,34 @@ fn wild_shape(random: &mut Random, board_words: u64) -> Shape {
     }
 }
 
-/// No work memory, and such as have just no slot, one, the most and too many.
+/// No work memory, and such as have just no slot, a set, the most and too many, or slots that are no whole sets.
 fn wild_work_words(random: &mut Random) -> usize {
     let none = work_words(0);
-    let most = work_words(MOST_SLOTS);
+    let (one_set, most) = (work_words(WAYS), work_words(MOST_SLOTS));
+    let some_slots = random.between(0, MOST_SLOTS as u64 + 8) as usize;
     random.pick(&[
         0,
-        1,
         2,
         none - 1,
         none,
         none + 1,
         none + 2,
-        none + 3,
-        none + 4,
-        none + 16,
-        none + 17,
+        work_words(2),
+        one_set - 2,
+        one_set - 1,
+        one_set,
+        one_set,
+        one_set + 1,
+        one_set + 2,
+        work_words(6),
+        work_words(63),
+        work_words(some_slots),
         most - 2,
         most - 1,
         most,
         most + 1,
         most + 2,
-        most + 24,
+        work_words(MOST_SLOTS + WAYS),
     ])
 }
 
@@ -196,8 +202,8 @@ fn wild_filter(random: &mut Random, state: &mut Lent) {
 }
 
 fn wild_slot(random: &mut Random, sizes: Sizes, place: u64, control: Control, epoch: u64) -> SlotWord {
-    let turns = sizes.lines / sizes.slots + 1;
-    let address = place + sizes.slots * random.below(turns);
+    let turns = sizes.lines / sizes.sets() + 1;
+    let address = place / WAYS as u64 + sizes.sets() * random.below(turns);
     let tag = random.between(control.persisted, epoch + 1) & LAST_EPOCH;
     match random.below(8) {
         0 => SlotWord::EMPTY,
