@@ -5,7 +5,7 @@ mod controller;
 pub mod workload;
 
 use controller::{work_through, Figures, Plan, EPOCHS_COUNTED};
-use workload::{Order, LINES_OF_A_LOOM, STORES_PER_EPOCH};
+use workload::{Order, LINES_OF_A_LOOM, PAIRS, STORES_PER_EPOCH};
 
 use crate::handwritten::layout::MOST_ENTRIES;
 
@@ -14,49 +14,30 @@ const SLOTS: [usize; 3] = [64, 128, 256];
 /// Scan calls an epoch, as multiples of the S + 1 that persist one.
 const SCAN_RATES: [usize; 2] = [1, 2];
 
-/// A plan and what it took, or the headings: one line of the table.
-macro_rules! print_line {
-    ($($cell:expr),* $(,)?) => {
-        println!("{:<15}{:>4}{:>7}{:>9}{:>9}{:>8}{:>9}{:>8}{:>8}{:>8}{:>11}{:>7}{:>9}", $($cell),*)
-    };
-}
+/// What each column has, in two lines, and how wide it is; the first is the order of the work.
+const COLUMNS: [(&str, &str, usize); 12] = [
+    ("S", "", 4),
+    ("scans", "/epoch", 7),
+    ("entries", "/epoch", 9),
+    ("waiting", "at once", 9),
+    ("log", "needed", 8),
+    ("stores", "/epoch", 9),
+    ("entry", "words", 8),
+    ("control", "words", 8),
+    ("line", "words", 8),
+    ("write-outs", "with b > 0", 11),
+    ("false", "hits", 7),
+    ("refused", "below", 9),
+];
 
 pub fn print_figures() -> Result<(), String> {
     println!(
-        "The loom: {STORES_PER_EPOCH} stores and as many loads an epoch, to {LINES_OF_A_LOOM} lines (jacquard: to 20 pairs); \
+        "The loom: {STORES_PER_EPOCH} stores and as many loads an epoch, to {LINES_OF_A_LOOM} lines (jacquard: to {PAIRS} pairs); \
          {EPOCHS_COUNTED} epochs counted.\n\
          log needed: the most entries at once, in log and buffer; with a log of one less, so many stores are refused for room.\n"
     );
-    print_line!(
-        "order",
-        "S",
-        "scans",
-        "entries",
-        "waiting",
-        "log",
-        "stores",
-        "entry",
-        "control",
-        "line",
-        "write-outs",
-        "false",
-        "refused"
-    );
-    print_line!(
-        "",
-        "",
-        "/epoch",
-        "/epoch",
-        "at once",
-        "needed",
-        "/epoch",
-        "words",
-        "words",
-        "words",
-        "with b > 0",
-        "hits",
-        "below"
-    );
+    print_line("order", COLUMNS.map(|(heading, ..)| heading.to_string()));
+    print_line("", COLUMNS.map(|(_, below, _)| below.to_string()));
     for order in Order::ALL {
         for slots in SLOTS {
             for rate in SCAN_RATES {
@@ -65,6 +46,14 @@ pub fn print_figures() -> Result<(), String> {
         }
     }
     Ok(())
+}
+
+fn print_line(order: &str, cells: [String; COLUMNS.len()]) {
+    let cells = COLUMNS
+        .iter()
+        .zip(cells)
+        .map(|(&(.., width), cell)| format!("{cell:>width$}"));
+    println!("{order:<15}{}", cells.collect::<String>());
 }
 
 fn print_row(order: Order, slots: usize, scans_per_epoch: usize) -> Result<(), String> {
@@ -77,21 +66,22 @@ fn print_row(order: Order, slots: usize, scans_per_epoch: usize) -> Result<(), S
     let figures = work_through(plan)?;
     let [entry_words, control_words, line_words] =
         [figures.entry_stores, figures.control_stores, figures.line_stores].map(per_epoch);
-    print_line!(
-        order.name(),
-        slots,
-        scans_per_epoch,
-        figures.most_entries_in_an_epoch,
-        figures.most_waiting,
-        figures.most_entries_at_once,
-        entry_words + control_words + line_words,
-        entry_words,
-        control_words,
-        line_words,
-        per_epoch(figures.write_outs_beside_entries),
-        format!("{:.2}", figures.false_hits as f64 / EPOCHS_COUNTED as f64),
-        refused_below(plan, figures)?
-    );
+    let false_hits = format!("{:.2}", figures.false_hits as f64 / EPOCHS_COUNTED as f64);
+    let cells = [
+        slots.to_string(),
+        scans_per_epoch.to_string(),
+        figures.most_entries_in_an_epoch.to_string(),
+        figures.most_waiting.to_string(),
+        figures.most_entries_at_once.to_string(),
+        (entry_words + control_words + line_words).to_string(),
+        entry_words.to_string(),
+        control_words.to_string(),
+        line_words.to_string(),
+        per_epoch(figures.write_outs_beside_entries).to_string(),
+        false_hits,
+        refused_below(plan, figures)?.to_string(),
+    ];
+    print_line(order.name(), cells);
     Ok(())
 }
 

@@ -23,7 +23,7 @@ pub enum Order {
 
 pub const PICKS_PER_EPOCH: usize = 10;
 
-const PAIRS: u64 = 20;
+pub const PAIRS: u64 = 20;
 /// A multiple of every number of slots that the work is measured with.
 const PAIR_DISTANCE: u64 = 256;
 
