@@ -27,7 +27,7 @@ impl Sets {
     #[inline(always)]
     pub fn set_of(self, address: u64) -> usize {
         let fraction = (address as u32).wrapping_mul(self.reciprocal);
-        (u64::from(fraction) * u64::from(self.count) >> u32::BITS) as usize
+        ((u64::from(fraction) * u64::from(self.count)) >> u32::BITS) as usize
     }
 
     /// How far the fraction of an address is beyond that of a set's first address, which is the set's number. In the set it is

@@ -64,7 +64,7 @@ impl Order {
     fn accessed(self, random: &mut Random, lines: &[u64], turn: usize) -> u64 {
         match self {
             // The lines of a pair are neighbours in the list, the first in an even place.
-            Order::Jacquard => lines[turn % lines.len() ^ 1],
+            Order::Jacquard => lines[(turn % lines.len()) ^ 1],
             _ => self.address(random, lines, turn),
         }
     }
