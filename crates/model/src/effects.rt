@@ -4,6 +4,7 @@ use crate::filter::both_set;
 use crate::filter::filter_with;
 use crate::machine::*;
 use crate::refusals::undo_due;
+use crate::sets::*;
 use crate::words::*;
 
 // "stores each entry at the ring's end, packed word then data word": buffered entry i, as entry
@@ -78,12 +79,8 @@ fn emptied(m: Machine, k: u64) -> Machine {
     with_slot(written_out(m, slot), k, empty_slot())
 }
 
-// "Otherwise the slot is emptied, then filled clean from memory": a state that holds the line.
-fn held(m: Machine, address: u64) -> Machine {
-    if holds(m, address) {
-        return m;
-    }
-    let k = home_slot(address, m.slot_count);
+// "Otherwise the slot is emptied, then filled clean from memory": a line into slot k.
+fn filled(m: Machine, k: u64, address: u64) -> Machine {
     let next = emptied(m, k);
     let slot = Slot {
         valid: true,
@@ -96,11 +93,20 @@ fn held(m: Machine, address: u64) -> Machine {
     with_slot(next, k, slot)
 }
 
+// A state that holds the line: as it is, or in the slot that the line takes in the set as it is.
+fn held(m: Machine, address: u64) -> Machine {
+    let holding = slot_holding(m, address);
+    match holding {
+        Found::At(_) => m,
+        Found::Nowhere => filled(m, slot_taken(m, address), address),
+    }
+}
+
 // "Load (a): a held line gives its data. Otherwise the slot is emptied, then filled clean from
 // memory."
 pub fn loaded(m: Machine, address: u64) -> Machine {
     let mut next = held(m, address);
-    let slot = slot_at(next, home_slot(address, next.slot_count));
+    let slot = slot_at(next, slot_for(next, address));
     next.value = slot.line_data;
     next
 }
@@ -139,7 +145,7 @@ fn undo_made(m: Machine, address: u64) -> Machine {
     if !undo_due(m, address) {
         return m;
     }
-    let slot = slot_at(m, home_slot(address, m.slot_count));
+    let slot = slot_at(m, slot_for(m, address));
     buffered(m, undo_entry(slot, m.control.persisted, m.registers.epoch))
 }
 
@@ -155,16 +161,21 @@ pub fn stored(m: Machine, address: u64, value: u64) -> Machine {
         zero: 0,
         line_data: value,
     };
-    with_slot(next, home_slot(address, next.slot_count), slot)
+    with_slot(next, slot_for(next, address), slot)
 }
 
 // "Evict (a): empties the slot if it holds a; otherwise nothing, value 0. Value 1 if held."
 pub fn evicted(m: Machine, address: u64) -> Machine {
-    if !holds(m, address) {
-        return m;
+    let holding = slot_holding(m, address);
+    match holding {
+        Found::At(k) => with_value(emptied(m, k), 1),
+        Found::Nowhere => m,
     }
-    let mut next = emptied(m, home_slot(address, m.slot_count));
-    next.value = 1;
+}
+
+fn with_value(m: Machine, value: u64) -> Machine {
+    let mut next = m;
+    next.value = value;
     next
 }
 

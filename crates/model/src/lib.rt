@@ -14,6 +14,8 @@ mod record_runs;
 mod reference_machine;
 mod refusals;
 mod registers;
+mod sets;
+mod slot_tests;
 mod words;
 
 use effects::*;

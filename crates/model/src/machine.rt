@@ -172,12 +172,3 @@ pub fn buffer_entry(m: Machine, i: u64) -> Entry {
     let at = index(i, BUFFER_ENTRIES);
     m.buffer[at]
 }
-
-// "A held line": whether the slot of an address holds it.
-pub fn holds(m: Machine, address: u64) -> bool {
-    let slot = slot_at(m, home_slot(address, m.slot_count));
-    if !slot.valid {
-        return false;
-    }
-    slot.address == address
-}

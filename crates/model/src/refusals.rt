@@ -1,8 +1,10 @@
 // The table of "What an answer says": its numbers, and the tests of each. "The lowest number wins",
-// but that 14 is "tested right after 7 wherever 7 is", and that a count of dirty slots which the
-// visited slot belies "answers 4" only "right after 6".
+// but that 14 is "tested right after 7 wherever 7 is", and that a count of dirty slots which a slot
+// tested belies "answers 4" only "right after 6".
 use crate::filter::both_set;
 use crate::machine::*;
+use crate::sets::*;
+use crate::slot_tests::*;
 use crate::words::*;
 
 // "Returned: number, name".
@@ -93,13 +95,17 @@ fn shape_good(board: &[u64]) -> bool {
     fields_good(shape, control)
 }
 
-// "2 work: work memory is not 2S + 64 words, S 1 to 256", which are now "2S + 128 words".
+// "2 work: work memory is not 2S + 64 words", which are now "2S + 128 words"; "Make S a multiple of
+// 4, from 4 to 256, else refusal 2."
 pub fn work_good(words: u64) -> bool {
     let slots = slot_count(words);
-    if slots < 1 {
+    if slots < WAYS {
         return false;
     }
     if slots > MOST_SLOTS as u64 {
+        return false;
+    }
+    if slots % WAYS != 0 {
         return false;
     }
     words == work_words(slots)
@@ -184,39 +190,6 @@ fn registers_proper(m: Machine) -> bool {
     sum(m.control.length, m.registers.buffered) <= m.entry_count
 }
 
-// "A proper slot word is zero, or is valid with the 22 bits zero, address < N, address mod S its
-// slot, and either clean with tag 0 or dirty with P < tag <= s."
-fn slot_proper(m: Machine, k: u64) -> bool {
-    let slot = slot_at(m, k);
-    if slot_word(slot) == 0 {
-        return true;
-    }
-    if !slot.valid {
-        return false;
-    }
-    if slot.zero != 0 {
-        return false;
-    }
-    if slot.address >= m.line_count {
-        return false;
-    }
-    if home_slot(slot.address, m.slot_count) != k {
-        return false;
-    }
-    tag_proper(slot, m.control.persisted, m.registers.epoch)
-}
-
-// "either clean with tag 0 or dirty with P < tag <= s".
-fn tag_proper(slot: Slot, persisted: u64, epoch: u64) -> bool {
-    if !slot.dirty {
-        return slot.tag == 0;
-    }
-    if slot.tag <= persisted {
-        return false;
-    }
-    slot.tag <= epoch
-}
-
 // "A proper buffered entry has address < N and ValidFrom < ValidTill <= s."
 fn buffer_entry_proper(entry: Entry, lines: u64, epoch: u64) -> bool {
     if entry.address >= lines {
@@ -264,29 +237,19 @@ fn buffer_refusal(m: Machine) -> u64 {
     OK
 }
 
-// "a count of 0 with the visited slot dirty, or of S with it not": of a slot that is proper.
-fn count_belied(m: Machine, visited: u64) -> bool {
-    let slot = slot_at(m, visited);
-    if slot.dirty {
-        return m.registers.dirty == 0;
-    }
-    m.registers.dirty == m.slot_count
-}
-
-// "6 slot: the slot visited is not proper"; the count's test "Right after 6, in each call that has
-// it"; then rows 7 and 14.
-fn visit_refusal(m: Machine, visited: u64) -> u64 {
-    if !slot_proper(m, visited) {
+// 6 of the whole set; the count's test "Right after 6, in each call that has it"; then rows 7 and 14.
+fn set_refusal(m: Machine, address: u64) -> u64 {
+    if !set_proper(m, address) {
         return SLOT;
     }
-    if count_belied(m, visited) {
+    if count_belied_in_set(m, address) {
         return REGISTERS;
     }
     buffer_refusal(m)
 }
 
-// Rows 4 to 7 and 14 of load, store and evict, and the count's test: "5 address: a >= N"; the slot
-// visited is "slot a mod S".
+// Rows 4 to 7 and 14 of load, store and evict, and the count's test: "5 address: a >= N"; "Load,
+// store and evict now test the whole set by 6".
 pub fn line_refusal(m: Machine, address: u64) -> u64 {
     if !registers_proper(m) {
         return REGISTERS;
@@ -294,20 +257,25 @@ pub fn line_refusal(m: Machine, address: u64) -> u64 {
     if address >= m.line_count {
         return ADDRESS;
     }
-    visit_refusal(m, home_slot(address, m.slot_count))
+    set_refusal(m, address)
+}
+
+// "a clean line .., a dirty line with tag t < s".
+fn older_or_clean(slot: Slot, epoch: u64) -> bool {
+    if !slot.dirty {
+        return true;
+    }
+    slot.tag < epoch
 }
 
 // Whether a store makes an undo entry: "a clean line makes the entry P, s ..; a dirty line with
 // tag t < s makes t, s ..; tag s makes none." A line not held is loaded first, so it is clean.
 pub fn undo_due(m: Machine, address: u64) -> bool {
-    if !holds(m, address) {
-        return true;
+    let holding = slot_holding(m, address);
+    match holding {
+        Found::At(k) => older_or_clean(slot_at(m, k), m.registers.epoch),
+        Found::Nowhere => true,
     }
-    let slot = slot_at(m, home_slot(address, m.slot_count));
-    if !slot.dirty {
-        return true;
-    }
-    slot.tag < m.registers.epoch
 }
 
 // Rows 4 to 7 and 14, then "8 room: an undo entry is due and length + b + 1 > L".
@@ -351,8 +319,20 @@ pub fn commit_refusal(m: Machine) -> u64 {
     OK
 }
 
-// Rows 6, 7 and 14 of scan, and the count's test: the slot visited is "slot c if c < S". With c = S
-// none is.
+// "6 slot: the slot visited is not proper"; the count's test "Right after 6, in each call that has
+// it"; then rows 7 and 14.
+fn visit_refusal(m: Machine, visited: u64) -> u64 {
+    if !slot_proper(m, visited) {
+        return SLOT;
+    }
+    if count_belied(m, visited) {
+        return REGISTERS;
+    }
+    buffer_refusal(m)
+}
+
+// Rows 6, 7 and 14 of scan, and the count's test: the slot visited is "slot c if c < S"; "The scan
+// keeps visiting and testing single slots." With c = S none is.
 fn cursor_refusal(m: Machine) -> u64 {
     let cursor = m.registers.cursor;
     if cursor < m.slot_count {

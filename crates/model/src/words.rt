@@ -11,9 +11,12 @@ pub const MOST_LINES: u64 = 65536;
 
 pub const MOST_ENTRIES: u64 = 65536;
 
-// "S slots from 1 to 256"; "then 32 places for undo entries", of two words each.
+// "Make S a multiple of 4, from 4 to 256"; "Set g is slots 4g to 4g + 3".
+pub const WAYS: u64 = 4;
+
 pub const MOST_SLOTS: usize = 256;
 
+// "then 32 places for undo entries", of two words each.
 pub const BUFFER_ENTRIES: usize = 32;
 
 pub const BUFFER_WORDS: u64 = 64;
@@ -274,10 +277,21 @@ pub fn work_words(slots: u64) -> u64 {
     sum(slot_place(slots), BEHIND_SLOTS)
 }
 
-// "Address a belongs in slot a mod S."
-pub fn home_slot(address: u64, slots: u64) -> u64 {
-    if slots == 0 {
+// "address a belongs in any slot of set a mod S/4": the set's number.
+pub fn home_set(address: u64, slots: u64) -> u64 {
+    let sets = slots / WAYS;
+    if sets == 0 {
         return 0;
     }
-    address % slots
+    address % sets
+}
+
+// "Set g is slots 4g to 4g + 3": the first slot of a set.
+pub fn first_slot(set: u64) -> u64 {
+    sum(sum(set, set), sum(set, set))
+}
+
+// The set that a slot is in.
+pub fn set_of(slot: u64) -> u64 {
+    slot / WAYS
 }
