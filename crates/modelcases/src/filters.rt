@@ -91,7 +91,7 @@ fn run_shown(board: &mut [u64], work: &mut [u64], script: &[u8]) {
 }
 
 // A script on zero memories of the given words; then the words that are not zero.
-fn fresh(title: &[u8], board_words: usize, work_words: usize, script: &[u8]) {
+pub fn fresh(title: &[u8], board_words: usize, work_words: usize, script: &[u8]) {
     let mut board = [0u64; BOARD_ROOM];
     let mut work = [0u64; WORK_ROOM];
     if board_words > BOARD_ROOM {
@@ -168,50 +168,50 @@ fn false_hits() {
     fresh(
         b"a false hit by two entries\n",
         WIDE_BOARD,
-        WIDE_WORK,
+        EXAMPLE_WORK,
         b"n250 8* p000 0* s123 1* s001 2* e001 0* s157 3* s070 4* q000 0* e123 0* q000 0* ",
     );
     fresh(
         b"one bit of two\n",
         WIDE_BOARD,
-        WIDE_WORK,
+        EXAMPLE_WORK,
         b"n250 8* p000 0* s123 1* s001 2* e001 0* s157 3* e123 0* q000 0* e157 0* q000 0* s123 5* s001 6* e001 0* s070 7* e123 0* q000 0* ",
     );
 }
 
 // "14 filter, a buffered entry with either bit unset, tested right after 7 wherever 7 is". The bits
-// of line 1 are 1 and 2,531, in the words 68 and 107 of a work memory of two slots; the second of
-// line 2 is 966, in word 83. The two buffered entries are in the words 4 and 6.
+// of line 1 are 1 and 2,531, in the words 72 and 111 of a work memory of four slots; the second of
+// line 2 is 966, in word 87. The two buffered entries are in the words 8 and 10; line 1 is in slot 0.
 fn unset_bits() {
     fresh(
         b"14 in each call, before 11 and 12, after 5 and 6\n",
         EXAMPLE_BOARD,
         EXAMPLE_WORK,
-        b"n004 8* p000 0* s001 7* v107 0* l000 0* s000 5* e001 00 c000 0* a000 0* q000 0* t000 0* o107 0* v068 0* l001 0* s001 5* e000 0* c000 0* a000 0* q000 0* l004 0* o000 0* l000 0* v000 0* o068 0* a000 0* l000 0* v068 0* p000 0* q000 0* ",
+        b"n004 8* p000 0* s001 7* v111 0* l000 0* s000 5* e001 00 c000 0* a000 0* q000 0* t000 0* o111 0* v072 0* l001 0* s001 5* e000 0* c000 0* a000 0* q000 0* l004 0* o002 0* l000 0* v002 0* o072 0* a000 0* l000 0* v072 0* p000 0* q000 0* ",
     );
     fresh(
         b"14 before 8\n",
         SHORT_BOARD,
         EXAMPLE_WORK,
-        b"n004 1* p000 0* s001 7* v107 0* s000 5* s001 6* o107 0* s000 5* s001 6* ",
+        b"n004 1* p000 0* s001 7* v111 0* s000 5* s001 6* o111 0* s000 5* s001 6* ",
     );
     fresh(
         b"14 before 9\n",
         EXAMPLE_BOARD,
         EXAMPLE_WORK,
-        b"n004 8* p000 0* s001 7* c000 0* c000 0* c000 0* c000 0* c000 0* c000 0* c000 0* c000 0* c000 0* c000 0* c000 0* c000 0* c000 0* c000 0* c000 0* v107 0* c000 0* o107 0* c000 0* ",
+        b"n004 8* p000 0* s001 7* c000 0* c000 0* c000 0* c000 0* c000 0* c000 0* c000 0* c000 0* c000 0* c000 0* c000 0* c000 0* c000 0* c000 0* c000 0* v111 0* c000 0* o111 0* c000 0* ",
     );
     fresh(
         b"14 before 10\n",
         EXAMPLE_BOARD,
         EXAMPLE_WORK,
-        b"n004 8* u000 0* p000 0* s001 7* v107 0* c000 0* o107 0* c000 0* ",
+        b"n004 8* u000 0* p000 0* s001 7* v111 0* c000 0* o111 0* c000 0* ",
     );
     fresh(
         b"7 before 14\n",
         EXAMPLE_BOARD,
         EXAMPLE_WORK,
-        b"n004 8* p000 0* s001 7* s002 5* v107 0* o006 0* l000 0* s001 7* e001 0* c000 0* a000 0* v006 1* l000 0* o107 0* l000 0* o068 0* l000 0* q000 0* ",
+        b"n004 8* p000 0* s001 7* s002 5* v111 0* o010 0* l000 0* s001 7* e001 0* c000 0* a000 0* v010 1* l000 0* o111 0* l000 0* o072 0* e002 0* q000 0* ",
     );
 }
 
@@ -222,13 +222,13 @@ fn clearings() {
         b"every bit set\n",
         WIDE_BOARD,
         EXAMPLE_WORK,
-        b"n250 8* p000 0* s000 7* s001 5* e001 0* f000 0* q000 0* e000 0* q000 0* s002 3* e000 0* l003 0* l001 0* q000 0* l000 0* q000 0* s003 9* f000 0* q000 0* c000 0* a000 0* a000 0* q000 0* f000 0* a000 0* q000 0* p000 0* q000 0* ",
+        b"n250 8* p000 0* s000 7* s001 5* e001 0* f000 0* q000 0* e000 0* q000 0* s002 3* e000 0* l003 0* l001 0* q000 0* e002 0* q000 0* s003 9* f000 0* q000 0* c000 0* a000 0* a000 0* q000 0* a000 0* a000 0* f000 0* a000 0* q000 0* p000 0* q000 0* ",
     );
     fresh(
         b"flushed at the end of a scan\n",
         EXAMPLE_BOARD,
         EXAMPLE_WORK,
-        b"n004 8* p000 0* s000 7* c000 0* s000 9* c000 0* a000 0* a000 0* q000 0* a000 0* q000 0* ",
+        b"n004 8* p000 0* s000 7* c000 0* s000 9* c000 0* a000 0* a000 0* a000 0* a000 0* q000 0* a000 0* q000 0* ",
     );
     fresh(
         b"cuts and power-up\n",
@@ -269,7 +269,7 @@ fn asked(words: usize, first: usize, end: usize) {
     question(&work, words);
 }
 
-// It "refuses only by number 2": of other words than 2S + 128, S 1 to 256.
+// It "refuses only by number 2": of other words than 2S + 128, S a multiple of 4, 4 to 256.
 fn questions() {
     io::write_all(STDOUT_FILENO, b"status questions refused or not\n");
     asked(0, 0, WORK_ROOM);
@@ -277,24 +277,33 @@ fn questions() {
     asked(128, 0, WORK_ROOM);
     asked(129, 0, WORK_ROOM);
     asked(130, 0, WORK_ROOM);
-    asked(131, 0, WORK_ROOM);
     asked(132, 0, WORK_ROOM);
+    asked(134, 0, WORK_ROOM);
+    asked(135, 0, WORK_ROOM);
+    asked(136, 0, WORK_ROOM);
+    asked(137, 0, WORK_ROOM);
+    asked(138, 0, WORK_ROOM);
+    asked(142, 0, WORK_ROOM);
+    asked(144, 0, WORK_ROOM);
+    asked(256, 0, WORK_ROOM);
+    asked(639, 0, WORK_ROOM);
     asked(640, 0, WORK_ROOM);
     asked(641, 0, WORK_ROOM);
     asked(642, 0, WORK_ROOM);
+    asked(648, 0, WORK_ROOM);
 }
 
 // It counts the last 64 words alone, whatever they hold.
 fn counts() {
     io::write_all(STDOUT_FILENO, b"status questions of some ones\n");
-    asked(130, 0, 66);
-    asked(130, 66, 67);
-    asked(130, 66, 130);
-    asked(130, 129, 642);
-    asked(130, 130, 642);
-    asked(132, 0, 68);
-    asked(132, 0, 69);
-    asked(132, 70, 132);
+    asked(136, 0, 72);
+    asked(136, 72, 73);
+    asked(136, 72, 136);
+    asked(136, 135, WORK_ROOM);
+    asked(136, 136, WORK_ROOM);
+    asked(144, 0, 80);
+    asked(144, 0, 81);
+    asked(144, 82, 144);
     asked(640, 0, 576);
     asked(640, 0, 577);
     asked(640, 576, 640);

@@ -1,13 +1,14 @@
 // Runs the paper's replay listing and its examples W5 to W12 on the model, and prints the listing's
 // columns; then logs about the limit of document 02's request 2/13, the filter of its request 3/13,
-// the count of dirty slots of its request 5/13, records and traces, of its request 1/13, and the
-// names of the numbers. The stored output holds what the papers say.
+// the count of dirty slots of its request 5/13, the sets of slots of its request 6/13, records and
+// traces, of its request 1/13, and the names of the numbers. The stored output holds what the papers say.
 mod counts;
 mod filters;
 mod names;
 mod packing;
 mod random;
 mod records;
+mod sets;
 mod traces;
 
 use libc::STDOUT_FILENO;
@@ -215,7 +216,7 @@ fn ends() {
 fn main() {
     fresh(
         b"replay\n",
-        b"n48* p00* s07* c00* s09* c00* a00* a00* a00* p00* l00* t00* ",
+        b"n48* p00* s07* c00* s09* c00* a00* a00* a00* a00* a00* p00* l00* t00* ",
     );
     fresh(b"W7\n", b"n48* p00* c00* s05* ");
     fresh(b"W8 W9\n", b"n48* p00* s05* c00* c00* s06* s07* ");
@@ -229,10 +230,11 @@ fn main() {
     ends();
     filters::cases();
     counts::cases();
+    sets::cases();
     records::cases();
     traces::cases();
-    random::list(1, 3000);
-    random::list(2, 3000);
-    random::list(77, 3000);
+    random::list(1, 3000, ONE_SET_WORK);
+    random::list(2, 3000, TWO_SET_WORK);
+    random::list(77, 3000, ONE_SET_WORK);
     names::cases();
 }

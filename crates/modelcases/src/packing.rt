@@ -8,7 +8,7 @@ pub const SHAPE: usize = 1;
 
 const LOG: usize = 2;
 
-// All boards of this program have 8 log entries, but for two of the filter's cases.
+// All boards of this program have 8 log entries, but for those of some cases.
 pub const ENTRIES: u64 = 8;
 
 pub const FIRST_ENTRY: usize = LOG;
@@ -27,22 +27,22 @@ pub const FILTER_WORDS: usize = 64;
 
 const BEHIND_SLOTS: usize = BUFFER_WORDS + FILTER_WORDS;
 
-// The memories of the examples: 4 lines and 2 slots.
+// The memories of the examples: 4 lines and 4 slots.
 pub const EXAMPLE_LINES: u64 = 4;
 
 pub const EXAMPLE_BOARD: usize = FIRST_LINE + 4;
 
-pub const EXAMPLE_WORK: usize = 2 * 2 + BEHIND_SLOTS;
+pub const EXAMPLE_WORK: usize = 2 * 4 + BEHIND_SLOTS;
 
-// The memories of the random lists: 5 lines and 3 slots.
-pub const LIST_LINES: u64 = 5;
+// The memories of the random lists: 11 lines; 4 slots; 8 slots.
+pub const LIST_LINES: u64 = 11;
 
-pub const LIST_BOARD: usize = FIRST_LINE + 5;
+pub const LIST_BOARD: usize = FIRST_LINE + 11;
 
-pub const LIST_WORK: usize = 2 * 3 + BEHIND_SLOTS;
+pub const LIST_WORK: usize = TWO_SET_WORK;
 
 // The memories of the filter's cases: 250 lines; 4 lines and 1 log entry; 40 lines and 32 log
-// entries; 4 slots; 32 slots; room for 257.
+// entries; 32 slots; room for 260.
 pub const WIDE_BOARD: usize = FIRST_LINE + 250;
 
 pub const SHORT_BOARD: usize = LOG + 2 + 4;
@@ -51,16 +51,32 @@ pub const FULL_BOARD: usize = LOG + 2 * 32 + 40;
 
 pub const BOARD_ROOM: usize = WIDE_BOARD;
 
-pub const WIDE_WORK: usize = 2 * 4 + BEHIND_SLOTS;
-
-// The work memories of the count's cases: 1 slot; one word more.
-pub const ONE_SLOT_WORK: usize = 2 + BEHIND_SLOTS;
-
-pub const ODD_WORK: usize = ONE_SLOT_WORK + 1;
-
 pub const FULL_WORK: usize = 2 * 32 + BEHIND_SLOTS;
 
-pub const WORK_ROOM: usize = 2 * 257 + BEHIND_SLOTS;
+pub const WORK_ROOM: usize = 2 * 260 + BEHIND_SLOTS;
+
+// A work memory of the count's cases: one word more than those of the examples.
+pub const ODD_WORK: usize = EXAMPLE_WORK + 1;
+
+// The memories of the sets' cases: 8 lines, all of the one set of 4 slots; 12 lines, half of them of
+// either set of 8 slots; 256 slots.
+pub const ONE_SET_BOARD: usize = FIRST_LINE + 8;
+
+pub const ONE_SET_WORK: usize = EXAMPLE_WORK;
+
+pub const TWO_SET_BOARD: usize = FIRST_LINE + 12;
+
+pub const TWO_SET_WORK: usize = 2 * 8 + BEHIND_SLOTS;
+
+pub const MOST_WORK: usize = 2 * 256 + BEHIND_SLOTS;
+
+// The words of a work memory of so many slots.
+pub fn work_words(slots: usize) -> usize {
+    if slots > 260 {
+        return 0;
+    }
+    2 * slots + BEHIND_SLOTS
+}
 
 pub fn persisted_of(control: u64) -> u64 {
     control >> 40
@@ -80,6 +96,32 @@ pub fn shape_word(lines: u64, entries: u64) -> u64 {
 
 pub fn entry_word(address: u64, from: u64, till: u64) -> u64 {
     (address << 48) | (from << 24) | till
+}
+
+// A slot word: valid 1, dirty 1, address 16, tag 24, zero 22. A clean one has the tag 0.
+pub fn slot_word(dirty: bool, address: u64, tag: u64) -> u64 {
+    let flags = if dirty { 3 } else { 2 };
+    (flags << 62) | (address << 46) | (tag << 22)
+}
+
+pub fn slot_valid(word: u64) -> bool {
+    word >> 63 == 1
+}
+
+pub fn slot_dirty(word: u64) -> bool {
+    (word >> 62) & 1 == 1
+}
+
+pub fn slot_address(word: u64) -> u64 {
+    (word >> 46) & 0xFFFF
+}
+
+pub fn slot_tag(word: u64) -> u64 {
+    (word >> 22) & 0xFFFFFF
+}
+
+pub fn slot_zero(word: u64) -> u64 {
+    word & 0x3FFFFF
 }
 
 // 2^64 - 1 and 2^63, the largest word and the one with the leading bit alone.

@@ -182,10 +182,13 @@ fn report(t: Trial) {
     io::write_all(STDOUT_FILENO, b"\n");
 }
 
-// A list of `count` calls after a format, and its report.
-pub fn list(seed: u64, count: u64) {
+// A list of `count` calls after a format, on a work memory of the given words, and its report.
+pub fn list(seed: u64, count: u64, work_words: usize) {
     let mut board = [0u64; LIST_BOARD];
     let mut work = [0u64; LIST_WORK];
+    if work_words > LIST_WORK {
+        return;
+    }
     model::format(&mut board, LIST_LINES, ENTRIES);
     let start = Trial {
         seed,
@@ -194,6 +197,6 @@ pub fn list(seed: u64, count: u64) {
         numbers: [0; NUMBERS],
         wrong: 0,
     };
-    let end = turns(&mut board, &mut work, start, count);
+    let end = turns(&mut board, &mut work[0..work_words], start, count);
     report(end);
 }

@@ -105,18 +105,31 @@ fn traced(title: &[u8], script: &[u8], count: usize) {
     woken(script, count, EXAMPLE_LINES, EXAMPLE_WORK);
 }
 
+// The same on a board of 8 lines, which belong in one set.
+fn traced_in_set(title: &[u8], script: &[u8], count: usize) {
+    let mut board = [0u64; ONE_SET_BOARD];
+    let mut work = [0u64; ONE_SET_WORK];
+    let mut bytes = [0u8; ROOM];
+    if count > ROOM {
+        return;
+    }
+    io::write_all(STDOUT_FILENO, title);
+    fill(&mut bytes, script);
+    run_shown(&mut board, &mut work, 8, &bytes[0..count]);
+}
+
 // Traces that end as ok: the paper's replay listing without its n and p; one in which each kind of
 // call stores another number of words; and one whose calls are refused as 11, 5, 8 and 9.
 fn whole_traces() {
     traced(
         b"replay as a trace\n",
-        b"s07 c00 s09 c00 a00 a00 a00 l00 ",
-        8 * RECORD_BYTES,
-    );
-    traced(
-        b"four totals\n",
-        b"s07 s31 l20 s15 e10 s28 c00 a00 a00 a00 ",
+        b"s07 c00 s09 c00 a00 a00 a00 a00 a00 l00 ",
         10 * RECORD_BYTES,
+    );
+    traced_in_set(
+        b"four totals\n",
+        b"s07 s11 s22 s33 l40 s55 e10 s66 s77 e70 c00 a00 a00 a00 a00 a00 ",
+        16 * RECORD_BYTES,
     );
     traced(
         b"refused calls 11 5 8 9\n",

@@ -8,7 +8,7 @@ abbrev Inv-loop : tie.InvT-loop
 Inv-loop board reference wrong₀ i₀ wrong i = Unit {0}
 
 abbrev μ-loop : tie.MeasureT-loop
-μ-loop board reference wrong₀ i₀ wrong i = 5 - i
+μ-loop board reference wrong₀ i₀ wrong i = 11 - i
 
 loop-holds : tie.Need-loop-holds Inv-loop μ-loop
 loop-holds c = search needs
