@@ -163,7 +163,7 @@ fn held_lines() {
 }
 
 // "a line held twice in it is improper": in each two slots, whichever line is asked for. "The scan
-// keeps visiting and testing single slots."
+// keeps visiting and testing single slots." 5 comes before it, the count's test behind it.
 fn held_twice() {
     one_set(
         b"held twice\n",
@@ -171,7 +171,7 @@ fn held_twice() {
     );
     one_set(
         b"a scan of a line held twice\n",
-        b"n008 8* p000 0* c000 0* T005 01 T005 12 d002 0* l005 0* l006 0* a000 0* a000 0* e005 0* C006 2* C006 3* v000 0* s007 7* a000 0* a000 0* a000 0* ",
+        b"n008 8* p000 0* c000 0* T005 01 T005 12 d002 0* l005 0* l006 0* d000 0* l005 0* d004 0* l006 0* l008 0* d002 0* a000 0* a000 0* e005 0* C006 2* C006 3* v000 0* s007 7* a000 0* a000 0* a000 0* ",
     );
     two_sets(
         b"held twice in the other set\n",
@@ -179,11 +179,11 @@ fn held_twice() {
     );
 }
 
-// "Load, store and evict now test the whole set by 6".
+// "Load, store and evict now test the whole set by 6"; 5 comes before it.
 fn improper_slots() {
     one_set(
         b"each slot of the set improper\n",
-        b"n008 8* p000 0* c000 0* o000 0* l005 0* s005 7* e005 0* a000 0* v000 0* o002 0* l005 0* s005 7* e005 0* v002 0* o004 0* l005 0* s005 7* e005 0* v004 0* o006 0* l005 0* s005 7* e005 0* a000 0* C005 0* l005 0* s005 7* e005 0* v006 0* l005 0* ",
+        b"n008 8* p000 0* c000 0* o000 0* l005 0* s005 7* e005 0* a000 0* l008 0* s008 1* e008 0* v000 0* o002 0* l005 0* s005 7* e005 0* v002 0* o004 0* l005 0* s005 7* e005 0* v004 0* o006 0* l005 0* s005 7* e005 0* a000 0* C005 0* l005 0* s005 7* e005 0* v006 0* l005 0* ",
     );
     two_sets(
         b"improper in its set\n",
@@ -208,7 +208,7 @@ fn counts_of_sets() {
     );
 }
 
-// "8 room: an undo entry is due": of the slot that is found or taken. 4 lines, 1 log entry.
+// "8 room: an undo entry is due": of the slot that is found or taken. 4 lines and 22, 1 log entry.
 fn room() {
     let mut board = [0u64; SHORT_BOARD];
     let mut work = [0u64; ONE_SET_WORK];
@@ -217,6 +217,10 @@ fn room() {
         &mut board,
         &mut work,
         b"n004 1* p000 0* s001 7* T003 31 d002 0* s003 5* s001 6* s000 5* C002 2* s002 5* c000 0* s003 5* s001 5* ",
+    );
+    one_set(
+        b"no room for a line that takes a slot of the running epoch\n",
+        b"n022 1* p000 0* s000 7* T001 11 T002 21 T003 31 d004 0* s005 5* s002 5* l005 0* s005 5* ",
     );
 }
 
