@@ -116,13 +116,21 @@ pub const GIVEN_REGISTERS: u64 = 6;
 
 pub const QUESTION: u64 = 6;
 
+pub const LOAD_PLACE: u64 = 0;
+
+pub const STORE_PLACE: u64 = 1;
+
+pub const EVICT_PLACE: u64 = 2;
+
+pub const SCAN_PLACE: u64 = 3;
+
 pub fn place_of(c: Call) -> u64 {
     let kind = c.kind;
     match kind {
-        Kind::Load => 0,
-        Kind::Store => 1,
-        Kind::Evict => 2,
-        Kind::Scan => 3,
+        Kind::Load => LOAD_PLACE,
+        Kind::Store => STORE_PLACE,
+        Kind::Evict => EVICT_PLACE,
+        Kind::Scan => SCAN_PLACE,
         Kind::Commit => 4,
         Kind::Tally => 5,
         Kind::FilterBits => QUESTION,

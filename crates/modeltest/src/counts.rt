@@ -1,8 +1,9 @@
-// Calls with a count of dirty slots that may be wrong, by document 02's request 5/13: "Registers are
-// also improper when the count exceeds S. Right after 6, in each call that has it, a count of 0 with
-// the visited slot dirty, or of S with it not, answers 4." In the states of a list of calls the count
-// is damaged, and so is what makes other numbers due too. The number of each call and the count that
-// it leaves are held to a plan.
+// Calls with a count of dirty slots that may be wrong, by document 02's requests 5/13 and 6/13:
+// "Registers are also improper when the count exceeds S. Right after 6, in each call that has it, a
+// count of 0 with the visited slot dirty, or of S with it not, answers 4", but in load, store and
+// evict the test "refuses 0 if any slot of" the set "is dirty, S if any is not." In the states of a
+// list of calls the count is damaged, and so is what makes other numbers due too. The number of each
+// call and the count that it leaves are held to a plan.
 use crate::calls::*;
 use crate::compare::*;
 use crate::damage::CALLS;
@@ -68,7 +69,7 @@ fn with_none_waiting(s: State) -> State {
 }
 
 // What else is set: no room in the log; no epoch that waits; a buffered entry that is not proper; one
-// whose bits are not set; a visited slot that is not proper; the cursor past the slots; or nothing.
+// whose bits are not set; a tested slot that is not proper; the cursor past the slots; or nothing.
 const FRAMES: u64 = 7;
 
 fn framed(s: State, c: Call, frame: u64) -> State {
@@ -85,7 +86,7 @@ fn framed(s: State, c: Call, frame: u64) -> State {
     }
 }
 
-// A count that passes with any slot, since it is neither 0 nor S.
+// A count that passes with any slots, since it is neither 0 nor S.
 const PASSING: u64 = 1;
 
 fn passing_number(s: State, c: Call) -> u64 {
@@ -100,15 +101,17 @@ fn is_above(s: State, c: Call) -> bool {
     s.registers[DIRTY] > SLOTS
 }
 
-// "a count of 0 with the visited slot dirty, or of S with it not".
+// "refuses 0 if any slot of it is dirty, S if any is not": of the slots that the call tests.
 fn is_refused(s: State, c: Call) -> bool {
-    if !visits(s, c) {
+    let count = s.registers[DIRTY];
+    if !tests_slots(s, c) {
         return false;
     }
-    if visits_dirty(s, c) {
-        return s.registers[DIRTY] == 0;
+    match count {
+        0 => tests_any(s, c, true),
+        SLOTS => tests_any(s, c, false),
+        _ => false,
     }
-    s.registers[DIRTY] == SLOTS
 }
 
 // The number, by that of the same call with a count that passes.
@@ -170,9 +173,9 @@ fn with_number_behind(score: Score, passing: u64) -> Score {
     }
 }
 
-// The turns of a call whose count is refused by the visited slot.
+// The turns of a call whose count is refused by the slots that it tests.
 fn with_refusal(score: Score, s: State, c: Call, passing: u64) -> Score {
-    let form = if visits_dirty(s, c) {
+    let form = if s.registers[DIRTY] == 0 {
         ZERO_REFUSED
     } else {
         ALL_REFUSED
@@ -184,14 +187,14 @@ fn with_refusal(score: Score, s: State, c: Call, passing: u64) -> Score {
     }
 }
 
-// The first of the calls visit a slot: load, store, evict and scan.
-const VISITING: u64 = 4;
+// The first of the calls test slots: load, store, evict and scan.
+const SLOT_TESTING: u64 = 4;
 
 // The turn of one that is accepted with a count of 0 or S.
-fn with_visit(score: Score, s: State, c: Call) -> Score {
+fn with_ends(score: Score, s: State, c: Call) -> Score {
     let count = s.registers[DIRTY];
-    let is_end = !visits(s, c);
-    if place_of(c) >= VISITING {
+    let is_end = !tests_slots(s, c);
+    if place_of(c) >= SLOT_TESTING {
         return score;
     }
     match count {
@@ -235,8 +238,8 @@ fn with_turns(score: Score, s: State, c: Call, passing: u64, o: Outcome) -> Scor
     if o.number != OK {
         return score;
     }
-    let visited = with_visit(score, s, c);
-    let changed = with_change(visited, c, s.registers[DIRTY], o.registers[DIRTY]);
+    let ends = with_ends(score, s, c);
+    let changed = with_change(ends, c, s.registers[DIRTY], o.registers[DIRTY]);
     with_wrong(changed, s, c)
 }
 

@@ -68,8 +68,9 @@ fn sweep_call(n: u64) -> Call {
     to_line(Kind::Store, at % (SLOTS + 1), sum(n, 1000))
 }
 
-// A line that shares its slot with one a little ahead of the sweep: with 31 entries buffered and
-// none of them for the line in that slot, a store to it owes 66 board stores.
+// A line of the set of one a little ahead of the sweep, whose slot it takes where the lines behind it
+// have a later tag: with 31 entries buffered and none of them for that line, a store to it owes 66
+// board stores.
 fn rival(n: u64) -> u64 {
     SLOTS + (n % SWEEP % (SLOTS + 1) + 5) % SLOTS
 }

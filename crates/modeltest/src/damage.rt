@@ -5,7 +5,10 @@ use crate::history::*;
 use crate::packing::*;
 use crate::plans;
 use crate::plans::ENTRIES;
+use crate::plans::LINES;
+use crate::plans::SET_LINES;
 use crate::plans::SLOTS;
+use crate::plans::set_line;
 use crate::register_words::*;
 
 fn quiet_call(n: u64) -> Call {
@@ -26,17 +29,29 @@ fn line_kind(n: u64) -> Kind {
     }
 }
 
-// The calls: power-up, commit, scan, tally, the status question; load, store and evict of each line
-// and of one too many.
+// Each line of the first set, the first and the last of the second, and one too many.
+const CALLED_LINES: u64 = SET_LINES + 3;
+
+fn called_line(n: u64) -> u64 {
+    match n {
+        SET_LINES => set_line(1, 0),
+        6 => LINES - 1,
+        7 => LINES,
+        _ => set_line(0, n),
+    }
+}
+
+// The calls: power-up, commit, scan, tally, the status question; load, store and evict of each of
+// those lines.
 const QUIET: u64 = 5;
 
-pub const CALLS: u64 = QUIET + 18;
+pub const CALLS: u64 = QUIET + 3 * CALLED_LINES;
 
 pub fn numbered_call(n: u64) -> Call {
     if n < QUIET {
         return quiet_call(n);
     }
-    to_line(line_kind((n - QUIET) % 3), (n - QUIET) / 3, n)
+    to_line(line_kind((n - QUIET) % 3), called_line((n - QUIET) / 3), n)
 }
 
 fn called(s: State, c: Call, score: Score) -> Score {
@@ -176,12 +191,16 @@ fn count_of(n: u64) -> u64 {
     0xFFFFFFFFFFFFFFFF
 }
 
-// The values of c and of the count of dirty slots: up to S + 1, and the greatest.
+// The values of c and of the count of dirty slots: 0, 1, half of S, S, S + 1, and the greatest.
 fn slots_of(n: u64) -> u64 {
-    if n < 5 {
-        return n;
+    match n {
+        0 => 0,
+        1 => 1,
+        2 => SLOTS / 2,
+        3 => SLOTS,
+        4 => SLOTS + 1,
+        _ => 0xFFFFFFFFFFFFFFFF,
     }
-    0xFFFFFFFFFFFFFFFF
 }
 
 // The values of s: P, the next epoch, that of the sound state and the one after it, the last that is

@@ -62,7 +62,7 @@ pub fn is_buffered(s: State, address: u64) -> bool {
 // Whether a call, by what it left, flushed since it wrote a line out that no buffered entry is of. A
 // flush of 32 entries is none.
 pub fn is_false_hit(s: State, c: Call, left: State) -> bool {
-    if !visits(s, c) {
+    if !tests_slots(s, c) {
         return false;
     }
     if s.registers[BUFFERED] >= BUFFER_ENTRIES - 1 {
@@ -71,7 +71,7 @@ pub fn is_false_hit(s: State, c: Call, left: State) -> bool {
     if length_of(left.board[CONTROL]) <= length_of(s.board[CONTROL]) {
         return false;
     }
-    !is_buffered(s, visited_line(s, c))
+    !is_buffered(s, changed_line(s, left))
 }
 
 fn with_bit(s: State, bit: u64, is_on: bool) -> State {

@@ -10,13 +10,13 @@ use crate::history::*;
 use crate::packing::*;
 use crate::plans;
 use crate::plans::ENTRIES;
+use crate::plans::FURTHER_LINES;
 use crate::plans::OTHER_LINE;
-use crate::plans::SHARED_SLOTS;
 use crate::plans::shared_line;
 use crate::random::advanced;
 use crate::random::below;
 use crate::register_words::*;
-use crate::slot_words::visited_line;
+use crate::slot_words::changed_line;
 use crate::turns::*;
 
 // A list for each of four lines, and with or without a store to each of the two lines that share its
@@ -25,40 +25,50 @@ const CHOICES: u64 = 8;
 
 const LISTS: u64 = 4 * CHOICES;
 
-const LENGTH: u64 = 13;
+const LENGTH: u64 = 8;
 
 // The line of a list, and the two that share its bits.
 fn line_of(list: u64, role: u64) -> u64 {
     shared_line(sum(list / CHOICES * 3, role))
 }
 
-// A load that changes nothing, or a store.
+// The store of a line that shares no bits, so that the set is full of dirty lines; in a list in which
+// no sharing line is stored a load, so that nothing is buffered.
+fn filling(list: u64, role: u64) -> Call {
+    let line = sum(FURTHER_LINES, role);
+    if list % 4 == 0 {
+        return to_line(Kind::Load, line, 0);
+    }
+    to_line(Kind::Store, line, sum(list, 50))
+}
+
 fn chosen(list: u64, choice: u64, role: u64) -> Call {
     if choice % 2 == 0 {
-        return to_line(Kind::Load, line_of(list, 0), 0);
+        return filling(list, role);
     }
     to_line(Kind::Store, line_of(list, role), sum(list, 100))
 }
 
-// The line is stored and, by the write-out of another, its entry flushed. The scan is brought to its
-// slot before the other lines are stored.
+// A load that changes nothing, or a store.
+fn chosen_again(list: u64, choice: u64) -> Call {
+    if choice % 2 == 0 {
+        return to_line(Kind::Load, line_of(list, 0), 0);
+    }
+    to_line(Kind::Store, line_of(list, 0), sum(list, 100))
+}
+
+// The line is stored, in slot 0, where the scan begins, and, by the write-out of another, its entry
+// flushed. Then the other slots are filled. Of dirty lines it is the one that another one replaces.
 fn list_call(list: u64, i: u64) -> Call {
-    let line = line_of(list, 0);
     match i {
-        0 => to_line(Kind::Store, line, sum(list, 1)),
+        0 => to_line(Kind::Store, line_of(list, 0), sum(list, 1)),
         1 => to_line(Kind::Store, OTHER_LINE, 2),
         2 => to_line(Kind::Evict, OTHER_LINE, 0),
         3 => plain(Kind::Commit),
-        10 => chosen(list, list, 1),
-        11 => chosen(list, list / 2, 2),
-        12 => chosen(list, list / 4, 0),
-        _ => {
-            if i < line % SHARED_SLOTS + 4 {
-                plain(Kind::Scan)
-            } else {
-                to_line(Kind::Load, line, 0)
-            }
-        }
+        4 => chosen(list, list, 1),
+        5 => chosen(list, list / 2, 2),
+        6 => filling(list, 0),
+        _ => chosen_again(list, list / 4),
     }
 }
 
@@ -75,7 +85,6 @@ fn listed(list: u64, score: Score) -> History {
 const FRAMES: u64 = 5;
 
 fn framed(s: State, frame: u64) -> State {
-    let cursor = s.registers[CURSOR];
     let persisted = match frame {
         3 => LAST_EPOCH - 1,
         4 => 1,
@@ -92,28 +101,22 @@ fn framed(s: State, frame: u64) -> State {
         3 => LAST_EPOCH,
         _ => 2,
     };
-    next.registers[CURSOR] = if frame < 3 { cursor } else { 0 };
     next
 }
 
-// Of the line and of a rival for its slot.
+// Of the line and of one that is not held.
 const CALLS: u64 = 11;
 
 fn numbered_call(line: u64, n: u64) -> Call {
-    let rival = if line < SHARED_SLOTS {
-        line + SHARED_SLOTS
-    } else {
-        line - SHARED_SLOTS
-    };
     match n {
-        0 => to_line(Kind::Load, rival, 0),
-        1 => to_line(Kind::Store, rival, 3),
+        0 => to_line(Kind::Load, OTHER_LINE, 0),
+        1 => to_line(Kind::Store, OTHER_LINE, 3),
         2 => to_line(Kind::Evict, line, 0),
         3 => plain(Kind::Scan),
         4 => plain(Kind::Commit),
         5 => to_line(Kind::Load, line, 0),
         6 => to_line(Kind::Store, line, 4),
-        7 => to_line(Kind::Evict, rival, 0),
+        7 => to_line(Kind::Evict, OTHER_LINE, 0),
         8 => plain(Kind::FilterBits),
         9 => plain(Kind::Tally),
         _ => plain(Kind::PowerUp),
@@ -128,9 +131,8 @@ fn counted_turn(bits: u64) -> u64 {
     }
 }
 
-// The turn of a call that writes out the line of the slot that it visits.
-fn hit_turn(s: State, c: Call, damage: u64) -> u64 {
-    let line = visited_line(s, c);
+// The turn of a call that writes a line out.
+fn hit_turn(s: State, c: Call, line: u64, damage: u64) -> u64 {
     if !has_both(s, line) {
         let some = is_set(s, line, false) | is_set(s, line, true);
         return if some { ONE_BIT } else { NO_BIT };
@@ -156,11 +158,14 @@ fn planned_stores(turn: u64, buffered: u64) -> u64 {
     }
 }
 
-fn with_write_out(score: Score, s: State, c: Call, damage: u64, round: u64, stores: u64) -> Score {
+fn with_write_out(s: State, c: Call, damage: u64, round: u64, done: Step) -> Score {
+    let stores = done.outcome.stores;
+    let score = done.score;
+    let left = done.state;
     if stores == 0 {
         return score;
     }
-    let turn = hit_turn(s, c, damage);
+    let turn = hit_turn(s, c, changed_line(s, left), damage);
     let wanted = planned_stores(turn, s.registers[BUFFERED]);
     let next = with_turn(score, turn);
     if stores == wanted {
@@ -227,7 +232,9 @@ fn judged(s: State, c: Call, damage: u64, round: u64, done: Step) -> Score {
     if o.number != OK {
         return next;
     }
-    with_write_out(next, s, c, damage, round, o.stores)
+    let mut accepted = done;
+    accepted.score = next;
+    with_write_out(s, c, damage, round, accepted)
 }
 
 const CASES: u64 = 2 * DAMAGES * FRAMES * CALLS;

@@ -19,6 +19,8 @@ mod print;
 mod random;
 mod record_words;
 mod register_words;
+mod set_plans;
+mod sets;
 mod short;
 mod slot_words;
 mod trace_jobs;
@@ -103,16 +105,17 @@ fn damaged() {
     );
     turns_line(filters::calls(16001, new_score(18)), FILTERS, FILTERS_END);
     turns_line(counts::calls(18001, new_score(19)), COUNTS, COUNTS_END);
+    turns_line(sets::calls(19001, new_score(20)), IN_SETS, IN_SETS_END);
 }
 
 fn recorded() {
-    let written = record_words::writer(10001, new_score(20));
-    let read = record_words::reader(11001, new_score(21));
-    let traced = traces::runs(12001, new_score(22));
+    let written = record_words::writer(10001, new_score(21));
+    let read = record_words::reader(11001, new_score(22));
+    let traced = traces::runs(12001, new_score(23));
     turns_line(written, WRITER, WRITER_END);
     turns_line(read, READER, READER_END);
     turns_line(traced, RUN, RUN_END);
-    turns_line(names::texts(17001, new_score(23)), NAMES, NAMES_END);
+    turns_line(names::texts(17001, new_score(24)), NAMES, NAMES_END);
 }
 
 fn main() {

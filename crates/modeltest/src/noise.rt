@@ -9,7 +9,9 @@ use crate::packing::*;
 use crate::plans;
 use crate::plans::ENTRIES;
 use crate::plans::LINES;
+use crate::plans::SET_LINES;
 use crate::plans::SLOTS;
+use crate::plans::set_line;
 use crate::random;
 use crate::random::advanced;
 use crate::random::below;
@@ -111,18 +113,20 @@ fn slot_tag(word: u64, f: Frame) -> u64 {
     sum(sum(f.persisted, 1), below(word, behind))
 }
 
-// A line of slot k: k or, where there is such a line, the next one.
-fn slot_line(word: u64, k: u64) -> u64 {
-    let far = sum(k, SLOTS);
-    if word % 2 == 0 {
-        return k;
-    }
-    if far < LINES { far } else { k }
+// A line of the set of slot k: most often another one for each slot, by where the log starts; now and
+// then any of them, so that some lines are held twice.
+fn slot_line(word: u64, k: u64, start: u64) -> u64 {
+    let nth = if word % 16 == 0 {
+        below(word, SET_LINES)
+    } else {
+        sum(k % WAYS, start)
+    };
+    set_line(k / WAYS, nth)
 }
 
 // An empty, a clean or a dirty slot k.
 fn slot(word: u64, k: u64, f: Frame) -> u64 {
-    let address = slot_line(word >> 40, k);
+    let address = slot_line(word >> 30, k, f.start);
     let state = word % 4;
     match state {
         0 => 0,

@@ -21,11 +21,11 @@ pub const FILTER_WORDS: u64 = 64;
 
 const BEHIND_SLOTS: usize = BUFFER_WORDS + FILTER_WORDS as usize;
 
-// The model takes boards of up to 300 words. The work memory has room for S = 257, which is refused,
+// The model takes boards of up to 300 words. The work memory has room for S = 260, which is refused,
 // and for two words more.
 pub const BOARD_ROOM: usize = 300;
 
-pub const WORK_ROOM: usize = 2 * 257 + BEHIND_SLOTS + 2;
+pub const WORK_ROOM: usize = 2 * 260 + BEHIND_SLOTS + 2;
 
 // N and L, in fields of 20 bits, are at most 65,536.
 pub const MOST_LINES: u64 = 65536;
@@ -71,6 +71,22 @@ pub fn slots_in(work_words: usize) -> u64 {
         return 0;
     }
     ((work_words - BEHIND_SLOTS) / 2) as u64
+}
+
+// The slots of a set. Set g begins at slot 4g, and a line belongs in the set of its address modulo
+// S/4.
+pub const WAYS: u64 = 4;
+
+pub fn first_of_set(set: u64) -> u64 {
+    sum(sum(set, set), sum(set, set))
+}
+
+pub fn set_of_line(address: u64, slots: u64) -> u64 {
+    let sets = slots / WAYS;
+    if sets == 0 {
+        return 0;
+    }
+    address % sets
 }
 
 // The first and the second bit of an address in the filter.
@@ -130,8 +146,18 @@ pub fn clean_word(address: u64) -> u64 {
     (1 << 63) | (address << 46)
 }
 
+// A clean one that has a tag is not proper.
+pub fn tagged_word(address: u64, tag: u64) -> u64 {
+    clean_word(address) | ((tag & LAST_EPOCH) << 22)
+}
+
 pub fn dirty_word(address: u64, tag: u64) -> u64 {
-    clean_word(address) | (1 << 62) | ((tag & LAST_EPOCH) << 22)
+    tagged_word(address, tag) | (1 << 62)
+}
+
+// A valid one that is not valid any more.
+pub fn not_valid(word: u64) -> u64 {
+    word ^ (1 << 63)
 }
 
 // A field of a word: where it begins and its greatest value; 0 where there is no such field.

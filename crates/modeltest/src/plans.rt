@@ -2,6 +2,7 @@
 use crate::calls::sum;
 use crate::history::Plan;
 use crate::packing::LAST_EPOCH;
+use crate::packing::first_of_set;
 use crate::random::Mix;
 use crate::random::below;
 use crate::random::scrambled;
@@ -71,6 +72,19 @@ fn evicting() -> Mix {
     }
 }
 
+// Stores and scans: slots of all kinds, and a log that goes on past the ring's end.
+fn settling() -> Mix {
+    Mix {
+        stores: 26,
+        loads: 6,
+        evicts: 2,
+        commits: 5,
+        scans: 24,
+        power_ups: 0,
+        cut_every: 500,
+    }
+}
+
 // Single calls on random memories, one in three with a small allowance.
 pub fn often_cut() -> Mix {
     Mix {
@@ -104,39 +118,39 @@ fn seeded(p: Plan, seed: u64) -> Plan {
 }
 
 pub fn tiny() -> Plan {
-    plan(2, 3, 1, 1, even(), 0)
+    plan(5, 6, 4, 4, even(), 0)
 }
 
 pub fn sweep() -> Plan {
     plan(80, 100, 40, 40, even(), 0)
 }
 
-// The lists of "histories".
+// The lists of "histories". Some of the other S are refused.
 pub fn small(n: u64, seed: u64) -> Plan {
     match n {
-        0 => seeded(plan(5, 8, 3, 2, even(), 6000), seed),
-        1 => seeded(plan(4, 8, 2, 7, even(), 6000), seed),
-        2 => seeded(plan(1, 1, 1, 2, even(), 3000), seed),
+        0 => seeded(plan(9, 8, 4, 2, even(), 6000), seed),
+        1 => seeded(plan(6, 8, 4, 8, even(), 6000), seed),
+        2 => seeded(plan(1, 1, 4, 12, even(), 3000), seed),
         3 => seeded(plan(7, 3, 4, 1, even(), 4000), seed),
-        4 => seeded(plan(3, 40, 5, 3, even(), 4000), seed),
-        5 => seeded(plan(30, 100, 16, 40, even(), 4000), seed),
-        _ => seeded(plan(8, 145, 1, 9, even(), 4000), seed),
+        4 => seeded(plan(11, 40, 8, 4, even(), 4000), seed),
+        5 => seeded(plan(30, 100, 12, 40, even(), 4000), seed),
+        _ => seeded(plan(8, 145, 4, 9, even(), 4000), seed),
     }
 }
 
 pub fn waiting(seed: u64) -> Plan {
-    seeded(plan(4, 60, 2, 1, committing(), 8000), seed)
+    seeded(plan(6, 60, 4, 8, committing(), 8000), seed)
 }
 
 pub fn last(persisted: u64, seed: u64) -> Plan {
-    let mut next = seeded(plan(4, 20, 2, 1, committing(), 400), seed);
+    let mut next = seeded(plan(6, 20, 4, 3, committing(), 400), seed);
     next.persisted = persisted;
     next
 }
 
 pub fn full(n: u64, seed: u64) -> Plan {
     match n {
-        0 => seeded(plan(6, 5, 3, 3, busy(), 6000), seed),
+        0 => seeded(plan(6, 5, 4, 4, busy(), 6000), seed),
         1 => seeded(plan(8, 33, 8, 8, busy(), 6000), seed),
         _ => seeded(plan(8, 70, 8, 8, busy(), 6000), seed),
     }
@@ -144,15 +158,15 @@ pub fn full(n: u64, seed: u64) -> Plan {
 
 // 256 slots, the most that a work memory can have.
 pub fn many(seed: u64) -> Plan {
-    seeded(plan(60, 110, 256, 255, scanning(), 6000), seed)
+    seeded(plan(190, 50, 256, 252, scanning(), 6000), seed)
 }
 
 // Lists whose calls are each made at every allowance.
 pub fn cut(n: u64, seed: u64) -> Plan {
     match n {
-        0 => seeded(plan(5, 8, 3, 2, even(), 1500), seed),
-        1 => seeded(plan(6, 5, 3, 3, busy(), 1500), seed),
-        2 => seeded(plan(8, 40, 8, 3, even(), 1500), seed),
+        0 => seeded(plan(7, 8, 4, 2, even(), 1500), seed),
+        1 => seeded(plan(6, 5, 4, 4, busy(), 1500), seed),
+        2 => seeded(plan(12, 40, 8, 4, even(), 1500), seed),
         _ => seeded(plan(8, 70, 8, 5, busy(), 1000), seed),
     }
 }
@@ -180,12 +194,13 @@ pub fn shared_line(n: u64) -> u64 {
     }
 }
 
-// A line that shares no bit with those.
+// A line that shares no bit with those, and the first of three more, which share none either.
 pub const OTHER_LINE: u64 = 7;
 
-// The board on which the filter is damaged. No two of three such lines and the one that shares no bit
-// have the same of its slots.
-pub const SHARED_SLOTS: u64 = 8;
+pub const FURTHER_LINES: u64 = 1;
+
+// The board on which the filter is damaged: all lines are of one set.
+const SHARED_SLOTS: u64 = 4;
 
 pub fn shared_bits() -> Plan {
     plan(282, ENTRIES, SHARED_SLOTS, SHARED_SLOTS, evicting(), 0)
@@ -193,14 +208,14 @@ pub fn shared_bits() -> Plan {
 
 pub fn sharing(n: u64, seed: u64) -> Plan {
     match n {
-        0 => seeded(plan(282, 8, 8, 3, evicting(), 4000), seed),
-        1 => seeded(plan(247, 25, 4, 9, evicting(), 4000), seed),
-        _ => seeded(plan(234, 32, 6, 16, evicting(), 4000), seed),
+        0 => seeded(plan(282, 8, 4, 3, evicting(), 4000), seed),
+        1 => seeded(plan(247, 25, 4, 8, evicting(), 4000), seed),
+        _ => seeded(plan(234, 32, 4, 16, evicting(), 4000), seed),
     }
 }
 
 pub fn cut_sharing(seed: u64) -> Plan {
-    seeded(plan(234, 32, 8, 4, evicting(), 1500), seed)
+    seeded(plan(234, 32, 4, 8, evicting(), 1500), seed)
 }
 
 // A list whose states have the count of dirty slots damaged.
@@ -213,7 +228,7 @@ const TRACE_LINES: u64 = 12;
 
 const TRACE_ENTRIES: u64 = 40;
 
-const TRACE_SLOTS: u64 = 8;
+const TRACE_SETS: u64 = 3;
 
 const FEWEST_RECORDS: u64 = 12;
 
@@ -236,7 +251,7 @@ pub fn trace(n: u64, seed: u64) -> Plan {
     let fourth = scrambled(third);
     let lines = sum(1, below(second, TRACE_LINES));
     let entries = sum(1, below(third, TRACE_ENTRIES));
-    let slots = sum(1, below(fourth, TRACE_SLOTS));
+    let slots = first_of_set(sum(1, below(fourth, TRACE_SETS)));
     let more = below(seed, MOST_RECORDS - FEWEST_RECORDS);
     let records = sum(FEWEST_RECORDS, more);
     seeded(
@@ -245,27 +260,38 @@ pub fn trace(n: u64, seed: u64) -> Plan {
     )
 }
 
-// The board whose words, fields and registers are damaged.
-pub const LINES: u64 = 5;
+// The board whose words, fields and registers are damaged: two sets, of five lines each.
+pub const LINES: u64 = 10;
 
 pub const ENTRIES: u64 = 8;
 
-pub const SLOTS: u64 = 3;
+pub const SLOTS: u64 = 8;
+
+pub const SETS: u64 = 2;
+
+pub const SET_LINES: u64 = 5;
+
+// Line nth of a set.
+pub fn set_line(set: u64, nth: u64) -> u64 {
+    sum(set, nth % SET_LINES * SETS)
+}
 
 fn ending(seed: u64, turns: u64, persisted: u64) -> Plan {
-    let mut next = seeded(plan(LINES, ENTRIES, SLOTS, SLOTS, busy(), turns), seed);
+    let plan = plan(LINES, ENTRIES, SLOTS, SLOTS, settling(), turns);
+    let mut next = seeded(plan, seed);
     next.persisted = persisted;
     next
 }
 
-// Lists that end in a state to be damaged: a log that wraps, two buffered entries and the cursor at
-// slot 1; an empty slot and room in the log; a log that wraps, at the last epoch; the cursor past
-// the slots and a clean slot.
+// Lists that end in a state to be damaged: a log that wraps, two buffered entries, the cursor at slot
+// 1, and in the first set four dirty slots of which two have the smallest tag; the same with a clean
+// slot behind a dirty one there and an empty one behind a clean one in the other set; a log that
+// wraps, at the last epoch, and a smallest tag in the third slot; the cursor past the slots.
 pub fn sound(n: u64) -> Plan {
     match n {
-        0 => ending(36, 60, 0),
-        1 => ending(27, 40, 0),
-        2 => ending(49, 40, LAST_EPOCH - 5),
-        _ => ending(54, 60, 0),
+        0 => ending(857, 60, 0),
+        1 => ending(220, 60, 0),
+        2 => ending(200, 60, LAST_EPOCH - 5),
+        _ => ending(206, 90, 0),
     }
 }

@@ -39,7 +39,7 @@ fn group_name(group: u64) {
         );
     } else {
         name_at(
-            b"cuts;cuts at a full buffer;shared bits;cuts with shared bits;one bit;one field;registers;random words;random fields;log ends;filters;counts;records written;records read;traces;names;",
+            b"cuts;cuts at a full buffer;shared bits;cuts with shared bits;one bit;one field;registers;random words;random fields;log ends;filters;counts;sets;records written;records read;traces;names;",
             group - LAST_GROUPS,
         );
     }
@@ -203,6 +203,11 @@ fn turn_name(turn: u64) {
         name_at(
             b"false hit by load;by store;by evict;by scan;true hit;one bit of two;no bit;both bits and no entries;false hit of a damaged filter;of one whose every bit is set;14 by load;by store;by evict;by scan;by commit;before 8;before 9;before 10;before 11;before 12;7 before 14;no bits counted;some;all;",
             turn - FILTERS,
+        );
+    } else if turn >= IN_SETS {
+        name_at(
+            b"empty behind clean;empty;clean behind dirty;clean and first;four equal tags;smallest tag first;second;third;last;held first;second;third;last;not held;asked line twice;another twice;improper first;second;third;last;behind the held one;4 at 0 by another slot;4 at S;S with four dirty;neighbour improper;scan of a line held twice;past an improper one;with a count that another belies;8 for a line not held;held;no entry due;",
+            turn - IN_SETS,
         );
     } else if turn >= COUNTS {
         name_at(

@@ -1,5 +1,6 @@
-// Every list of five calls from an alphabet of eight, on a board of two lines and three log entries
-// with one slot, after a store and a commit.
+// Every list of five calls from an alphabet of eight, on a board of five lines and six log entries
+// with one set of slots: after stores to all lines but one in two epochs, and with the scan before the
+// last slot.
 use crate::calls::*;
 use crate::compare::Score;
 use crate::history::*;
@@ -43,10 +44,28 @@ fn list_scored(start: History, number: u64, score: Score) -> Score {
     end.score
 }
 
+// The calls before each list.
+const BEFORE: u64 = 8;
+
+fn call_before(n: u64) -> Call {
+    match n {
+        0 => to_line(Kind::Store, 0, 5),
+        1 => plain(Kind::Commit),
+        2 | 3 | 4 => to_line(Kind::Store, n, 6),
+        _ => plain(Kind::Scan),
+    }
+}
+
+fn started(score: Score) -> History {
+    let mut next = opened(plans::tiny(), score);
+    for n in 0..BEFORE {
+        next = watched(next, call_before(n));
+    }
+    next
+}
+
 pub fn lists(score: Score) -> Score {
-    let fresh = opened(plans::tiny(), score);
-    let stored = watched(fresh, to_line(Kind::Store, 0, 5));
-    let start = watched(stored, plain(Kind::Commit));
+    let start = started(score);
     let mut next = start.score;
     for i in 0..LISTS {
         next = list_scored(start, i, next);

@@ -56,12 +56,13 @@ fn no_format(j: Job, choice: u64) -> Job {
     next
 }
 
-// Sizes that power-up refuses: no slots, 257, a word too many.
+// Sizes that power-up refuses: no slots, 260, two more than a multiple of 4, a word too many.
 fn no_power_up(j: Job, choice: u64) -> Job {
     let mut next = j;
     next.work_words = match choice {
         0 => work_words(0),
-        1 => work_words(257),
+        1 => work_words(260),
+        2 => work_words(sum(j.plan.slots, 2)),
         _ => j.work_words % WORK_ROOM + 1,
     };
     next

@@ -1,12 +1,12 @@
-// The turns that the groups of recorded traces, of log ends, of filters, of counts and of names
-// take. Each is counted where it answers the number that its plan says, is printed with its count,
+// The turns that the groups of recorded traces, of log ends, of filters, of counts, of sets and of
+// names take. Each is counted where it answers the number that its plan says, is printed with its count,
 // and is a difference where it never occurs.
 use crate::calls::index;
 use crate::calls::sum;
 use crate::compare::*;
 use crate::print;
 
-pub const TURNS: usize = 110;
+pub const TURNS: usize = 141;
 
 // The writer's: a kind and an address with no place in a record.
 pub const WRITER: u64 = 0;
@@ -196,8 +196,8 @@ pub const NO_NAME: u64 = 79;
 
 pub const NAMES_END: u64 = 80;
 
-// The counts': 4, since the count is 0 and the visited slot dirty, by load, store, evict, scan; since
-// it is S and the slot not dirty, by the same.
+// The counts': 4, since the count is 0 and a slot tested dirty, by load, store, evict, scan; since it
+// is S and a slot tested not dirty, by the same.
 pub const COUNTS: u64 = 80;
 
 pub const ZERO_REFUSED: u64 = 80;
@@ -218,8 +218,8 @@ pub const ABOVE_SLOTS: u64 = 95;
 // A count that changes, by load, store, evict, scan.
 pub const CHANGED: u64 = 101;
 
-// Accepted: 0 with a slot that is not dirty; S with one that is; either with c = S; a wrong count
-// that is as wrong afterwards; one that is tallied.
+// Accepted: 0 with no slot dirty; S with all; either with c = S; a wrong count that is as wrong
+// afterwards; one that is tallied.
 pub const ZERO_PASSED: u64 = 105;
 
 pub const ALL_PASSED: u64 = 106;
@@ -231,6 +231,60 @@ pub const WRONG_CARRIED: u64 = 108;
 pub const WRONG_TALLIED: u64 = 109;
 
 pub const COUNTS_END: u64 = 110;
+
+// The sets': a line that is not held takes an empty slot behind a clean one; an empty one else; a clean
+// one behind dirty ones; a clean one that is the set's first; the first of four with equal tags; the
+// one with the smallest tag, by its place in the set.
+pub const IN_SETS: u64 = 110;
+
+pub const EMPTY_BEHIND_CLEAN: u64 = 110;
+
+pub const EMPTY_TAKEN: u64 = 111;
+
+pub const CLEAN_BEHIND_DIRTY: u64 = 112;
+
+pub const CLEAN_TAKEN: u64 = 113;
+
+pub const EQUAL_TAGS: u64 = 114;
+
+pub const SMALLEST_TAG: u64 = 115;
+
+// The line is held, by its place in the set; it is not held, and to be evicted.
+pub const HELD: u64 = 119;
+
+pub const NOT_HELD: u64 = 123;
+
+// 6: the line asked for is held twice, and no other; another one is; a slot is not proper, by its place
+// in the set; one behind the slot that holds the line.
+pub const ASKED_TWICE: u64 = 124;
+
+pub const OTHER_TWICE: u64 = 125;
+
+pub const IMPROPER_AT: u64 = 126;
+
+pub const IMPROPER_BEHIND_HELD: u64 = 130;
+
+// 4 by another slot than the one that is found or taken: a count of 0, one of S.
+pub const ZERO_BY_ANOTHER: u64 = 131;
+
+pub const ALL_BY_ANOTHER: u64 = 132;
+
+// Accepted: a count of S with four dirty slots; a slot of the other set that is not proper; a scan with
+// a line held twice, another slot not proper, a count that another slot belies.
+pub const ALL_DIRTY_PASSED: u64 = 133;
+
+pub const NEIGHBOUR_PASSED: u64 = 134;
+
+pub const SCAN_PASSED: u64 = 135;
+
+// 8, for a line that is not held; for one that is. No room, but no entry is due.
+pub const ROOM_TAKEN: u64 = 138;
+
+pub const ROOM_FOUND: u64 = 139;
+
+pub const NO_ENTRY_DUE: u64 = 140;
+
+pub const IN_SETS_END: u64 = 141;
 
 // The paper's numbers.
 pub const OK: u64 = 0;

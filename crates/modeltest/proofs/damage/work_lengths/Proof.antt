@@ -8,7 +8,7 @@ abbrev Inv-loop : tie.InvT-loop
 Inv-loop s next₀ words₀ next words = Unit {0}
 
 abbrev μ-loop : tie.MeasureT-loop
-μ-loop s next₀ words₀ next words = 645 - words
+μ-loop s next₀ words₀ next words = 651 - words
 
 loop-holds : tie.Need-loop-holds Inv-loop μ-loop
 loop-holds c = search needs

@@ -8,7 +8,7 @@ abbrev Inv-loop : tie.InvT-loop
 Inv-loop list next₀ i₀ next i = Unit {0}
 
 abbrev μ-loop : tie.MeasureT-loop
-μ-loop list next₀ i₀ next i = 13 - i
+μ-loop list next₀ i₀ next i = 8 - i
 
 shared-bits-requires : tie.Need-shared-bits-requires Inv-loop μ-loop
 shared-bits-requires c κs = search needs

@@ -8,7 +8,7 @@ abbrev Inv-loop : tie.InvT-loop
 Inv-loop f next₀ k₀ next k = Unit {0}
 
 abbrev μ-loop : tie.MeasureT-loop
-μ-loop f next₀ k₀ next k = 3 - k
+μ-loop f next₀ k₀ next k = 8 - k
 
 loop-holds : tie.Need-loop-holds Inv-loop μ-loop
 loop-holds c = search needs

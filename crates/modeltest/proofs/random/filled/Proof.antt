@@ -8,7 +8,7 @@ abbrev Inv-loop : tie.InvT-loop
 Inv-loop seed next₀ word₀ i₀ next word i = Unit {0}
 
 abbrev μ-loop : tie.MeasureT-loop
-μ-loop seed next₀ word₀ i₀ next word i = 644 - i
+μ-loop seed next₀ word₀ i₀ next word i = 650 - i
 
 loop-holds : tie.Need-loop-holds Inv-loop μ-loop
 loop-holds c = search needs

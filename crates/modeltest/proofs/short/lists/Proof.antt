@@ -10,23 +10,8 @@ Inv-loop start next₀ i₀ next i = Unit {0}
 abbrev μ-loop : tie.MeasureT-loop
 μ-loop start next₀ i₀ next i = 32768 - i
 
-tiny-requires : tie.Need-tiny-requires Inv-loop μ-loop
-tiny-requires c κs = search needs
-
-opened-requires : tie.Need-opened-requires Inv-loop μ-loop
-opened-requires c κs = search needs
-
-to-line-requires : tie.Need-to-line-requires Inv-loop μ-loop
-to-line-requires c κs = search needs
-
-watched-requires : tie.Need-watched-requires Inv-loop μ-loop
-watched-requires c κs = search needs
-
-plain-requires : tie.Need-plain-requires Inv-loop μ-loop
-plain-requires c κs = search needs
-
-watched-requires-2 : tie.Need-watched-requires-2 Inv-loop μ-loop
-watched-requires-2 c κs = search needs
+started-requires : tie.Need-started-requires Inv-loop μ-loop
+started-requires c κs = search needs
 
 loop-holds : tie.Need-loop-holds Inv-loop μ-loop
 loop-holds c = search needs
@@ -52,12 +37,7 @@ lists-spec =
     (tie.spec
     Inv-loop
     μ-loop
-    tiny-requires
-    opened-requires
-    to-line-requires
-    watched-requires
-    plain-requires
-    watched-requires-2
+    started-requires
     loop-holds
     list-scored-requires
     add-i

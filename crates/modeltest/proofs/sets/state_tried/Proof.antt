@@ -1,0 +1,46 @@
+-- `modeltest::sets::state_tried` is safe and ends. The loop needs no invariant. The measure is the turns left. Assumes nothing.
+use borrow.Author.Needs.{needs}
+use Prim.Native.Nat.{_-_}
+use Rattle.modeltest.proofs.sets.state_tried.Statement.{statement}
+use Rattle.modeltest.proofs.sets.state_tried.Tie as tie
+
+abbrev Inv-loop : tie.InvT-loop
+Inv-loop n word state next₀ i₀ next i = Unit {0}
+
+abbrev μ-loop : tie.MeasureT-loop
+μ-loop n word state next₀ i₀ next i = 6 - i
+
+state-at-requires : tie.Need-state-at-requires Inv-loop μ-loop
+state-at-requires c κs = search needs
+
+loop-holds : tie.Need-loop-holds Inv-loop μ-loop
+loop-holds c = search needs
+
+tried-requires : tie.Need-tried-requires Inv-loop μ-loop
+tried-requires c κs = search needs
+
+add-i : tie.Need-add-i Inv-loop μ-loop
+add-i c = search needs
+
+loop-less : tie.Need-loop-less Inv-loop μ-loop
+loop-less c = search needs
+
+loop-again : tie.Need-loop-again Inv-loop μ-loop
+loop-again c = search needs
+
+returns : tie.Need-returns Inv-loop μ-loop
+returns c = search needs
+
+pub state-tried-spec : {M : Type 1} → statement M
+state-tried-spec =
+    tie.close
+    (tie.spec
+    Inv-loop
+    μ-loop
+    state-at-requires
+    loop-holds
+    tried-requires
+    add-i
+    loop-less
+    loop-again
+    returns)
