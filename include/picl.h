@@ -27,19 +27,25 @@
  * P < ValidTill <= P + 16, and ValidTill is not below that of the next older entry. The library writes no other; power-up
  * refuses a log that has one (PICL_ENTRY), since the board's memory is then damaged.
  *
- * THE WORK MEMORY is lost with the current. PICL_WORK_WORDS(S) words; S, from 1 to 256, is read from its length:
+ * THE WORK MEMORY is lost with the current. PICL_WORK_WORDS(S) words; S, a multiple of 4 from 4 to 256, is read from its
+ * length:
  *
  *     word 0 to 2S - 1      slots     S slots of two words: valid 1, dirty 1, address 16, tag 24, zero 22; then the data
  *     word 2S to 2S + 63    buffer    32 undo entries of two words, packed as in the log
  *     word 2S + 64 on       filter    64 words, 4,096 bits; bit 0 is the most significant bit of the first word
  *
- * Line a belongs in slot a mod S. A buffered entry for line a has set bit a mod 4,096 of the filter and bit
- * (a * 40503 mod 65,536) / 16, rounded down. A line that is written out flushes the buffer first where b > 0 and both its
- * bits are set: always where the buffer has an entry for it, and now and then where the entries of other lines have set
- * them (a false hit, which costs the stores of a flush and nothing else). A flush clears the filter.
+ * Slots stand in sets of four: set g is slots 4g to 4g + 3. Line a belongs in any slot of set a mod (S / 4), and is held in one
+ * at most. A line that is not held takes the first empty slot of its set, else the first clean one, else the dirty one with the
+ * smallest tag, the lowest slot among equals.
+ *
+ * A buffered entry for line a has set bit a mod 4,096 of the filter and bit (a * 40503 mod 65,536) / 16, rounded down. A line
+ * that is written out flushes the buffer first where b > 0 and both its bits are set: always where the buffer has an entry for
+ * it, and now and then where the entries of other lines have set them (a false hit, which costs the stores of a flush and
+ * nothing else). A flush clears the filter.
  *
  * A program that was built with a header in which PICL_WORK_WORDS(S) was 2S + 64 has to be built anew. Its work memory is
- * refused (PICL_WORK) where S is at most 32; where S is larger nothing can refuse it: its length is that of S - 32 slots.
+ * refused (PICL_WORK) where S is at most 32; where S is a larger multiple of 4 nothing can refuse it: its length is that of S - 32
+ * slots. A program whose S is no multiple of 4, as it could be when each line had one slot, has to be given one that is.
  *
  * THE REGISTERS are PICL_REGISTER_WORDS words, lost with the current too. Power-up fills them. Each later call that takes
  * them reads them, and leaves the new ones in their place; picl_tally only reads them:
@@ -58,7 +64,7 @@
  *     word 1                stores    how many board stores the call has made; 0 from format, which does not count its own
  *
  * Registers and answer may be longer than that; the words behind are not touched. The two memories may not: a board that
- * is one word longer is refused (PICL_SHAPE), and a work memory that is two words longer has one slot more. Format fixes N
+ * is one word longer is refused (PICL_SHAPE), and a work memory that is eight words longer has four slots more. Format fixes N
  * and L. Power-up fixes S: until the next power-up, each call gets a work memory of the same length.
  *
  *
@@ -122,6 +128,7 @@ extern "C" {
 #define PICL_MOST_LINES 65536
 #define PICL_MOST_ENTRIES 65536
 #define PICL_MOST_SLOTS 256
+#define PICL_WAYS 4
 #define PICL_BUFFER_ENTRIES 32
 #define PICL_FILTER_WORDS 64
 #define PICL_MOST_WAITING 15
@@ -163,17 +170,17 @@ extern "C" {
  *     trace_write           13
  *     name                  none: it refuses no number
  *
- * The second 4 holds the count to the slot that the call visits: d is 0 and the slot is dirty, or d is S and it is not. A scan
- * with c = S visits no slot, and tests neither 6 nor that.
+ * Load, store and evict visit the four slots of a set, and a scan the slot at its cursor. The second 4 holds the count to them:
+ * d is 0 and one of them is dirty, or d is S and one is not. A scan with c = S visits no slot, and tests neither 6 nor that.
  */
 enum {
     PICL_OK = 0,
     PICL_SHAPE = 1,      /* the board's first two words or its length are not those of a board; format: N, L or the length */
-    PICL_WORK = 2,       /* the work memory's length is not PICL_WORK_WORDS(S), S from 1 to 256 */
+    PICL_WORK = 2,       /* the work memory's length is not PICL_WORK_WORDS(S), S a multiple of 4 from 4 to 256 */
     PICL_ENTRY = 3,      /* power-up: a log entry is not proper (see THE BOARD MEMORY); value says which, the oldest counted 0 */
-    PICL_REGS = 4,       /* the registers are not proper for this board and work memory, or d not for the slot visited */
+    PICL_REGS = 4,       /* the registers are not proper for this board and work memory, or d not for the slots visited */
     PICL_ADDRESS = 5,    /* there is no such line */
-    PICL_SLOT = 6,       /* the slot that the call visits is not proper */
+    PICL_SLOT = 6,       /* a slot that the call visits is not proper, or a line is held in two slots of the set */
     PICL_BUFFER = 7,     /* a buffered undo entry is not proper */
     PICL_ROOM = 8,       /* store: the log has no place for the undo entry that is due */
     PICL_WAITING = 9,    /* commit: 15 epochs wait to be persisted */
