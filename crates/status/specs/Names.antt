@@ -27,6 +27,10 @@ names =
     ∷ "cut"
     ∷ "trace"
     ∷ "filter"
+    ∷ ""
+    ∷ "short"
+    ∷ "past"
+    ∷ "logheld"
     ∷ []
 
 abbrev pub rowBytes : ℕ

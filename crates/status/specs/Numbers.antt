@@ -19,6 +19,9 @@ use Rattle.status.specs.declared.Status.the-variants.{
   Cut,
   Trace,
   Filter,
+  Short,
+  Past,
+  LogHeld,
 }
 
 abbrev pub numberOf : Status → ℕ
@@ -37,6 +40,9 @@ numberOf None = 11
 numberOf Cut = 12
 numberOf Trace = 13
 numberOf Filter = 14
+numberOf Short = 16
+numberOf Past = 17
+numberOf LogHeld = 18
 
 -- "0 ok"
 abbrev pub isOk : Status → Bool

@@ -21,6 +21,9 @@ pub enum Status {
     Cut,
     Trace,
     Filter,
+    Short,
+    Past,
+    LogHeld,
 }
 
 const OK: u64 = 0;
@@ -45,6 +48,9 @@ impl Status {
             Status::Cut => 12,
             Status::Trace => 13,
             Status::Filter => 14,
+            Status::Short => 16,
+            Status::Past => 17,
+            Status::LogHeld => 18,
         }
     }
 

@@ -6,22 +6,43 @@ ghost use Rattle.status.specs.Names.{names, PutsName};
 ghost use Rattle.status.specs.Letters.{letters, starts, Spans};
 
 // The numbers below have an entry each. Where one of them has no name its entry is empty.
-const NAMES: usize = 15;
+const NAMES: usize = 19;
 
-const LETTERS: usize = 70;
+const LETTERS: usize = 86;
 
 // The names in the order of their numbers, as many bytes as they have letters.
 fn letters() -> [u8; LETTERS]
     ensures { λ r. ⌜ r ≡ letters ⌝ }
 {
-    *b"okshapeworkentryregsaddressslotbufferroomwaitinglastnonecuttracefilter"
+    *b"okshapeworkentryregsaddressslotbufferroomwaitinglastnonecuttracefiltershortpastlogheld"
 }
 
 // Where each name starts among the letters, and where the last one ends.
 fn starts() -> [u8; NAMES + 1]
     ensures { λ r. ⌜ r ≡ starts ⌝ }
 {
-    [0, 2, 7, 11, 16, 20, 27, 31, 37, 41, 48, 52, 56, 59, 64, 70]
+    [
+        0,
+        2,
+        7,
+        11,
+        16,
+        20,
+        27,
+        31,
+        37,
+        41,
+        48,
+        52,
+        56,
+        59,
+        64,
+        70,
+        70,
+        75,
+        79,
+        86,
+    ]
 }
 
 // The letters of one name: from start up to, not including, end.
