@@ -1,7 +1,7 @@
 -- A claim about every element of a list.
 use mathlib.Core.List.{List, [], _∷_, _++_}
 use Prim.Native.Nat.{ℕ, zero, suc}
-use lib.ListN.{take}
+use lib.ListN.{getD, take}
 
 abbrev pub Every : {A : Type 0} → (A → Type 0) → List A → Type 0
 Every Q [] = Unit
@@ -24,3 +24,8 @@ module _ {A : Type 0} (Q : A → Type 0) where
   every-take zero xs h = tt
   every-take (suc n) [] h = tt
   every-take (suc n) (x ∷ xs) h = (h .0, every-take n xs (h .1))
+
+  pub every-at : (xs : List A) (i : ℕ) (other : A) → Every Q xs → Q other → Q (getD xs i other)
+  every-at [] i other h o = o
+  every-at (x ∷ xs) zero other h o = h .0
+  every-at (x ∷ xs) (suc i) other h o = every-at xs i other (h .1) o

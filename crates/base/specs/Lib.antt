@@ -5,3 +5,4 @@ pub mod Every
 pub mod Walk
 pub mod Parts
 pub mod Bits
+pub mod Listed

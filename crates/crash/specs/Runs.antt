@@ -10,7 +10,7 @@ use Rattle.reference.specs.Machine.{Event}
 use Rattle.reference.specs.Work.{doesAll}
 use Rattle.history.specs.Machine.{recall}
 use Rattle.history.specs.Invariant.{Safe}
-use Rattle.durable.specs.Listed.{listed}
+use Rattle.base.specs.Listed.{listed}
 use Rattle.durable.specs.View.{durableOf}
 use Rattle.crash.specs.Statement.{Step, call, powerUp, made, fed, Both, after, run, Rests, start}
 use Rattle.crash.specs.State.{Holds, is-down}

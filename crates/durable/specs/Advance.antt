@@ -15,7 +15,7 @@ use Rattle.undo.specs.Log as undo
 use Rattle.undo.specs.Log.{placeOf, entryIn, oldIn, expired, dropped, advanceStores}
 use Rattle.history.specs.Machine.{Durable, ended, dropEnded, advanced}
 use Rattle.history.specs.Recall.{ended-le}
-use Rattle.durable.specs.Listed.{listed, length-listed, listed-same, listed-drop}
+use Rattle.base.specs.Listed.{listed, length-listed, listed-same, listed-drop}
 use Rattle.durable.specs.View.{undoWith, entryAt, logOf, Bounded, Reads}
 use Rattle.durable.specs.Reads.{reads-bounded, reads-as, reads-with, reads-log}
 use Rattle.durable.specs.Seen.{control-reads}

@@ -17,7 +17,7 @@ use Rattle.undo.specs.Log.{placeOf, entryIn, oldIn, bufferedIn, entryStores, fl
 use Rattle.base.specs.Every.{Every, every-append, every-take}
 use Rattle.history.specs.Machine.{Entry, Durable, Volatile, flushed}
 use Rattle.base.specs.Cases.{below-or-not}
-use Rattle.durable.specs.Listed.{listed, listed-same, listed-append}
+use Rattle.base.specs.Listed.{listed, listed-same, listed-append}
 use Rattle.durable.specs.Stores.{shifted-append}
 use Rattle.durable.specs.View.{undoWith, entryWith, entryAt, logOf, bufferedAt, bufferOf, Reads}
 use Rattle.durable.specs.Log.{WordOf, Free, word-before, words-apart, entry-same}

@@ -12,7 +12,7 @@ use Rattle.layout.specs.Words.{ShapeFits, encodeShape, decodeControl, decodeSha
 use Rattle.layout.specs.Laws.{shape-laws}
 use Rattle.layout.specs.ZeroWord.{zeroControl, decode-zero-control}
 use Rattle.history.specs.Machine.{Durable}
-use Rattle.durable.specs.Listed.{listed}
+use Rattle.base.specs.Listed.{listed}
 use Rattle.durable.specs.Zeros.{zeros, getD-zeros}
 use Rattle.durable.specs.View.{Reads}
 

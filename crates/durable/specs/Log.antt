@@ -10,7 +10,7 @@ use Rattle.layout.specs.Words.{decodeEntry}
 use Rattle.undo.specs.declared.LogState.{LogState}
 use Rattle.undo.specs.Log.{placeOf, entryIn, oldIn}
 use Rattle.base.specs.Cases.{below-or-not}
-use Rattle.durable.specs.Listed.{listed-same}
+use Rattle.base.specs.Listed.{listed-same}
 use Rattle.durable.specs.View.{undoWith, entryWith, entryAt, logOf}
 
 -- place p of the board is one of the two words of entry i

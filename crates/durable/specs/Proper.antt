@@ -15,7 +15,7 @@ use Rattle.base.specs.Every.{Every, every-map}
 use Rattle.history.specs.Machine.{Entry, Durable}
 use Rattle.history.specs.Invariant.{ProperEntry, ProperLog}
 use Rattle.history.specs.Proper.{proper-every}
-use Rattle.durable.specs.Listed.{listed}
+use Rattle.base.specs.Listed.{listed}
 use Rattle.durable.specs.View.{entryAt, logOf, Reads}
 use Rattle.durable.specs.Reads.{reads-persisted, reads-log}
 

@@ -18,7 +18,7 @@ use Rattle.undo.specs.Log.{entryIn, restoreStores, restoreTurn, emptied, recove
 use Rattle.base.specs.Every.{Every, every-take}
 use Rattle.history.specs.Machine.{Entry, covers, Durable, cleared}
 use Rattle.history.specs.Restore.{due, patched, patchedBy, restoredAll, restoredPart, due-every}
-use Rattle.durable.specs.Listed.{listed}
+use Rattle.base.specs.Listed.{listed}
 use Rattle.durable.specs.Stores.{take-map}
 use Rattle.durable.specs.View.{entryAt, Reads}
 use Rattle.durable.specs.Reads.{reads-bounded, reads-as, reads-with, reads-persisted, reads-log}

@@ -11,7 +11,7 @@ use Rattle.layout.specs.Memory.{linesAt, boardWords, shapeFor, controlIn, shape
 use Rattle.undo.specs.declared.LogState.{LogState}
 use Rattle.undo.specs.Log.{entryIn, oldIn, bufferedIn}
 use Rattle.history.specs.Machine.{Entry, Durable}
-use Rattle.durable.specs.Listed.{listed}
+use Rattle.base.specs.Listed.{listed}
 
 -- ---- the undo log
 

@@ -20,7 +20,7 @@ use Rattle.history.specs.Invariant.{Safe, Live}
 use Rattle.history.specs.Keeps.{write-out-safe, write-out-live}
 use Rattle.durable.specs.View.{Reads}
 use Rattle.durable.specs.Seen.{line-reads}
-use Rattle.durable.specs.Listed.{listed}
+use Rattle.base.specs.Listed.{listed}
 use Rattle.durable.specs.View.{bufferOf}
 use Rattle.volatile.specs.Filter.{Exact, missed-silent}
 use Rattle.volatile.specs.Proper.{AtHome}

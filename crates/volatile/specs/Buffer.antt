@@ -23,7 +23,7 @@ use Rattle.base.specs.Every.{Every, every-split, every-map}
 use Rattle.history.specs.Invariant.{ProperEntry}
 use Rattle.history.specs.Machine.{Entry}
 use Rattle.base.specs.Cases.{here-or-there}
-use Rattle.durable.specs.Listed.{listed, listed-same, listed-append, every-listed}
+use Rattle.base.specs.Listed.{listed, listed-same, listed-append, every-listed}
 use Rattle.durable.specs.View.{entryWith, bufferedAt, bufferOf}
 
 pub buffer-none : (buffer : List ℕ) → bufferOf buffer 0 ≡ []

@@ -24,7 +24,7 @@ use Rattle.volatile.specs.Parts.{with-buffer}
 use Rattle.volatile.specs.Cache.{cacheOf}
 use Rattle.volatile.specs.Slotted.{Slotted, zeroWork, zero-cache, slot-home, with-slot, with-holds, with-cache, with-slotted}
 use Rattle.volatile.specs.Stores.{Stored, LineStored, dirtied-held}
-use Rattle.durable.specs.Listed.{listed}
+use Rattle.base.specs.Listed.{listed}
 use Rattle.durable.specs.View.{entryWith, bufferOf}
 use Rattle.volatile.specs.Buffer.{buffer-length, flushed-length, pushed-length, pushed-buffer}
 

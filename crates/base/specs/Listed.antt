@@ -5,9 +5,9 @@ use mathlib.Core.Path.{_≡_, refl, ap}
 use mathlib.Core.List.{List, [], _∷_, _++_}
 use native.Mathlib.Nat.{zero-add, add-zero, suc-add, add-suc}
 use native.Mathlib.Omega.{arith}
-use lib.ListN.{length, drop}
+use lib.ListN.{length, getD, drop}
 use lib.Seq.{drop-at}
 use Rattle.base.specs.Every.{Every}
 
 unfoldable pub listed : {A : Type 0} → (ℕ → A) → (i n : ℕ) → List A
 listed f i zero = []
@@ -48,3 +48,11 @@ module _ {A : Type 0} where
 
     pub listed-drop : drop n (listed f 0 (n + m)) ≡ listed (λ k. f (n + k)) 0 m
     listed-drop = rw listed-append (drop-at (listed f 0 n) (listed (λ k. f (n + k)) 0 m) n (length-listed f 0 n))
+
+-- a list is the values at its places
+pub listed-whole : (xs : List ℕ) (f : ℕ → ℕ) (i : ℕ) → ((k : ℕ) → f (i + k) ≡ getD xs k 0) → listed f i (length xs) ≡ xs
+unfolding listed
+listed-whole [] f i same = refl
+listed-whole (x ∷ xs) f i same =
+    let first : f i ≡ x = rw (add-zero i) at (same 0) in
+    rw (first, listed-whole xs f (suc i) (λ k. rw (suc-add i k, ← add-suc i k) (same (suc k))))
