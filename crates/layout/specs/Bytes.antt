@@ -1,11 +1,11 @@
 -- A word as bytes, "most significant byte first", and the laws of that.
-use Prim.Native.Nat.{ℕ, zero, suc, _+_, _-_, _*_, _%_, _^_, _<_, _≤_}
+use Prim.Native.Nat.{ℕ, zero, suc, _+_, _-_, _*_, _/_, _%_, _^_, _<_, _≤_}
 use mathlib.Core.Path.{_≡_, refl, sym, ap, _∙_}
 use mathlib.Core.List.{List, [], _∷_, _++_}
 use native.Mathlib.Omega.{arith}
-use native.Mathlib.Nat.{mod-eq-of-lt, lt-of-lt-of-le}
+use native.Mathlib.Nat.{mod-lt, mod-eq-of-lt, lt-of-lt-of-le}
 use lib.ListN.{length, getD, take, drop, replicate, length-append}
-use lib.Pow.{pow-add, pow-mono}
+use lib.Pow.{pow-pos, pow-add, pow-mono}
 use Rattle.layout.specs.Limits.{wordBits}
 use Rattle.layout.specs.Fields.{width, pack, unpack, Fit, pack-below, pack-unpack, unpack-pack}
 
@@ -36,6 +36,22 @@ withByte word byte = word % 2 ^ (wordBits - byteBits) * 2 ^ byteBits + byte
 -- A list of bytes.
 abbrev pub AreBytes : List ℕ → Type 0
 AreBytes bytes = (i : ℕ) → getD bytes i 0 < 2 ^ byteBits
+
+pub bytes-cons : (b : ℕ) (bs : List ℕ) → b < 2 ^ byteBits → AreBytes bs → AreBytes (b ∷ bs)
+bytes-cons b bs h hs zero = h
+bytes-cons b bs h hs (suc i) = hs i
+
+pub bytes-append : (xs ys : List ℕ) → AreBytes xs → AreBytes ys → AreBytes (xs ++ ys)
+bytes-append [] ys h k = k
+bytes-append (x ∷ xs) ys h k = bytes-cons x (xs ++ ys) (h 0) (bytes-append xs ys (λ i. h (suc i)) k)
+
+-- any number unpacked in bytes
+pub unpacked-bytes : (n x : ℕ) → AreBytes (unpack (byteWidths n) x)
+unfolding unpack
+unpacked-bytes zero x = λ i. omega arith
+unpacked-bytes (suc n) x =
+    let first = x / 2 ^ width (byteWidths n) in
+    bytes-cons (first % 2 ^ byteBits) (unpack (byteWidths n) x) (mod-lt first (pow-pos byteBits)) (unpacked-bytes n x)
 
 pub bytes-drop : (n : ℕ) (bytes : List ℕ) → AreBytes bytes → AreBytes (drop n bytes)
 bytes-drop zero bytes h = h
