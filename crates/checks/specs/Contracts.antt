@@ -21,6 +21,14 @@ pub record Viewed (board : List ℕ) (v : View) : Type 0 where
   pub control : ControlFits (v .control)
   pub shape : ShapeFits (v .shape)
 
+-- 1 passed, of a board that no work memory is lent with
+pub record Opened (board : List ℕ) (v : View) : Type 0 where
+  pub is : v ≡ viewOf board []
+  pub lines-some : 1 ≤ v .shape .lines
+  pub lines-most : v .shape .lines ≤ mostLines
+  pub entries-most : v .shape .entries ≤ mostEntries
+  pub board-words : length board ≡ boardWords (v .shape .lines) (v .shape .entries)
+
 -- 1 and 2 passed
 pub record Shaped (board work : List ℕ) (v : View) : Type 0 where
   pub is : v ≡ viewOf board work

@@ -26,8 +26,8 @@ use Rattle.checks.specs.declared.Registers.{Registers}
 use Rattle.checks.specs.declared.View.{View}
 use Rattle.checks.specs.View.{viewOf, boundsOf, goodSizes, goodControl, goodShape, goodSlots, goodWork, properEpoch, properCounts, properRegisters, miscounted}
 use Rattle.checks.specs.Refusals.{Row, tested, then, boardRows, workRows, registerRows, cursorRows, bufferRows, lineRows, roomRows, epochRows, waitingRows}
-use Rattle.checks.specs.Refusals.{memoriesChecked, runningChecked, lineChecked, storeChecked, commitChecked, scanChecked}
-use Rattle.checks.specs.Contracts.{Shaped, Running, Countable}
+use Rattle.checks.specs.Refusals.{boardChecked, memoriesChecked, runningChecked, lineChecked, storeChecked, commitChecked, scanChecked}
+use Rattle.checks.specs.Contracts.{Opened, Shaped, Running, Countable}
 
 pub differ : _≡_ {A = ℕ} 0 1 → ⊥
 differ e = omega arith
@@ -98,7 +98,7 @@ then-both (Passed v) rows w e =
     let same = passed-view (rows v) v w e in
     record { before = rw same; here = rw (← same) at e }
 
--- ---- 1 and 2
+-- ---- 1, and 1 and 2
 
 shaped-of : (board work : List ℕ) (v : View) → v ≡ viewOf board work → goodShape (length board) v ≡ true → goodWork (length work) ≡ true
     → Shaped board work v
@@ -132,6 +132,24 @@ memories-shaped board work v e =
     let same = passed-view rows (viewOf board work) v e in
     shaped-of board work v same (rw same (not-false _ (passed-row status.Shape rows (viewOf board work) v e)))
     (not-false _ (passed-row status.Work rows (viewOf board work) v e))
+
+opened-of : (board : List ℕ) (v : View) → v ≡ viewOf board [] → goodShape (length board) v ≡ true → Opened board v
+unfolding goodShape goodSizes
+opened-of board v same h =
+    record {
+      is = same;
+      lines-some = search held depth 12;
+      lines-most = search held depth 12;
+      entries-most = search held depth 12;
+      board-words = search held depth 12;
+    }
+
+pub board-opened : (board : List ℕ) (v : View) → Passed v ≡ boardChecked board → Opened board v
+unfolding boardChecked
+board-opened board v e =
+    let rows = boardRows (length board) (viewOf board []) in
+    let same = passed-view rows (viewOf board []) v e in
+    opened-of board v same (rw same (not-false _ (passed-row status.Shape rows (viewOf board []) v e)))
 
 -- a good work memory has its buffer
 pub work-buffer : (words : ℕ) (t : Bool) → t ≡ goodWork words → not t ≡ false → bufferWords ≤ words
