@@ -9,6 +9,7 @@ mod stores;
 ghost use Prim.Native.Nat.{_+_, _≤_};
 ghost use mathlib.Core.Path.{_≡_};
 ghost use Rattle.picl.specs.Answers.{refusal as refused};
+ghost use Rattle.picl.specs.Calls.{report};
 ghost use Rattle.slots.specs.Slots.{dirtyAt};
 ghost use Rattle.checks.specs.Registers.{recounted, leaving};
 ghost use Rattle.picl.specs.Contracts.{Finishes, FinishReady};
@@ -39,6 +40,19 @@ pub struct Report {
     pub status: Status,
     pub value: u64,
     pub stores: u32,
+}
+
+impl Report {
+    // Of a call that makes no board store, or does not count its own.
+    pub fn unstored(status: Status, value: u64) -> Report
+        ensures { λ r. ⌜ r ≡ report status value ⌝ }
+    {
+        Report {
+            status,
+            value,
+            stores: 0,
+        }
+    }
 }
 
 // The answer of a call that has changed nothing.

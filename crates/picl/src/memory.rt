@@ -1,7 +1,6 @@
 // Format, tally and the number of filter bits: each takes no allowance and returns no registers.
 ghost use mathlib.Core.Path.{_≡_};
-ghost use Rattle.status.specs.declared.Status.the-variants as status;
-ghost use Rattle.picl.specs.Calls.{report as reported, tallyReport, filterBitsReport};
+ghost use Rattle.picl.specs.Calls.{tallyReport, filterBitsReport};
 ghost use Rattle.picl.specs.Contracts.{Formats};
 use crate::Report;
 use checks::Checked;
@@ -11,23 +10,12 @@ use layout::SHAPE_AT;
 use layout::Shape;
 use status::Status;
 
-// A report of 0 stores.
-fn reporting(status: Status, value: u64) -> Report
-    ensures { λ r. ⌜ r ≡ reported status value ⌝ }
-{
-    Report {
-        status,
-        value,
-        stores: 0,
-    }
-}
-
 // A board of so many lines, all zero, with an empty log. It is not protected against a cut.
 pub fn format(board: &mut [u64], lines: u64, entries: u64) -> Report
     ensures { λ r. ⌜ Formats (now (board .entry)) lines entries (now (board .exit)) r ⌝ }
 {
     if !checks::is_good_sizes(board.len(), lines, entries) {
-        return reporting(Status::Shape, 0);
+        return Report::unstored(Status::Shape, 0);
     }
     base::clear(board);
     let shape = Shape {
@@ -36,7 +24,7 @@ pub fn format(board: &mut [u64], lines: u64, entries: u64) -> Report
         entries,
     };
     board[SHAPE_AT] = shape.encode();
-    reporting(Status::Ok, 0)
+    Report::unstored(Status::Ok, 0)
 }
 
 // The number of bits that are set in the undo buffer's filter.
@@ -44,10 +32,10 @@ pub fn filter_bits(work: &[u64]) -> Report
     ensures { λ r. ⌜ r ≡ filterBitsReport (now (work .entry)) ⌝ }
 {
     if !checks::is_good_work(work.len()) {
-        return reporting(Status::Work, 0);
+        return Report::unstored(Status::Work, 0);
     }
     let at = layout::buffer_at(work.len());
-    reporting(Status::Ok, undo::bits_set(&work[at..]))
+    Report::unstored(Status::Ok, undo::bits_set(&work[at..]))
 }
 
 // The number of dirty lines that the cache holds.
@@ -56,12 +44,12 @@ pub fn tally(board: &[u64], work: &[u64], registers: Registers) -> Report
 {
     let memories = checks::check_memories(board, work);
     match memories {
-        Checked::Refused(status) => reporting(status, 0),
+        Checked::Refused(status) => Report::unstored(status, 0),
         Checked::Passed(view) => {
             let running = checks::check_registers(view, registers);
             match running {
-                Checked::Refused(status) => reporting(status, 0),
-                Checked::Passed(_) => reporting(Status::Ok, registers.dirty),
+                Checked::Refused(status) => Report::unstored(status, 0),
+                Checked::Passed(_) => Report::unstored(Status::Ok, registers.dirty),
             }
         }
     }

@@ -6,8 +6,8 @@ use Rattle.picl.proofs.memory.filter_bits.Tie as tie
 is-good-work-requires : tie.Need-is-good-work-requires
 is-good-work-requires c κs = search needs
 
-reporting-requires : tie.Need-reporting-requires
-reporting-requires c κs = search needs
+unstored-requires : tie.Need-unstored-requires
+unstored-requires c κs = search needs
 
 returns : tie.Need-returns
 returns c = search (filter-refused)
@@ -30,8 +30,8 @@ part-bits-set-end c = search needs
 bits-set-requires : tie.Need-bits-set-requires
 bits-set-requires c κs = search (buffer-lent)
 
-reporting-requires-2 : tie.Need-reporting-requires-2
-reporting-requires-2 c κs = search needs
+unstored-requires-2 : tie.Need-unstored-requires-2
+unstored-requires-2 c κs = search needs
 
 returns-2 : tie.Need-returns-2
 returns-2 c = search (filter-counted)
@@ -41,7 +41,7 @@ filter-bits-spec =
     tie.close
     (tie.spec
     is-good-work-requires
-    reporting-requires
+    unstored-requires
     returns
     buffer-at-requires
     mul-bits-set
@@ -49,5 +49,5 @@ filter-bits-spec =
     part-bits-set-start
     part-bits-set-end
     bits-set-requires
-    reporting-requires-2
+    unstored-requires-2
     returns-2)

@@ -6,8 +6,8 @@ use Rattle.picl.proofs.memory.format.Tie as tie
 is-good-sizes-requires : tie.Need-is-good-sizes-requires
 is-good-sizes-requires c κs = search needs
 
-reporting-requires : tie.Need-reporting-requires
-reporting-requires c κs = search needs
+unstored-requires : tie.Need-unstored-requires
+unstored-requires c κs = search needs
 
 returns : tie.Need-returns
 returns c = search (format-refused)
@@ -21,8 +21,8 @@ encode-requires c κs = search (format-fits)
 slice-write-board : tie.Need-slice-write-board
 slice-write-board c = search (format-within)
 
-reporting-requires-2 : tie.Need-reporting-requires-2
-reporting-requires-2 c κs = search needs
+unstored-requires-2 : tie.Need-unstored-requires-2
+unstored-requires-2 c κs = search needs
 
 same-length : tie.Need-same-length
 same-length c = search needs
@@ -35,11 +35,11 @@ format-spec =
     tie.close
     (tie.spec
     is-good-sizes-requires
-    reporting-requires
+    unstored-requires
     returns
     clear-requires
     encode-requires
     slice-write-board
-    reporting-requires-2
+    unstored-requires-2
     same-length
     returns-2)

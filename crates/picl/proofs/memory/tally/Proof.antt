@@ -10,8 +10,8 @@ check-memories-requires c κs = search needs
 enum-known-memories : tie.Need-enum-known-memories
 enum-known-memories c = search needs
 
-reporting-requires : tie.Need-reporting-requires
-reporting-requires c κs = search needs
+unstored-requires : tie.Need-unstored-requires
+unstored-requires c κs = search needs
 
 enum-known-memories-2 : tie.Need-enum-known-memories-2
 enum-known-memories-2 c = search needs
@@ -22,14 +22,14 @@ check-registers-requires c κs = search (memories-fits)
 enum-known-running : tie.Need-enum-known-running
 enum-known-running c = search needs
 
-reporting-requires-2 : tie.Need-reporting-requires-2
-reporting-requires-2 c κs = search needs
+unstored-requires-2 : tie.Need-unstored-requires-2
+unstored-requires-2 c κs = search needs
 
 enum-told : tie.Need-enum-told
 enum-told c = search needs
 
-reporting-requires-3 : tie.Need-reporting-requires-3
-reporting-requires-3 c κs = search needs
+unstored-requires-3 : tie.Need-unstored-requires-3
+unstored-requires-3 c κs = search needs
 
 returns : tie.Need-returns
 returns c = search (tally-refused, memories-refused)
@@ -46,13 +46,13 @@ tally-spec =
     (tie.spec
     check-memories-requires
     enum-known-memories
-    reporting-requires
+    unstored-requires
     enum-known-memories-2
     check-registers-requires
     enum-known-running
-    reporting-requires-2
+    unstored-requires-2
     enum-told
-    reporting-requires-3
+    unstored-requires-3
     returns
     returns-2
     returns-3)
