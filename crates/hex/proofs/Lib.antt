@@ -1,0 +1,4 @@
+pub mod ByteDigits
+pub mod RecordParts
+pub mod Gathering
+pub mod Exporting
