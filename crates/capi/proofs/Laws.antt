@@ -14,10 +14,11 @@ use Rattle.picl.specs.declared.Report.{Report}
 use Rattle.picl.specs.Answers.{Verdict}
 use Rattle.picl.specs.Calls.{formatReport, formatAfter, tallyReport}
 use Rattle.picl.specs.Contracts.{Answers, Formats}
+use Rattle.hex.specs.Export.{exportReport, exportText, Exports}
 use Rattle.capi.specs.Places.{epochAt, bufferedAt, cursorAt, registerWords, answerWords, hasAnswer, hasPlaces, readRegisters}
 use Rattle.capi.specs.Contracts.{Gives, Reports}
 use Rattle.capi.specs.Crossing.{tooShort, back, crossing, tallyCrossing}
-use Rattle.capi.specs.Crossing.{reported, reporting, formatCrossing}
+use Rattle.capi.specs.Crossing.{reported, reporting, formatCrossing, hexCrossing}
 
 pub buffered-within : (registers : List ℕ) (epoch : ℕ) → registerWords ≤ length registers → bufferedAt < length (set registers epochAt epoch)
 buffered-within registers epoch h = rw (length-set registers epochAt epoch) (omega arith)
@@ -81,6 +82,12 @@ module _ (answer answer′ : List ℕ) (t : Bool) (is : t ≡ hasAnswer answer) 
   format-made board board′ lines entries x =
       reporting-made (formatReport board lines entries) board (formatAfter board lines entries) answer t is given board′ answer′ number lent
       (x .report) (x .board-left) gave
+
+  -- a record of a board's file
+  pub hex-made : (board text text′ : List ℕ) (k : ℕ) → Exports board k text text′ given → reported number text′ answer′ ≡ hexCrossing board text answer k
+  hex-made board text text′ k x =
+      reporting-made (exportReport board k text) text (exportText board k text) answer t is given text′ answer′ number lent
+      (x .report) (x .text-left) gave
 
   -- the number of filter bits
   pub asked-made : (work : List ℕ) (told : Report) → given ≡ told → reported number work answer′ ≡ reporting told work work answer

@@ -14,6 +14,7 @@ use Rattle.picl.specs.declared.Report.{Report}
 use Rattle.picl.specs.Answers.{Verdict, answerOf}
 use Rattle.board.specs.Verdict.{boardAfter, workAfter}
 use Rattle.picl.specs.Calls.{Call, verdictOf, powerUpVerdict, formatReport, formatAfter, tallyReport, filterBitsReport}
+use Rattle.hex.specs.Export.{exportReport, exportText}
 use Rattle.records.specs.declared.Written.{Written}
 use Rattle.records.specs.Records.{recordBytes, written}
 use Rattle.capi.specs.Places.{hasAnswer, hasPlaces, hasRecordPlaces, readRegisters, writeRegisters, writeAnswer}
@@ -59,7 +60,7 @@ tallyCrossing board work registers answer =
     cond (hasPlaces registers answer) (back (numberOf (a .status)) board work registers (writeAnswer answer (a .value) (a .stores)))
     (back tooShort board work registers answer)
 
--- format and the status question are lent one memory and no registers
+-- format, the status question and the export leave one memory and no registers
 pub record Reported : Type 0 where
   pub number : ℕ
   pub memory : List ℕ
@@ -78,6 +79,10 @@ formatCrossing board answer lines entries =
 
 abbrev pub filterBitsCrossing : (work answer : List ℕ) → Reported
 filterBitsCrossing work answer = reporting (filterBitsReport work) work work answer
+
+-- request 7/13: a record of the board's file, in a text; the board cannot be written
+abbrev pub hexCrossing : (board text answer : List ℕ) → (number : ℕ) → Reported
+hexCrossing board text answer number = reporting (exportReport board number text) text (exportText board number text) answer
 
 -- The writer of records: the first sixteen bytes, or the refusal and no byte touched. It has no value and makes no stores.
 unfoldable pub recordPut : (bytes : List ℕ) → Written → List ℕ

@@ -7,7 +7,7 @@ mod recording;
 ghost use mathlib.Core.Path.{_≡_};
 ghost use Rattle.picl.specs.Calls as call;
 ghost use Rattle.capi.specs.Crossing.{back, callCrossing};
-ghost use Rattle.capi.specs.Crossing.{powerUpCrossing, reported, formatCrossing, tallyCrossing, filterBitsCrossing, recordCrossing, nameCrossing};
+ghost use Rattle.capi.specs.Crossing.{powerUpCrossing, reported, formatCrossing, tallyCrossing, filterBitsCrossing, hexCrossing, recordCrossing, nameCrossing};
 use picl::Report;
 use places::TOO_SHORT;
 use places::give;
@@ -172,6 +172,22 @@ pub extern "C" fn picl_filter_bits(work: &[u64], answer: &mut [u64]) -> u64
     }
     let counted = picl::filter_bits(work);
     report(answer, counted)
+}
+
+#[no_mangle]
+pub extern "C" fn picl_hex_out(
+    board: &[u64],
+    text: &mut [u8],
+    record: u64,
+    answer: &mut [u64],
+) -> u64
+    ensures { λ r. ⌜ reported r (now (text .exit)) (now (answer .exit)) ≡ hexCrossing (now (board .entry)) (now (text .entry)) (now (answer .entry)) «record» ⌝ }
+{
+    if !has_answer(answer) {
+        return TOO_SHORT;
+    }
+    let made = hex::put_record(board, text, record);
+    report(answer, made)
 }
 
 #[no_mangle]
