@@ -6,6 +6,7 @@ pub mod Fares
 pub mod Calls
 pub mod Steps
 pub mod Power
+pub mod Exports
 pub mod Runs
 pub mod Progress
 pub mod Proper

@@ -43,7 +43,7 @@ use Rattle.crash.specs.State.{Up, Holds, is-up, is-down, up-of, holds-of
 
 -- ---- the tests
 
-differ : _≡_ {A = ℕ} 0 1 → ⊥
+pub differ : _≡_ {A = ℕ} 0 1 → ⊥
 differ e = omega arith
 
 not-last : (n : ℕ) → n < lastEpoch → not (eqb n lastEpoch) ≡ true

@@ -9,10 +9,11 @@ use Rattle.base.specs.Cases.{below-or-not}
 use Rattle.layout.specs.Memory.{slotsOf}
 use Rattle.checks.specs.declared.Registers.{Registers}
 use Rattle.checks.specs.View.{viewOf}
-use Rattle.crash.specs.Statement.{Step, call, powerUp, made, fed, Both, after, run, Unbroken, Stretch, countScan, scans}
+use Rattle.crash.specs.Statement.{Step, call, powerUp, exportRecord, made, fed, Both, after, run, Unbroken, Stretch, countScan, scans}
 use Rattle.crash.specs.State.{Holds, is-up, is-down}
 use Rattle.crash.specs.Fares.{progress}
 use Rattle.crash.specs.Steps.{call-kept}
+use Rattle.crash.specs.Exports.{export-unseen, export-same}
 use Rattle.crash.specs.Runs.{after-holds, run-holds}
 
 abbrev slots : Both → ℕ
@@ -24,12 +25,17 @@ module _ {N L : ℕ} (s : Both) (h : Holds N L (s .machine) (s .reference)) wher
   step-words : (x : Step) → Unbroken s x → length (after s x .machine .work) ≡ length (s .machine .work)
   step-words (call c k) whole = call-kept h c k .same-words
   step-words (powerUp lent k) broken = absurd broken
+  step-words (exportRecord text number) whole = ap (λ (t : Both). length (t .machine .work)) (export-same text number s)
 
   step-moves : (x : Step) → Unbroken s x
       → progress (slots s) (after s x .machine) (after s x .reference)
       ≡ progress (slots s) (s .machine) (s .reference) + countScan (fed x (made (s .machine) x))
   step-moves (call c k) whole = call-kept h c k .moves whole
   step-moves (powerUp lent k) broken = absurd broken
+  step-moves (exportRecord text number) whole =
+      let same = ap (λ (t : Both). progress (slots s) (t .machine) (t .reference)) (export-same text number s) in
+      let none = ap countScan (export-unseen text number (made (s .machine) (exportRecord text number))) in
+      omega (arith, same, none)
 
 -- ---- a stretch of calls
 

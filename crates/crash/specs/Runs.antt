@@ -1,6 +1,6 @@
 -- Every list of calls keeps the invariant, from any board that rests.
 use Prim.Native.Nat.{ℕ}
-use mathlib.Core.Path.{_≡_, refl}
+use mathlib.Core.Path.{_≡_, refl, sym, subst}
 use mathlib.Core.List.{List, [], _∷_}
 use native.Mathlib.Omega.{arith}
 use Rattle.layout.specs.Limits.{mostAhead}
@@ -12,14 +12,16 @@ use Rattle.history.specs.Machine.{recall}
 use Rattle.history.specs.Invariant.{Safe}
 use Rattle.base.specs.Listed.{listed}
 use Rattle.durable.specs.View.{durableOf}
-use Rattle.crash.specs.Statement.{Step, call, powerUp, made, fed, Both, after, run, Rests, start}
+use Rattle.crash.specs.Statement.{Step, call, powerUp, exportRecord, made, fed, Both, after, run, Rests, start}
 use Rattle.crash.specs.State.{Holds, is-down}
 use Rattle.crash.specs.Steps.{call-kept}
 use Rattle.crash.specs.Power.{power-up-kept}
+use Rattle.crash.specs.Exports.{export-same}
 
 pub after-holds : {N L : ℕ} (s : Both) → Holds N L (s .machine) (s .reference) → (x : Step) → Holds N L (after s x .machine) (after s x .reference)
 after-holds s h (call c k) = call-kept h c k .holds
 after-holds s h (powerUp lent k) = power-up-kept h lent k .holds
+after-holds {N} {L} s h (exportRecord text number) = subst (λ (t : Both). Holds N L (t .machine) (t .reference)) (sym (export-same text number s)) h
 
 pub run-holds : {N L : ℕ} (s : Both) → Holds N L (s .machine) (s .reference) → (xs : List Step)
     → Holds N L (run s xs .machine) (run s xs .reference)

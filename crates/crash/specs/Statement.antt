@@ -3,9 +3,9 @@
 use Prim.Native.Nat.{ℕ, _+_, _≤_, _<_}
 use mathlib.Core.Path.{_≡_}
 use mathlib.Core.Bool.{true, cond}
-use mathlib.Core.List.{List, [], _∷_}
+use mathlib.Core.List.{List, [], _∷_, _++_}
 use lib.Dec.{eqb}
-use lib.ListN.{length, getD}
+use lib.ListN.{length, getD, drop}
 use Rattle.board.specs.Verdict.{boardAfter, workAfter}
 use Rattle.layout.specs.Limits.{lastEpoch, mostLines, mostEntries, filterSize}
 use Rattle.layout.specs.Memory.{linesAt, boardWords, shapeFor, slotsOf, controlIn, shapeIn, bufferIn}
@@ -22,15 +22,20 @@ use Rattle.checks.specs.View.{goodWork}
 use Rattle.picl.specs.Answers.{Verdict, answerOf}
 use Rattle.picl.specs.Calls as calls
 use Rattle.picl.specs.Calls.{Call, verdictOf, powerUpVerdict}
+use Rattle.hex.specs.Records.{recordsOf}
+use Rattle.hex.specs.Export.{mostText, exportReport, exportText}
+use Rattle.base.specs.Listed.{listed}
 use Rattle.reference.specs.Machine.{Reference, resting, Event, stored, committed, scanned, poweredUp, nothing, does}
 
 -- ---- the calls of a list
 
 -- "every list of loads, stores, evictions, commits, scan calls, tallies and power-ups", and "A call on the board that document 02 adds joins
--- the list": the status question of 3/13. The allowance is the cut point, and may be any number; "A power-up may be lent any work memory."
+-- the list, unless it formats": the status question of 3/13 and the export of 7/13. The allowance is the cut point, and may be any number; "A
+-- power-up may be lent any work memory", and an export any text.
 pub data Step : Type 0 where
   call : Call → (allowance : ℕ) → Step
   powerUp : (lent : List ℕ) (allowance : ℕ) → Step
+  exportRecord : (text : List ℕ) (number : ℕ) → Step
 
 -- "each call gets registers and memories as last returned and left"
 pub record Machine : Type 0 where
@@ -53,10 +58,13 @@ answered allowance given board work v =
       left = record { board = boardAfter allowance board v; work = workAfter allowance work v; registers = a .registers };
     }
 
--- "(power-up only the board)"
+-- "(power-up only the board)"; an export reads only the board, and "changes only the first text bytes"
 unfoldable pub made : Machine → Step → Result
 made m (call c k) = answered k (m .registers) (m .board) (m .work) (verdictOf (m .board) (m .work) (m .registers) c)
 made m (powerUp lent k) = answered k zero (m .board) lent (powerUpVerdict (m .board) lent)
+made m (exportRecord text number) =
+    let r = exportReport (m .board) number text in
+    record { status = r .status; value = r .value; left = m }
 
 -- ---- the uncached machine, given the same list
 
@@ -73,6 +81,7 @@ seenCall calls.filterBits value = nothing
 abbrev pub seen : Step → (value : ℕ) → Event
 seen (call c k) value = seenCall c value
 seen (powerUp lent k) value = poweredUp
+seen (exportRecord text number) value = nothing
 
 -- "All else, refused and cut calls too, changes nothing."
 abbrev pub fed : Step → Result → Event
@@ -134,6 +143,7 @@ start L board =
 abbrev pub Unbroken : Both → Step → Type 0
 Unbroken s (call c k) = made (s .machine) (call c k) .status ≡ status.Cut → ⊥
 Unbroken s (powerUp lent k) = ⊥
+Unbroken s (exportRecord text number) = made (s .machine) (exportRecord text number) .status ≡ status.Cut → ⊥
 
 abbrev pub Stretch : Both → List Step → Type 0
 Stretch s [] = Unit {0}
@@ -179,6 +189,23 @@ pub data Expected : Status → Type 0 where
 abbrev pub dirtyIn : List ℕ → ℕ
 dirtyIn work = dirtySlots work (slotsOf (length work))
 
+-- ---- the export of 7/13
+
+-- the copy that the uncached machine has of the epoch that the control word names as persisted
+abbrev pub persistedLines : Both → ℕ → ℕ
+persistedLines s = s .reference .copies (persistedOn (s .machine .board))
+
+-- the file of its first N lines, record by record
+abbrev pub persistedRecords : (N : ℕ) → Both → List (List ℕ)
+persistedRecords N s = recordsOf (listed (persistedLines s) 0 N)
+
+-- "16 short ..; 17 past ..; 18 logheld ..; all after 1, .. and it refuses by no other": its answers on a board that passes 1
+pub data Exporting : Status → Type 0 where
+  exported : Exporting status.Ok
+  short : Exporting status.Short
+  past : Exporting status.Past
+  held : Exporting status.LogHeld
+
 -- ---- what holds after every list
 
 pub record Consistent (N L : ℕ) (s : Both) : Type 0 where
@@ -223,6 +250,19 @@ pub record Consistent (N L : ℕ) (s : Both) : Type 0 where
   -- "and an accepted one in these lists equals the old count"
   pub tallies : (k : ℕ) → made (s .machine) (call calls.tally k) .status ≡ status.Ok
       → made (s .machine) (call calls.tally k) .value ≡ dirtyIn (s .machine .work)
+  -- request 7/13, "Export the lines of a woken board": with an empty log these are the copy of the persisted epoch, line for line ..
+  pub lines-with-empty-log : controlIn (s .machine .board) .length ≡ 0 → (a : ℕ) → a < N → lineOn L (s .machine .board) a ≡ persistedLines s a
+  -- .. so an accepted export gives the record of that number of this copy's file: "Success changes only the first text bytes, those of its
+  -- record, and its value is their number"
+  pub exports : (text : List ℕ) (number : ℕ) → made (s .machine) (exportRecord text number) .status ≡ status.Ok
+      → let written = getD (persistedRecords N s) number [] in
+      (exportText (s .machine .board) number text ≡ written ++ drop (length written) text)
+      × (made (s .machine) (exportRecord text number) .value ≡ length written)
+  -- awake or not, no export answers 1 ..
+  pub export-answers : (text : List ℕ) (number : ℕ) → Exporting (made (s .machine) (exportRecord text number) .status)
+  -- .. and it answers 0 with an empty log, 44 text bytes and the number of a record
+  pub exports-all : (text : List ℕ) (number : ℕ) → controlIn (s .machine .board) .length ≡ 0 → mostText ≤ length text
+      → number < length (persistedRecords N s) → made (s .machine) (exportRecord text number) .status ≡ status.Ok
 
 -- "Demand 3 is one claim about the whole list."
 abbrev pub Demand3 : Type 0

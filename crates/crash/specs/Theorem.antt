@@ -7,11 +7,12 @@ use Rattle.layout.specs.Limits.{mostLines, mostEntries}
 use Rattle.layout.specs.Memory.{formatted}
 use Rattle.status.specs.declared.Status.the-variants as status
 use Rattle.durable.specs.Reads.{reads-persisted}
-use Rattle.crash.specs.Statement.{Step, call, powerUp, made, Both, run, start, persistedOn, Consistent, Demand3}
+use Rattle.crash.specs.Statement.{Step, call, powerUp, exportRecord, made, Both, run, start, persistedOn, Consistent, Demand3}
 use Rattle.crash.specs.State.{Holds, holds-off, holds-ended}
 use Rattle.crash.specs.Fares.{NoneDirty}
 use Rattle.crash.specs.Steps.{load-value, tally-value, call-kept}
 use Rattle.crash.specs.Power.{power-up-kept, log-proper-of, power-up-lines-of, power-up-shape, power-up-entry, power-up-ok}
+use Rattle.crash.specs.Exports.{empty-log-lines, exporting-whole, export-answered, exported-record, export-accepted}
 use Rattle.crash.specs.Format.{formatted-rests}
 use Rattle.crash.specs.Runs.{run-holds, start-holds}
 use Rattle.crash.specs.Progress.{persisted-risen}
@@ -26,6 +27,7 @@ cut-counts : {N L : ℕ} (s : Both) → Holds N L (s .machine) (s .reference) �
     → NoneDirty (made (s .machine) x .left)
 cut-counts s h (call c k) = call-kept h c k .cut
 cut-counts s h (powerUp lent k) = power-up-kept h lent k .cut
+cut-counts s h (exportRecord text number) = λ same. absurd (exporting-whole _ (export-answered h text number) same)
 
 -- what the invariant says
 consistent : {N L : ℕ} (s : Both) → Holds N L (s .machine) (s .reference) → Consistent N L s
@@ -49,6 +51,10 @@ consistent {N} {L} s h =
       count-true = λ awake. awake-up s h awake .counted;
       none-after-cut = cut-counts s h;
       tallies = λ k ok. tally-value h k ok;
+      lines-with-empty-log = λ empty a inside. empty-log-lines (holds-off h) empty a;
+      exports = exported-record h;
+      export-answers = export-answered h;
+      exports-all = export-accepted h;
     }
 
 pub demand-3 : Demand3

@@ -1,6 +1,6 @@
 -- The premises of demand 3 can be met: two lists of calls, computed. Document 01's listing (line 0 is stored 7 in epoch 1 and 9 in epoch 2,
--- and S + 1 scan calls persist epoch 1); then 9 is written in place, the current goes in mid-flush, and power-up restores 7. The other
--- leaves a log entry that ends as late as one may.
+-- and S + 1 scan calls persist epoch 1); then 9 is written in place, the current goes in mid-flush, power-up restores 7, and 7 is exported. The
+-- other leaves a log entry that ends as late as one may.
 use Prim.Native.Nat.{ℕ, _+_, _*_}
 use mathlib.Core.Bool.{true, false}
 use mathlib.Core.Path.{_≡_, refl}
@@ -11,11 +11,13 @@ use Rattle.base.specs.Cases.{update}
 use Rattle.base.specs.Walk.{firstFrom}
 use Rattle.board.specs.Stores.{applied, each, shifted}
 use Rattle.board.specs.Verdict.{boardAfter, workAfter}
+use Rattle.layout.specs.Bytes.{bytesOf}
 use Rattle.layout.specs.Fields.{width, pack, unpack, encode, decode}
 use Rattle.layout.specs.Limits.{mostAhead}
 use Rattle.layout.specs.Memory.{bufferIn, logAt, entryWords, workWords, slotsOf, formatted, withBuffer, controlIn}
 use Rattle.layout.specs.Words.{encodeEntry}
 use Rattle.status.specs.declared.Status.the-variants as status
+use Rattle.status.specs.Names.{bytes}
 use Rattle.undo.specs.Entries.{covers, properEntry, properBuffered}
 use Rattle.undo.specs.Log.{placeOf, entryIn, oldIn, olderTill, properAt, firstImproper, bufferedIn, bufferedProper, bufferProper}
 use Rattle.undo.specs.Filter.{firstBit, secondBit, isSet, withBit, marking, marks, hits}
@@ -25,11 +27,13 @@ use Rattle.slots.specs.Sets as sets
 use Rattle.slots.specs.Slots as slots
 use Rattle.steps.specs.Effects as steps
 use Rattle.checks.specs.View.{viewOf, goodSizes, goodControl, goodShape, goodSlots, goodWork, properEpoch, properCounts, properRegisters, miscounted, goodBuffer, goodFilter}
-use Rattle.checks.specs.Refusals.{memoriesChecked, runningChecked, lineChecked, storeChecked, commitChecked, scanChecked}
+use Rattle.checks.specs.Refusals.{boardChecked, memoriesChecked, runningChecked, lineChecked, storeChecked, commitChecked, scanChecked}
 use Rattle.picl.specs.Answers.{answerOf}
 use Rattle.picl.specs.Calls as calls
+use Rattle.hex.specs.Records.{lineFeed, digit, digitsOf, textOf, sumOf, checkOf, checked, twoBytes, recordText, bankText, dataText, endText, recordsFrom}
+use Rattle.hex.specs.Export.{mostText, recordAt, exportChecked, exportReport, exportText}
 use Rattle.reference.specs.Machine.{upTo}
-use Rattle.crash.specs.Statement.{Step, call, powerUp, made, Both, after, run, persistedOn, lineOn, logOn, start, Stretch, scans}
+use Rattle.crash.specs.Statement.{Step, call, powerUp, exportRecord, made, Both, after, run, persistedOn, lineOn, logOn, start, Stretch, scans}
 
 -- "n 4 8 4", with allowances as large as a call can need
 abbrev entries : ℕ
@@ -41,6 +45,9 @@ blank = replicate (workWords 4) 0
 abbrev many : ℕ
 many = 66
 
+abbrev text : List ℕ
+text = replicate mostText 0
+
 abbrev pub worked : List Step
 worked =
     powerUp blank many
@@ -50,8 +57,9 @@ worked =
     ∷ call calls.commit many
     ∷ []
 
+-- S + 1 scan calls, and an export before them
 abbrev pub pass : List Step
-pass = replicate 5 (call calls.scan many)
+pass = exportRecord text 1 ∷ replicate 5 (call calls.scan many)
 
 abbrev pub begun : Both
 begun = run (start entries (formatted 4 entries)) worked
@@ -71,6 +79,9 @@ cutStep = call (calls.evict 1) 1
 
 abbrev pub cut : Both
 cut = after stored cutStep
+
+abbrev pub woken : Both
+woken = after cut (powerUp blank many)
 
 -- 15 epochs wait, line 0 is stored to in the 16th, and its eviction is cut before the last of four stores
 abbrev pub fifteen : List Step
@@ -106,6 +117,13 @@ pub record Met : Type 0 where
   pub cut-short : made (stored .machine) cutStep .status ≡ status.Cut
   -- request 6/13: two lines of one set are held side by side
   pub shared : (slots.holds (beside .machine .work) 0 0 ≡ true) × (slots.holds (beside .machine .work) 1 1 ≡ true)
+  -- request 7/13: the premises of `lines-with-empty-log` and `exports`, at work and woken, and an export that a log of one entry stops. At
+  -- work line 0 is 9 since epoch 2, and what is exported is copy 0.
+  pub exported-at-work : (made (begun .machine) (exportRecord text 1) .status ≡ status.Ok) × (begun .reference .lines 0 ≡ 9)
+  pub text-at-work : exportText (begun .machine .board) 1 text ≡ bytes ":1000000000000000000000000000000000000000F0" ++ (lineFeed ∷ [])
+  pub log-held : made (cut .machine) (exportRecord text 1) .status ≡ status.LogHeld
+  pub exported-woken : (made (woken .machine) (exportRecord text 1) .status ≡ status.Ok) × (controlIn (woken .machine .board) .length ≡ 0)
+  pub text-woken : exportText (woken .machine .board) 1 text ≡ bytes ":1000000000000000000000070000000000000000E9" ++ (lineFeed ∷ [])
 
 differ : _≡_ {A = ℕ} 0 1 → ⊥
 differ e = omega arith
@@ -123,10 +141,12 @@ unfolding update firstFrom applied each shifted boardAfter workAfter width pack 
     memoriesChecked runningChecked lineChecked storeChecked commitChecked scanChecked answerOf
     calls.storeAt calls.storeOutcome calls.storeVerdict calls.evictAt calls.evictOutcome calls.evictVerdict calls.commitOutcome
     calls.commitVerdict calls.scanOutcome calls.scanVerdict calls.tallyVerdict calls.wakeAt calls.wakeVerdict calls.powerUpVerdict
+    boardChecked bytesOf digit digitsOf textOf sumOf checkOf checked twoBytes recordText bankText dataText endText recordsFrom
+    recordAt exportChecked exportReport exportText
     upTo made run scans
 met =
     record {
-      stretch = (λ e. differ cc, (λ e. differ cc, (λ e. differ cc, (λ e. differ cc, (λ e. differ cc, tt)))));
+      stretch = (λ e. differ cc, (λ e. differ cc, (λ e. differ cc, (λ e. differ cc, (λ e. differ cc, (λ e. differ cc, tt))))));
       all-accepted = refl;
       persisted = (refl, refl);
       off = refl;
@@ -145,4 +165,9 @@ met =
       tallied = (refl, refl);
       cut-short = refl;
       shared = (refl, refl);
+      exported-at-work = (refl, refl);
+      text-at-work = refl;
+      log-held = refl;
+      exported-woken = (refl, refl);
+      text-woken = refl;
     }
