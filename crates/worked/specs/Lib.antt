@@ -4,4 +4,5 @@ pub mod Filtered
 pub mod Counted
 pub mod Sets
 pub mod FourWays
+pub mod Hex
 pub mod Table

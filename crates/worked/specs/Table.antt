@@ -46,6 +46,7 @@ use Rattle.worked.specs.Bench.{control, entry, slot, clean, dirty, undo,
 use Rattle.worked.specs.Bench.{ending, endingLast, wake, store, evict, commit, scan, still, ok, improper}
 use Rattle.worked.specs.Filtered.{buffer, full, store14, commit14, scan14, wide, evictShared}
 use Rattle.worked.specs.FourWays.{FourWays, four-ways}
+use Rattle.worked.specs.Hex.{Exported, exported}
 use Rattle.worked.specs.Counted.{holding, loading, storing, evicting, scanning, committing, badEntry, before7, before11}
 
 pub record Worked : Type 0 where
@@ -169,15 +170,18 @@ pub record Worked : Type 0 where
   pub listing-line : printed 4 8 4 listing ≡ bytes "ok 0 0 0 6\n"
   -- "tested before its call and ending the run": the calls before it are counted, the one behind it is not made
   pub trace-line : printed 4 8 4 (broken listing) ≡ bytes "trace 0 0 0 0\n"
-  -- 4/13: "every number gives its old row without the spaces", the first, one of each length, and the last
+  -- 4/13: "every number gives its old row without the spaces", the first, one of each length, and those that have joined since
   pub row-slot : (rowOf 6 ≡ bytes "slot    ") × (nameOf 6 ≡ bytes "slot")
   pub named-0 : nameOf 0 ≡ bytes "ok"
   pub named-1 : nameOf 1 ≡ bytes "shape"
   pub named-9 : nameOf 9 ≡ bytes "waiting"
   pub named-12 : nameOf 12 ≡ bytes "cut"
   pub named-14 : nameOf 14 ≡ bytes "filter"
-  -- any other, 15 until its request lands, the number of an array too short, and the largest
-  pub unnamed : (nameOf 15 ≡ []) × (nameOf 255 ≡ []) × (nameOf (2 ^ 64 - 1) ≡ [])
+  pub named-16 : (nameOf 16 ≡ bytes "short") × (numberOf status.Short ≡ 16)
+  pub named-17 : (nameOf 17 ≡ bytes "past") × (numberOf status.Past ≡ 17)
+  pub named-18 : (nameOf 18 ≡ bytes "logheld") × (numberOf status.LogHeld ≡ 18)
+  -- any other, 15 until its request lands, the first behind the last, the number of an array too short, and the largest
+  pub unnamed : (nameOf 15 ≡ []) × (nameOf 19 ≡ []) × (nameOf 255 ≡ []) × (nameOf (2 ^ 64 - 1) ≡ [])
   -- a text of four bytes, of three and of two for the three letters of `cut`; none are needed for no name
   pub text-behind : withName (nameOf 12) (1 ∷ 2 ∷ 3 ∷ 4 ∷ []) ≡ bytes "cut" ++ (4 ∷ [])
   pub text-filled : withName (nameOf 12) (1 ∷ 2 ∷ 3 ∷ []) ≡ bytes "cut"
@@ -215,6 +219,8 @@ pub record Worked : Type 0 where
   pub tally-4 : (tallyReport (quiet 0) (holding clean) zero ≡ report status.Regs 0) × (tallyReport (quiet 0) (holding clean) (given 2 0 0 5) ≡ report status.Regs 0)
   -- 6/13: sets of four slots
   pub in-sets : FourWays
+  -- 7/13: the lines as Intel HEX
+  pub in-hex : Exported
 
 -- a filter of which every word has all its bits
 all-counted : (word : ℕ) → ones word ≡ 64 → filterBitsReport (work clean 7 [] (replicate 64 word)) ≡ report status.Ok 4096
@@ -320,7 +326,10 @@ worked =
       named-9 = refl;
       named-12 = refl;
       named-14 = refl;
-      unnamed = (refl, refl, refl);
+      named-16 = (refl, refl);
+      named-17 = (refl, refl);
+      named-18 = (refl, refl);
+      unnamed = (refl, refl, refl, refl);
       text-behind = refl;
       text-filled = refl;
       text-too-short = refl;
@@ -348,4 +357,5 @@ worked =
       tally-2 = refl;
       tally-4 = (refl, refl);
       in-sets = four-ways;
+      in-hex = exported;
     }
