@@ -3,8 +3,9 @@
 // Each call decodes the lent words into a `Machine`, tests it, works on it, and last makes the
 // board stores that are due. The comments quote the paper. The model takes boards of up to
 // words::BOARD_CAPACITY words; for a larger one each call answers refusals::TOO_LARGE and touches
-// nothing.
+// nothing. The export alone, which decodes no board, takes every one.
 mod effects;
+mod export;
 mod filter;
 mod finish;
 mod machine;
@@ -19,6 +20,7 @@ mod slot_tests;
 mod words;
 
 use effects::*;
+pub use export::export_record;
 use filter::bits_set;
 pub use filter::filter_with;
 use finish::*;

@@ -1,6 +1,7 @@
 // The names of the answers' numbers, by the table of "What an answer says" and by document 02's
 // requests, whose new numbers "join the names". A name goes into a text byte by byte: "its old row
 // without the spaces".
+use crate::words::set_byte;
 use crate::words::sum;
 
 // "rows of eight bytes, filled with spaces".
@@ -9,7 +10,7 @@ const ROW_BYTES: usize = 8;
 const SPACE: u8 = b' ';
 
 // "The names are held as thirteen rows", and those that joined them. A number without a name has a
-// row of spaces alone.
+// row of spaces alone: 15 too, which has none yet.
 fn row_of(number: u64) -> [u8; ROW_BYTES] {
     match number {
         0 => *b"ok      ",
@@ -27,6 +28,9 @@ fn row_of(number: u64) -> [u8; ROW_BYTES] {
         12 => *b"cut     ",
         13 => *b"trace   ",
         14 => *b"filter  ",
+        16 => *b"short   ",
+        17 => *b"past    ",
+        18 => *b"logheld ",
         _ => *b"        ",
     }
 }
@@ -42,14 +46,6 @@ fn letter_count(row: [u8; ROW_BYTES]) -> u64 {
         count = sum(count, counted(row[i]));
     }
     count
-}
-
-// Writes the byte at a place of a text; nothing past its end.
-fn set_byte(text: &mut [u8], place: u64, byte: u8) {
-    let at = place as usize;
-    if at < text.len() {
-        text[at] = byte;
-    }
 }
 
 // Puts a byte of a row at a place of a text, unless it is a space; the place for the next one.

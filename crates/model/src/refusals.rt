@@ -40,6 +40,14 @@ pub const TRACE: u64 = 13;
 // "14 filter, a buffered entry with either bit unset".
 pub const FILTER: u64 = 14;
 
+// "16 short, fewer than 44 text bytes; 17 past, no record of that number; 18 logheld, log length not
+// 0".
+pub const SHORT: u64 = 16;
+
+pub const PAST: u64 = 17;
+
+pub const LOG_HELD: u64 = 18;
+
 // Not in the paper: the model does not take a board of more than BOARD_CAPACITY words.
 pub const TOO_LARGE: u64 = 99;
 
@@ -83,7 +91,7 @@ fn fields_good(shape: Shape, control: Control) -> bool {
 }
 
 // All of row 1, of a board of any words.
-fn shape_good(board: &[u64]) -> bool {
+pub fn shape_good(board: &[u64]) -> bool {
     if (board.len() as u64) < LOG_PLACE {
         return false;
     }

@@ -115,6 +115,14 @@ pub fn set_word(words: &mut [u64], place: u64, word: u64)
     }
 }
 
+// Writes the byte at a place of a text; nothing past its end.
+pub fn set_byte(text: &mut [u8], place: u64, byte: u8) {
+    let at = place as usize;
+    if at < text.len() {
+        text[at] = byte;
+    }
+}
+
 // "Control word: P 24, log start 20, log length 20."
 pub struct Control {
     pub persisted: u64,
