@@ -1,8 +1,10 @@
 // Runs the paper's replay listing and its examples W5 to W12 on the model, and prints the listing's
 // columns; then logs about the limit of document 02's request 2/13, the filter of its request 3/13,
 // the count of dirty slots of its request 5/13, the sets of slots of its request 6/13, records and
-// traces, of its request 1/13, and the names of the numbers. The stored output holds what the papers say.
+// traces, of its request 1/13, the names of the numbers, and the Intel HEX records of its request 7/13.
+// The stored output holds what the papers say.
 mod counts;
+mod exports;
 mod filters;
 mod names;
 mod packing;
@@ -237,4 +239,5 @@ fn main() {
     random::list(2, 3000, TWO_SET_WORK);
     random::list(77, 3000, ONE_SET_WORK);
     names::cases();
+    exports::cases();
 }

@@ -1,5 +1,5 @@
-// The names of the answers' numbers, by the paper's table and document 02's requests 1/13, 3/13 and
-// 4/13; the lines were worked out by hand.
+// The names of the answers' numbers, by the paper's table and document 02's requests 1/13, 3/13, 4/13
+// and 7/13; the lines were worked out by hand.
 use crate::number;
 use crate::packing::LARGEST;
 use libc::STDOUT_FILENO;
@@ -51,6 +51,10 @@ fn later_names() {
     named(13, ROOM);
     named(14, ROOM);
     named(15, ROOM);
+    named(16, ROOM);
+    named(17, ROOM);
+    named(18, ROOM);
+    named(19, ROOM);
     named(255, ROOM);
     named(4294967301, ROOM);
     named(LARGEST, ROOM);
@@ -65,6 +69,12 @@ fn short_texts() {
     named(9, 7);
     named(9, 8);
     named(15, 0);
+    named(16, 4);
+    named(16, 5);
+    named(17, 3);
+    named(17, 4);
+    named(18, 6);
+    named(18, 7);
 }
 
 pub fn cases() {

@@ -70,6 +70,18 @@ pub const TWO_SET_WORK: usize = 2 * 8 + BEHIND_SLOTS;
 
 pub const MOST_WORK: usize = 2 * 256 + BEHIND_SLOTS;
 
+// The boards of the HEX records' cases: up to 5 lines; up to one line more than a board may have. The
+// first line of the board with 1 log entry.
+pub const FEW_LINES: usize = 5;
+
+pub const FEW_BOARD: usize = FIRST_LINE + FEW_LINES;
+
+pub const BANKS_LINES: usize = 65537;
+
+pub const BANKS_BOARD: usize = FIRST_LINE + BANKS_LINES;
+
+pub const SHORT_LINE: usize = LOG + 2;
+
 // The words of a work memory of so many slots.
 pub fn work_words(slots: usize) -> usize {
     if slots > 260 {
