@@ -26,6 +26,7 @@ pub enum Part {
     Record,
     Total,
     Name,
+    Hex,
     Planned,
     Turn,
 }

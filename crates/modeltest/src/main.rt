@@ -9,6 +9,10 @@ mod cuts;
 mod damage;
 mod filter_words;
 mod filters;
+mod hex_boards;
+mod hex_plans;
+mod hex_texts;
+mod hex_turns;
 mod history;
 mod log_ends;
 mod names;
@@ -29,6 +33,8 @@ mod turns;
 
 use compare::Score;
 use compare::new_score;
+use hex_turns::EXPORTS;
+use hex_turns::EXPORTS_END;
 use packing::LAST_EPOCH;
 use print::group_line;
 use print::turns_line;
@@ -116,6 +122,11 @@ fn recorded() {
     turns_line(read, READER, READER_END);
     turns_line(traced, RUN, RUN_END);
     turns_line(names::texts(17001, new_score(24)), NAMES, NAMES_END);
+    turns_line(
+        hex_texts::records(20001, new_score(25)),
+        EXPORTS,
+        EXPORTS_END,
+    );
 }
 
 fn main() {

@@ -4,6 +4,7 @@ use crate::compare::Difference;
 use crate::compare::NUMBERS;
 use crate::compare::Part;
 use crate::compare::Score;
+use crate::hex_turns::EXPORTS;
 use crate::register_words::REGISTERS;
 use crate::turns::*;
 use libc::STDOUT_FILENO;
@@ -39,7 +40,7 @@ fn group_name(group: u64) {
         );
     } else {
         name_at(
-            b"cuts;cuts at a full buffer;shared bits;cuts with shared bits;one bit;one field;registers;random words;random fields;log ends;filters;counts;sets;records written;records read;traces;names;",
+            b"cuts;cuts at a full buffer;shared bits;cuts with shared bits;one bit;one field;registers;random words;random fields;log ends;filters;counts;sets;records written;records read;traces;names;hex;",
             group - LAST_GROUPS,
         );
     }
@@ -75,6 +76,7 @@ fn part_name(part: Part) {
         Part::Record => text(b"record word"),
         Part::Total => text(b"total"),
         Part::Name => text(b"name word"),
+        Part::Hex => text(b"hex word"),
         Part::Planned => text(b"number against the plan"),
         Part::Turn => text(b"count of the turn"),
     }
@@ -191,6 +193,25 @@ fn recorded_turn_name(turn: u64) {
     }
 }
 
+fn state_turn_name(turn: u64) {
+    if turn >= EXPORTS {
+        name_at(
+            b"opening the first bank;a later one;two lines;at a bank's end;odd last line;first in its bank;at a bank's end;closing;into 44 bytes;into more;last byte 00;1 by no words;one word;the 24 bits;N less;N more;N out of range;L less;L more;L out of range;P;start;length;a word less;a word more;before 16;before 17;before 18;16 by 43 bytes;by fewer;by none;before 17;before 18;17 just past the end;by the low 32 bits;by the low 16;by others;before 18;18 by one entry;by all;by some;",
+            turn - EXPORTS,
+        );
+    } else if turn >= IN_SETS {
+        name_at(
+            b"empty behind clean;empty;clean behind dirty;clean and first;four equal tags;smallest tag first;second;third;last;held first;second;third;last;not held;asked line twice;another twice;improper first;second;third;last;behind the held one;4 at 0 by another slot;4 at S;S with four dirty;neighbour improper;scan of a line held twice;past an improper one;with a count that another belies;8 for a line not held;held;no entry due;",
+            turn - IN_SETS,
+        );
+    } else if turn >= COUNTS {
+        name_at(
+            b"4 at 0 by load;by store;by evict;by scan;4 at S by load;by store;by evict;by scan;5 before 4;6 before 4;4 before 7;before 8;before 11;before 12;before 14;above S by load;by store;by evict;by scan;by commit;by tally;lowered by load;raised by store;lowered by evict;by scan;0 passed;S passed;either at a scan's end;wrong and carried on;wrong and tallied;",
+            turn - COUNTS,
+        );
+    }
+}
+
 fn turn_name(turn: u64) {
     if turn < ENTRY_ENDS {
         recorded_turn_name(turn);
@@ -204,21 +225,13 @@ fn turn_name(turn: u64) {
             b"false hit by load;by store;by evict;by scan;true hit;one bit of two;no bit;both bits and no entries;false hit of a damaged filter;of one whose every bit is set;14 by load;by store;by evict;by scan;by commit;before 8;before 9;before 10;before 11;before 12;7 before 14;no bits counted;some;all;",
             turn - FILTERS,
         );
-    } else if turn >= IN_SETS {
-        name_at(
-            b"empty behind clean;empty;clean behind dirty;clean and first;four equal tags;smallest tag first;second;third;last;held first;second;third;last;not held;asked line twice;another twice;improper first;second;third;last;behind the held one;4 at 0 by another slot;4 at S;S with four dirty;neighbour improper;scan of a line held twice;past an improper one;with a count that another belies;8 for a line not held;held;no entry due;",
-            turn - IN_SETS,
-        );
-    } else if turn >= COUNTS {
-        name_at(
-            b"4 at 0 by load;by store;by evict;by scan;4 at S by load;by store;by evict;by scan;5 before 4;6 before 4;4 before 7;before 8;before 11;before 12;before 14;above S by load;by store;by evict;by scan;by commit;by tally;lowered by load;raised by store;lowered by evict;by scan;0 passed;S passed;either at a scan's end;wrong and carried on;wrong and tallied;",
-            turn - COUNTS,
-        );
-    } else {
+    } else if turn < COUNTS {
         name_at(
             b"too short by more than one;by one;just long enough;longer;no name and no text;no name;",
             turn - NAMES,
         );
+    } else {
+        state_turn_name(turn);
     }
 }
 
