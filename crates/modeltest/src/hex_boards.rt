@@ -41,7 +41,8 @@ const WORD_LESS: u64 = 12;
 
 const WORD_MORE: u64 = 13;
 
-// Nothing is wrong: the log is empty, has one entry, is full, has any number of entries.
+// Nothing is wrong: the log is empty, in six of the kinds; has one entry; is full; has any number of
+// entries, in two of them.
 pub const SOUND: u64 = 14;
 
 const LAST_SOUND: u64 = 19;
