@@ -29,6 +29,12 @@ pub const CUT: u64 = 12;
 pub const TRACE: u64 = 13;
 /// A buffered entry has a bit in the filter that is not set.
 pub const FILTER: u64 = 14;
+/// A text has too few bytes for a record of the export.
+pub const SHORT: u64 = 16;
+/// The export has no record of that number.
+pub const PAST: u64 = 17;
+/// The log is not empty.
+pub const LOG_HELD: u64 = 18;
 
 /// The words of the registers as they stand in an array, and their names.
 pub type RegisterWords = [u64; REGISTER_WORDS];

@@ -19,6 +19,9 @@ pub enum Refusal {
     Last = 10,
     None = 11,
     Filter = 14,
+    Short = 16,
+    Past = 17,
+    LogHeld = 18,
 }
 
 /// The board's first two words, once they agree with each other and with its length.

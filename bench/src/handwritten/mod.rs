@@ -1,7 +1,8 @@
-//! The nine calls in ordinary Rust, written from the paper alone: the yardstick for what the library answers and for
-//! how fast it does so.
+//! The nine calls and the export in ordinary Rust, written from the paper alone: the yardstick for what the library answers
+//! and for how fast it does so.
 
 mod checks;
+pub mod hex;
 pub mod layout;
 mod machine;
 pub mod names;

@@ -1,9 +1,9 @@
 //! The names of the paper's numbers, and a name put into a text.
 
-use crate::interface::{Answer, ENTRY, FILTER, OK, SHAPE, TRACE};
+use crate::interface::{Answer, ENTRY, FILTER, LOG_HELD, OK, PAST, SHAPE, SHORT, TRACE};
 
 /// The numbers that have a name, in their order.
-pub const NAMES: [(u64, &str); 15] = [
+pub const NAMES: [(u64, &str); 18] = [
     (OK, "ok"),
     (SHAPE, "shape"),
     (2, "work"),
@@ -19,6 +19,9 @@ pub const NAMES: [(u64, &str); 15] = [
     (12, "cut"),
     (TRACE, "trace"),
     (FILTER, "filter"),
+    (SHORT, "short"),
+    (PAST, "past"),
+    (LOG_HELD, "logheld"),
 ];
 
 /// The name of a number; a number without one has the empty name.

@@ -1,8 +1,9 @@
 //! The paper's own examples: W1 to W12, its replay, its traps, and the latest log entry that is proper. filter.rs has those of
-//! the filter, count.rs the count of dirty slots, sets.rs the sets of four slots, names.rs the names.
+//! the filter, count.rs the count of dirty slots, sets.rs the sets of four slots, names.rs the names, hex.rs the export.
 
 mod count;
 mod filter;
+mod hex;
 mod names;
 mod sets;
 

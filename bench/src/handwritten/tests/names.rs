@@ -3,8 +3,8 @@
 use super::answer;
 use crate::handwritten::names::{name, name_of};
 
-/// Number, name, letters. They are 70 together.
-const WORKED: [(u64, &[u8], usize); 15] = [
+/// Number, name, letters. They are 86 together.
+const WORKED: [(u64, &[u8], usize); 18] = [
     (0, b"ok", 2),
     (1, b"shape", 5),
     (2, b"work", 4),
@@ -20,12 +20,15 @@ const WORKED: [(u64, &[u8], usize); 15] = [
     (12, b"cut", 3),
     (13, b"trace", 5),
     (14, b"filter", 6),
+    (16, b"short", 5),
+    (17, b"past", 4),
+    (18, b"logheld", 7),
 ];
 
 /// The last are named numbers, if they are cut to 4, 5, 8, 16, 32 or 63 bits.
-const NAMELESS: [u64; 16] = [
+const NAMELESS: [u64; 18] = [
     15,
-    16,
+    19,
     255,
     256,
     65_535,
@@ -33,9 +36,11 @@ const NAMELESS: [u64; 16] = [
     1 << 63,
     u64::MAX - 1,
     u64::MAX,
-    16 + 3,
+    16 + 4,
     32 + 3,
+    32 + 18,
     (1 << 8) + 3,
+    (1 << 8) + 16,
     (1 << 16) + 14,
     (1 << 32) + 3,
     (3 << 32) + 5,
@@ -61,7 +66,7 @@ fn each_number_has_its_name() {
         assert_eq!(name_of(number).as_bytes(), letters);
         assert_eq!(name_of(number).len(), count, "{number}");
     }
-    assert_eq!(WORKED.iter().map(|&(_, _, count)| count).sum::<usize>(), 70);
+    assert_eq!(WORKED.iter().map(|&(_, _, count)| count).sum::<usize>(), 86);
 }
 
 #[test]
@@ -69,7 +74,8 @@ fn no_other_number_has_one() {
     for number in NAMELESS {
         assert_eq!(name_of(number), "", "{number}");
     }
-    for number in 15..100_000 {
+    assert_eq!(name_of(15), "");
+    for number in 19..100_000 {
         assert_eq!(name_of(number), "", "{number}");
     }
 }
