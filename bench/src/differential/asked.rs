@@ -1,5 +1,4 @@
-//! What both sides are asked: a call; or a record, or a name, which are no `Call` since they are lent neither board nor work
-//! memory.
+//! What both sides are asked: a call; or an export, a record of a trace or a name, which are no `Call` since they are lent bytes.
 
 use crate::call::{Call, Kind};
 use crate::record::Record;
@@ -8,6 +7,7 @@ use std::fmt;
 #[derive(Clone, Copy)]
 pub enum Asked {
     Call(Call),
+    HexOut { record: u64 },
     TraceWrite(Record),
     Name { number: u64 },
 }
@@ -16,30 +16,34 @@ pub enum Asked {
 #[derive(Clone, Copy, PartialEq, Eq)]
 pub enum Function {
     Call(Kind),
+    HexOut,
     TraceWrite,
     Name,
 }
 
 impl Function {
-    pub const COUNT: usize = Kind::ALL.len() + 2;
+    const WITH_BYTES: [Function; 3] = [Function::HexOut, Function::TraceWrite, Function::Name];
+    pub const COUNT: usize = Kind::ALL.len() + Self::WITH_BYTES.len();
 
     pub fn all() -> impl Iterator<Item = Function> {
         let calls = Kind::ALL.into_iter().map(Function::Call);
-        calls.chain([Function::TraceWrite, Function::Name])
+        calls.chain(Self::WITH_BYTES)
     }
 
     /// Its place among all of them.
     pub fn place(self) -> usize {
         match self {
             Function::Call(kind) => kind as usize,
-            Function::TraceWrite => Kind::ALL.len(),
-            Function::Name => Kind::ALL.len() + 1,
+            Function::HexOut => Kind::ALL.len(),
+            Function::TraceWrite => Kind::ALL.len() + 1,
+            Function::Name => Kind::ALL.len() + 2,
         }
     }
 
     pub fn name(self) -> &'static str {
         match self {
             Function::Call(kind) => kind.name(),
+            Function::HexOut => "hex-out",
             Function::TraceWrite => "trace-write",
             Function::Name => "name",
         }
@@ -50,6 +54,7 @@ impl Asked {
     pub fn function(self) -> Function {
         match self {
             Asked::Call(call) => Function::Call(call.kind()),
+            Asked::HexOut { .. } => Function::HexOut,
             Asked::TraceWrite(_) => Function::TraceWrite,
             Asked::Name { .. } => Function::Name,
         }
@@ -72,6 +77,7 @@ impl fmt::Display for Asked {
     fn fmt(&self, out: &mut fmt::Formatter) -> fmt::Result {
         match self {
             Asked::Call(call) => write!(out, "{call}"),
+            Asked::HexOut { record } => write!(out, "{}, record {record}", self.function().name()),
             Asked::TraceWrite(record) => write!(out, "{}, {record}", self.function().name()),
             Asked::Name { number } => write!(out, "{}, number {number}", self.function().name()),
         }

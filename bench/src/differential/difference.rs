@@ -28,6 +28,10 @@ impl fmt::Display for Difference {
         writeln!(out, "  call         {}", self.asked)?;
         match self.asked {
             Asked::Call(_) => self.write_state(out)?,
+            Asked::HexOut { .. } => {
+                self.write_state(out)?;
+                self.write_lengths(out)?;
+            }
             Asked::TraceWrite(_) | Asked::Name { .. } => self.write_lengths(out)?,
         }
         self.write_number(out)?;
@@ -67,12 +71,12 @@ impl Difference {
         writeln!(out, "  registers    before {}", register_text(&before.registers))
     }
 
-    /// What a record or a name was lent.
+    /// What an export, a record or a name was lent.
     fn write_lengths(&self, out: &mut fmt::Formatter) -> fmt::Result {
         let before = &self.before;
         writeln!(
             out,
-            "  sizes        {} bytes, those at {:?}, answer {} words",
+            "  bytes        {} bytes, those at {:?}, answer {} words",
             before.bytes_place.len(),
             before.bytes_place,
             before.answer.len()

@@ -8,6 +8,7 @@ mod difference;
 mod filter_turns;
 mod groups;
 mod habit;
+mod hex_turns;
 mod name_turns;
 mod occurrences;
 mod player;

@@ -27,7 +27,7 @@ const OF_EACH_NAME: [(&str, Turn); 3] = [
     }),
 ];
 
-const OTHERS: [(&str, Turn); 16] = [
+const OTHERS: [(&str, Turn); 17] = [
     ("a number without a name, and an empty text", |seen| {
         seen.is_nameless() && seen.text_bytes == 0
     }),
@@ -40,6 +40,7 @@ const OTHERS: [(&str, Turn); 16] = [
         seen.is_nameless() && seen.asked == u64::MAX
     }),
     ("the low 4 bits alone have a name", |seen| seen.has_name_in(4, 8)),
+    ("the low 5 bits alone have a name", |seen| seen.has_name_in(5, 8)),
     ("the low 8 bits alone have a name", |seen| seen.has_name_in(8, 16)),
     ("the low 16 bits alone have a name", |seen| seen.has_name_in(16, 32)),
     ("the low 32 bits alone have a name", |seen| seen.has_name_in(32, 63)),

@@ -3,26 +3,26 @@
 use super::asked::{Asked, Function};
 use super::sides::Lent;
 use super::turn_lists::Counts;
-use super::{count_turns, filter_turns, name_turns, power_up_turns, record_turns, set_turns};
+use super::{count_turns, filter_turns, hex_turns, name_turns, power_up_turns, record_turns, set_turns};
 use crate::call::{Call, Kind};
 use crate::handwritten::layout::Control;
 use crate::handwritten::names::{name_of, NAMES};
-use crate::interface::{FILTER, OK};
+use crate::interface::{FILTER, LOG_HELD, OK, PAST, SHORT};
 use crate::library::TOO_SHORT;
 use crate::record::Record;
 
-/// The column behind those of the paper's numbers.
-const SHORT: (u64, &str) = (TOO_SHORT, "short");
+/// The column behind those of the paper's numbers: arrays that have too few words or bytes.
+const TOO_FEW: (u64, &str) = (TOO_SHORT, "few");
 const COLUMNS: usize = NAMES.len() + 1;
 
 /// The numbers in the order of the columns, with their names.
 fn columns() -> impl Iterator<Item = (u64, &'static str)> {
-    NAMES.into_iter().chain([SHORT])
+    NAMES.into_iter().chain([TOO_FEW])
 }
 
 pub fn number_name(number: u64) -> &'static str {
     match name_of(number) {
-        "" if number == TOO_SHORT => SHORT.1,
+        "" if number == TOO_SHORT => TOO_FEW.1,
         "" => "(no such number)",
         name => name,
     }
@@ -39,6 +39,7 @@ fn possible(function: Function) -> &'static [u64] {
         Function::Call(Kind::Scan) => &[0, 1, 2, 4, 6, 7, 11, 12, FILTER, TOO_SHORT],
         Function::Call(Kind::Tally) => &[0, 1, 2, 4, TOO_SHORT],
         Function::Call(Kind::FilterBits) => &[0, 2, TOO_SHORT],
+        Function::HexOut => &[0, 1, SHORT, PAST, LOG_HELD, TOO_SHORT],
         Function::TraceWrite => &[0, 13, TOO_SHORT],
         Function::Name => &[0, TOO_SHORT],
     }
@@ -98,6 +99,7 @@ pub struct Occurrences {
     filter_turns: [u64; filter_turns::TURNS.len()],
     count_turns: Counts<count_turns::Seen>,
     set_turns: Counts<set_turns::Seen>,
+    hex_turns: hex_turns::Counts,
     record_turns: [u64; record_turns::TURNS.len()],
     name_turns: name_turns::Counts,
 }
@@ -111,6 +113,7 @@ impl Default for Occurrences {
             filter_turns: [0; filter_turns::TURNS.len()],
             count_turns: Counts::new(&count_turns::ALL),
             set_turns: Counts::new(&set_turns::ALL),
+            hex_turns: hex_turns::Counts::default(),
             record_turns: [0; record_turns::TURNS.len()],
             name_turns: name_turns::Counts::default(),
         }
@@ -125,6 +128,12 @@ impl Occurrences {
         self.numbers[asked.function().place()][column] += 1;
         match asked {
             Asked::Call(call) => self.count_call_turns(call, number, before, after),
+            Asked::HexOut { record } => self.hex_turns.count(&hex_turns::Seen {
+                record,
+                before,
+                after,
+                number,
+            }),
             Asked::TraceWrite(record) => self.count_record_turns(record, number, before),
             Asked::Name { number: asked } => self.count_name_turns(asked, number, before),
         }
@@ -190,14 +199,16 @@ impl Occurrences {
         let more = more.chain(&other.turns).chain(&other.power_up_turns);
         let more = more.chain(&other.filter_turns).chain(&other.record_turns);
         let more = more.chain(other.count_turns.iter()).chain(other.set_turns.iter());
-        let more = more.chain(other.name_turns.iter());
+        let more = more.chain(other.hex_turns.iter()).chain(other.name_turns.iter());
         let counts = self.numbers.iter_mut().flatten();
         let counts = counts.chain(&mut self.turns).chain(&mut self.power_up_turns);
         let counts = counts.chain(&mut self.filter_turns).chain(&mut self.record_turns);
         let counts = counts
             .chain(self.count_turns.iter_mut())
             .chain(self.set_turns.iter_mut());
-        let counts = counts.chain(self.name_turns.iter_mut());
+        let counts = counts
+            .chain(self.hex_turns.iter_mut())
+            .chain(self.name_turns.iter_mut());
         for (count, more) in counts.zip(more) {
             *count += more;
         }
@@ -213,6 +224,7 @@ impl Occurrences {
         let of_slots = self.count_turns.named().chain(self.set_turns.named());
         of_memories
             .chain(of_slots)
+            .chain(self.hex_turns.named())
             .chain(of_records)
             .chain(self.name_turns.named())
     }

@@ -14,7 +14,7 @@ pub struct Lent {
     pub board: Vec<u64>,
     pub work: Vec<u64>,
     pub registers: Vec<u64>,
-    /// The bytes for a record or a name, at their place among others that are not lent.
+    /// The bytes for an export, a record or a name, at their place among others that are not lent.
     pub bytes: Vec<u8>,
     pub bytes_place: Range<usize>,
     pub answer: Vec<u64>,
@@ -36,6 +36,7 @@ impl Lent {
 pub fn on_library(asked: Asked, lent: &mut Lent) -> u64 {
     match asked {
         Asked::Call(call) => make_on_library(call, lent),
+        Asked::HexOut { record } => export_on_library(record, lent),
         Asked::TraceWrite(record) => write_on_library(record, lent),
         Asked::Name { number } => name_on_library(number, lent),
     }
@@ -66,6 +67,11 @@ fn make_on_library(call: Call, lent: &mut Lent) -> u64 {
     }
 }
 
+fn export_on_library(record: u64, lent: &mut Lent) -> u64 {
+    let text = &mut lent.bytes[lent.bytes_place.clone()];
+    library::hex_out(&lent.board, text, record, &mut lent.answer)
+}
+
 fn write_on_library(record: Record, lent: &mut Lent) -> u64 {
     let Record { kind, address, value } = record;
     let bytes = &mut lent.bytes[lent.bytes_place.clone()];
@@ -85,6 +91,7 @@ pub fn on_handwritten(asked: Asked, lent: &mut Lent) -> u64 {
     }
     let answer = match asked {
         Asked::Call(call) => make_on_handwritten(call, lent),
+        Asked::HexOut { record } => Some(export_on_handwritten(record, lent)),
         Asked::TraceWrite(record) => write_on_handwritten(record, lent),
         Asked::Name { number } => HandWritten::name(&mut lent.bytes[lent.bytes_place.clone()], number),
     };
@@ -108,6 +115,11 @@ fn make_on_handwritten(call: Call, lent: &mut Lent) -> Option<Answer> {
     let answer = call.make::<HandWritten>(&mut lent.board, &mut lent.work, &mut registers);
     lent.set_registers(registers);
     Some(answer)
+}
+
+fn export_on_handwritten(record: u64, lent: &mut Lent) -> Answer {
+    let text = &mut lent.bytes[lent.bytes_place.clone()];
+    HandWritten::hex_out(&lent.board, text, record)
 }
 
 /// None where there are too few bytes.
@@ -168,6 +180,35 @@ mod tests {
         assert_eq!(ask_for_entry(8, 1), (255, bytes.clone(), vec![100]));
         assert_eq!(ask_for_entry(8, 0), (255, bytes.clone(), vec![]));
         assert_eq!(ask_for_entry(0, 0), (255, bytes, vec![]));
+    }
+
+    /// The same once the last record of a board of one line was asked for, with a text from byte 1 on.
+    fn ask_for_end(log_length: u64, text_bytes: usize, answer_words: usize) -> (u64, Vec<u8>, Vec<u64>) {
+        let mut lent = Lent {
+            board: vec![log_length, 1 << 20 | 1, 0, 0, 7],
+            bytes: vec![0xEE; 46],
+            bytes_place: 1..1 + text_bytes,
+            answer: (100..).take(answer_words).collect(),
+            ..Lent::default()
+        };
+        let number = on_handwritten(Asked::HexOut { record: 2 }, &mut lent);
+        (number, lent.bytes, lent.answer)
+    }
+
+    #[test]
+    fn an_export_fills_the_first_two_answer_words_and_the_first_bytes_of_its_text() {
+        let bytes = [b"\xEE:00000001FF\n".to_vec(), vec![0xEE; 33]].concat();
+        assert_eq!(ask_for_end(0, 44, 2), (0, bytes.clone(), vec![12, 0]));
+        assert_eq!(ask_for_end(0, 45, 4), (0, bytes, vec![12, 0, 102, 103]));
+    }
+
+    #[test]
+    fn a_refused_export_fills_the_answer_alone_and_one_without_room_for_it_nothing() {
+        let bytes = vec![0xEE; 46];
+        assert_eq!(ask_for_end(1, 44, 3), (18, bytes.clone(), vec![0, 0, 102]));
+        assert_eq!(ask_for_end(0, 43, 2), (16, bytes.clone(), vec![0, 0]));
+        assert_eq!(ask_for_end(1, 43, 1), (255, bytes.clone(), vec![100]));
+        assert_eq!(ask_for_end(0, 44, 0), (255, bytes, vec![]));
     }
 
     /// Whether a count, and a first answer word, are true after such a call where one slot of four is dirty.

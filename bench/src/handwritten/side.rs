@@ -1,6 +1,6 @@
 //! The hand-written calls as one of the two sides.
 
-use super::{names, record, Registers};
+use super::{hex, names, record, Registers};
 use crate::interface::{Answer, CacheLog, RecordBytes};
 
 pub struct HandWritten;
@@ -58,6 +58,11 @@ impl CacheLog for HandWritten {
     #[inline]
     fn filter_bits(work: &[u64]) -> Answer {
         super::filter_bits(work)
+    }
+
+    #[inline]
+    fn hex_out(board: &[u64], text: &mut [u8], record: u64) -> Answer {
+        hex::hex_out(board, text, record)
     }
 
     #[inline]

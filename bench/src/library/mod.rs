@@ -98,6 +98,15 @@ mod c {
             answer_words: usize,
         ) -> u64;
         pub fn picl_filter_bits(work: *const u64, work_words: usize, answer: *mut u64, answer_words: usize) -> u64;
+        pub fn picl_hex_out(
+            board: *const u64,
+            board_words: usize,
+            text: *mut u8,
+            text_bytes: usize,
+            record: u64,
+            answer: *mut u64,
+            answer_words: usize,
+        ) -> u64;
         pub fn picl_trace_write(
             bytes: *mut u8,
             byte_count: usize,
@@ -275,6 +284,21 @@ pub fn tally(board: &[u64], work: &[u64], registers: &[u64], answer: &mut [u64])
 #[inline]
 pub fn filter_bits(work: &[u64], answer: &mut [u64]) -> u64 {
     unsafe { c::picl_filter_bits(work.as_ptr(), work.len(), answer.as_mut_ptr(), answer.len()) }
+}
+
+#[inline]
+pub fn hex_out(board: &[u64], text: &mut [u8], record: u64, answer: &mut [u64]) -> u64 {
+    unsafe {
+        c::picl_hex_out(
+            board.as_ptr(),
+            board.len(),
+            text.as_mut_ptr(),
+            text.len(),
+            record,
+            answer.as_mut_ptr(),
+            answer.len(),
+        )
+    }
 }
 
 #[inline]

@@ -82,6 +82,11 @@ impl CacheLog for Library {
     }
 
     #[inline]
+    fn hex_out(board: &[u64], text: &mut [u8], record: u64) -> Answer {
+        answered(|answer| super::hex_out(board, text, record, answer))
+    }
+
+    #[inline]
     fn trace_write(bytes: &mut RecordBytes, kind: u64, address: u64, value: u64) -> Answer {
         answered(|answer| super::trace_write(bytes, kind, address, value, answer))
     }

@@ -4,6 +4,7 @@ mod arrays;
 mod count;
 mod damaged;
 mod filter;
+mod hex;
 mod histories;
 mod large;
 mod last_epochs;
@@ -22,15 +23,15 @@ pub struct Group {
     pub history: fn(&mut Player) -> Outcome,
 }
 
-pub const GROUPS: [Group; 12] = [
+pub const GROUPS: [Group; 13] = [
     Group {
         name: "histories",
-        share: 270,
+        share: 250,
         history: histories::history,
     },
     Group {
         name: "damaged",
-        share: 199,
+        share: 179,
         history: damaged::history,
     },
     Group {
@@ -67,6 +68,11 @@ pub const GROUPS: [Group; 12] = [
         name: "arrays",
         share: 60,
         history: arrays::history,
+    },
+    Group {
+        name: "hex",
+        share: 40,
+        history: hex::history,
     },
     Group {
         name: "records",
