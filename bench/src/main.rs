@@ -2,6 +2,7 @@
 
 mod benchmark;
 mod differential;
+mod export;
 mod library;
 mod loom;
 mod memories;
@@ -24,6 +25,8 @@ picl-bench bench --row NAME --side library|handwritten --repeat COUNT
     play one side of one row, for a tool that counts instructions; prints the number of measured calls
 picl-bench rows
     the names of the rows
+picl-bench hex FOLDER
+    write what each side exports of some boards, and the bytes of their lines; prints the names of the files, by pairs
 picl-bench loom
     what the loom's work asks of a board
 picl-bench scripts
@@ -61,6 +64,7 @@ fn run(words: &[String]) -> Result<(), String> {
             benchmark::print_row_names();
             Ok(())
         }
+        "hex" => run_hex(flags),
         "loom" => loom::print_figures(),
         "order" => run_order(flags),
         "scripts" => replay::compare_with_stored(),
@@ -101,6 +105,13 @@ fn run_benchmark(flags: &[String]) -> Result<(), String> {
         _ => return Err(USAGE.to_string()),
     }
     Ok(())
+}
+
+fn run_hex(flags: &[String]) -> Result<(), String> {
+    match flags {
+        [folder] => export::write_exports(folder),
+        _ => Err(USAGE.to_string()),
+    }
 }
 
 fn run_order(flags: &[String]) -> Result<(), String> {
