@@ -1,9 +1,11 @@
-//! The measured part: a loop that makes the calls of a trace, the same for both sides.
+//! The measured part: a loop that makes the calls of a trace, or all records of an export, the same for both sides.
 
 use crate::call::Call;
+use crate::handwritten::hex::TEXT_BYTES;
 use crate::handwritten::HandWritten;
 use crate::interface::{Answer, CacheLog, RegisterWords};
 use crate::library::Library;
+use std::ops::Range;
 
 /// The memories and registers that a trace starts from.
 #[derive(PartialEq, Eq)]
@@ -13,11 +15,19 @@ pub struct Start {
     pub registers: RegisterWords,
 }
 
-/// One side's own copy of them.
+/// What is played in one go: calls, or the records of these numbers.
+#[derive(Clone)]
+pub enum Piece<'a> {
+    Calls(&'a [Call]),
+    Records(Range<u64>),
+}
+
+/// One side's own copy of them, and a text for records.
 pub struct Memories<C: CacheLog> {
     board: Vec<u64>,
     work: Vec<u64>,
     registers: C::Registers,
+    text: [u8; TEXT_BYTES],
 }
 
 impl<C: CacheLog> Memories<C> {
@@ -26,6 +36,7 @@ impl<C: CacheLog> Memories<C> {
             board: start.board.clone(),
             work: start.work.clone(),
             registers: start.registers.into(),
+            text: [0; TEXT_BYTES],
         }
     }
 
@@ -53,35 +64,59 @@ impl<C: CacheLog> Memories<C> {
         let mut sum: u64 = 0;
         for &call in trace {
             let answer = call.make::<C>(&mut self.board, &mut self.work, &mut self.registers);
-            sum = sum
-                .wrapping_add(answer.number)
-                .wrapping_add(answer.value)
-                .wrapping_add(answer.stores);
+            sum = with_answer(sum, answer);
         }
         sum
     }
 
-    /// Makes the calls that are not measured.
+    /// Exports the records, each into the same text, and gives the sum of all answers.
+    #[inline(always)]
+    fn export(&mut self, records: Range<u64>) -> u64 {
+        let mut sum: u64 = 0;
+        for record in records {
+            let answer = C::hex_out(&self.board, &mut self.text, record);
+            sum = with_answer(sum, answer);
+        }
+        sum
+    }
+
+    /// Plays what is not measured.
     #[inline(never)]
-    pub fn play_unmeasured(&mut self, trace: &[Call]) -> u64 {
-        self.play(trace)
+    pub fn play_unmeasured(&mut self, piece: Piece) -> u64 {
+        match piece {
+            Piece::Calls(trace) => self.play(trace),
+            Piece::Records(records) => self.export(records),
+        }
     }
 }
 
-/// A side with a function of its own for the measured calls, which callgrind knows by its name.
+#[inline(always)]
+fn with_answer(sum: u64, answer: Answer) -> u64 {
+    sum.wrapping_add(answer.number)
+        .wrapping_add(answer.value)
+        .wrapping_add(answer.stores)
+}
+
+/// A side with functions of its own for what is measured, which callgrind knows by their names.
 pub trait Measured: CacheLog + Sized {
-    fn play_measured(memories: &mut Memories<Self>, trace: &[Call]) -> u64;
+    fn play_measured(memories: &mut Memories<Self>, piece: Piece) -> u64;
 }
 
 impl Measured for Library {
-    fn play_measured(memories: &mut Memories<Self>, trace: &[Call]) -> u64 {
-        counted_region_library(memories, trace)
+    fn play_measured(memories: &mut Memories<Self>, piece: Piece) -> u64 {
+        match piece {
+            Piece::Calls(trace) => counted_region_library(memories, trace),
+            Piece::Records(records) => counted_region_library_export(memories, records),
+        }
     }
 }
 
 impl Measured for HandWritten {
-    fn play_measured(memories: &mut Memories<Self>, trace: &[Call]) -> u64 {
-        counted_region_handwritten(memories, trace)
+    fn play_measured(memories: &mut Memories<Self>, piece: Piece) -> u64 {
+        match piece {
+            Piece::Calls(trace) => counted_region_handwritten(memories, trace),
+            Piece::Records(records) => counted_region_handwritten_export(memories, records),
+        }
     }
 }
 
@@ -95,4 +130,16 @@ fn counted_region_library(memories: &mut Memories<Library>, trace: &[Call]) -> u
 #[inline(never)]
 fn counted_region_handwritten(memories: &mut Memories<HandWritten>, trace: &[Call]) -> u64 {
     memories.play(trace)
+}
+
+#[no_mangle]
+#[inline(never)]
+fn counted_region_library_export(memories: &mut Memories<Library>, records: Range<u64>) -> u64 {
+    memories.export(records)
+}
+
+#[no_mangle]
+#[inline(never)]
+fn counted_region_handwritten_export(memories: &mut Memories<HandWritten>, records: Range<u64>) -> u64 {
+    memories.export(records)
 }

@@ -1,6 +1,6 @@
 //! The rows of the benchmark.
 
-use super::region::Start;
+use super::region::{Piece, Start};
 use super::traces;
 use crate::call::{Call, Kind};
 
@@ -9,19 +9,40 @@ pub struct Row {
     pub about: &'static str,
     /// The one kind of call that is measured, where not all of the trace are.
     pub only: Option<Kind>,
-    build: fn() -> (Start, Vec<Call>),
+    build: Build,
+}
+
+/// How a row's memories and trace are made: calls, or a whole export of so many records.
+enum Build {
+    Calls(fn() -> (Start, Vec<Call>)),
+    Export(fn() -> (Start, u64)),
+}
+
+/// What is played.
+enum Trace {
+    Calls(Vec<Call>),
+    Export(u64),
 }
 
 /// A row with its memories and trace.
 pub struct Prepared {
     pub start: Start,
-    pub trace: Vec<Call>,
-    pub only: Option<Kind>,
+    trace: Trace,
+    only: Option<Kind>,
 }
 
 impl Row {
     pub fn prepare(&self) -> Prepared {
-        let (start, trace) = (self.build)();
+        let (start, trace) = match self.build {
+            Build::Calls(build) => {
+                let (start, calls) = build();
+                (start, Trace::Calls(calls))
+            }
+            Build::Export(build) => {
+                let (start, records) = build();
+                (start, Trace::Export(records))
+            }
+        };
         Prepared {
             start,
             trace,
@@ -44,17 +65,23 @@ impl Prepared {
 
     /// How many calls are measured.
     pub fn calls(&self) -> usize {
-        self.trace.iter().filter(|call| self.is_measured(call)).count()
+        match &self.trace {
+            Trace::Calls(calls) => calls.iter().filter(|call| self.is_measured(call)).count(),
+            Trace::Export(records) => *records as usize,
+        }
     }
 
     /// Gives the trace in order, whole or, where one kind of call is measured, call by call; and whether each piece is
     /// measured.
-    pub fn for_each_piece(&self, mut play: impl FnMut(&[Call], bool)) {
-        if self.only.is_none() {
-            return play(&self.trace, true);
-        }
-        for call in &self.trace {
-            play(std::slice::from_ref(call), self.is_measured(call));
+    pub fn for_each_piece(&self, mut play: impl FnMut(Piece, bool)) {
+        match &self.trace {
+            Trace::Export(records) => play(Piece::Records(0..*records), true),
+            Trace::Calls(calls) if self.only.is_none() => play(Piece::Calls(calls), true),
+            Trace::Calls(calls) => {
+                for call in calls {
+                    play(Piece::Calls(std::slice::from_ref(call)), self.is_measured(call));
+                }
+            }
         }
     }
 }
@@ -64,11 +91,11 @@ const fn row(name: &'static str, about: &'static str, only: Option<Kind>, build:
         name,
         about,
         only,
-        build,
+        build: Build::Calls(build),
     }
 }
 
-pub static ROWS: [Row; 18] = [
+pub static ROWS: [Row; 19] = [
     row(
         "loom-64",
         "a loom's epoch, S = 64: 2,600 stores, 2,600 loads, 65 scans, 1 commit",
@@ -128,6 +155,12 @@ pub static ROWS: [Row; 18] = [
     row("commit", "15 commits in a row, 16 entries buffered", None, || {
         traces::commits(256)
     }),
+    Row {
+        name: "hex-out",
+        about: "a whole export of 65,536 lines: 32,777 records",
+        only: None,
+        build: Build::Export(traces::export),
+    },
     row("tally-64", "S = 64", None, || traces::tallies(64)),
     row("tally-256", "S = 256", None, || traces::tallies(256)),
     row(

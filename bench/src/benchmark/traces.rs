@@ -2,11 +2,13 @@
 
 use super::region::{Memories, Start};
 use crate::call::Call;
+use crate::export;
 use crate::handwritten::layout::{
     entry_place, Control, Range, BUFFER_ENTRIES, CONTROL_PLACE, MOST_AHEAD, MOST_ENTRIES, MOST_LINES, WAYS,
 };
 use crate::handwritten::HandWritten;
 use crate::interface::{Answer, NO_REGISTERS, OK};
+use crate::library::Library;
 use crate::loom::workload::{Order, Work, STORES_PER_EPOCH};
 use crate::random::Random;
 use crate::sizes::Sizes;
@@ -129,6 +131,20 @@ pub fn commits(slots: usize) -> (Start, Vec<Call>) {
 
 pub fn tallies(slots: usize) -> (Start, Vec<Call>) {
     (loom(slots).0, vec![Call::Tally; 1_000])
+}
+
+/// All records of the largest board, with lines of any words. Both sides have to export the same.
+pub fn export() -> (Start, u64) {
+    let mut start = fresh_board(256);
+    let lines = Random::new(SEED).words(MOST_LINES as usize);
+    let first = start.board.len() - lines.len();
+    start.board[first..].copy_from_slice(&lines);
+    let records = export::records::<HandWritten>(&start.board);
+    assert!(
+        records == export::records::<Library>(&start.board),
+        "the sides export differently"
+    );
+    (start, records.len() as u64)
 }
 
 pub fn format() -> (Start, Vec<Call>) {
