@@ -1,6 +1,6 @@
 //! What the export refuses, each for itself and in which order.
 
-use super::{board_with, records, text_with_record, BYTE, DOWN, END, FIRST_OPENER, UP};
+use super::{board_with, records, text_with_record, Loom, BYTE, DOWN, END, FIRST_OPENER, UP};
 use crate::handwritten::layout::{Control, Shape, CONTROL_PLACE, LAST_EPOCH, SHAPE_PLACE};
 use crate::interface::Answer;
 
@@ -97,6 +97,15 @@ fn a_log_that_is_not_empty_is_held() {
             assert_eq!(number(&board_under(0, 0, length), 44, record), 18);
         }
     }
+}
+
+/// The length's low 16 bits are 0.
+#[test]
+fn a_full_log_of_65536_entries_is_held() {
+    let mut loom = Loom::new(2, 65_536, 4);
+    assert_eq!(number(&loom.board, 44, 3), 17);
+    loom.board[CONTROL_PLACE] = 65_536;
+    assert_eq!(number(&loom.board, 44, 1), 18);
 }
 
 #[test]
