@@ -5,7 +5,7 @@ mod faults;
 mod lists;
 
 use super::sides::Lent;
-use crate::handwritten::hex::{end_record, hex_out, BANK_LINES, BANK_RECORDS, TEXT_BYTES};
+use crate::handwritten::hex::{end_record, hex_out, BANK_LINES, BANK_RECORDS, RECORD_LINES, TEXT_BYTES};
 use crate::handwritten::layout::MOST_LINES;
 use crate::interface::{LOG_HELD, OK, PAST, SHAPE, SHORT};
 use crate::library::TOO_SHORT;
@@ -50,7 +50,7 @@ impl Seen<'_> {
         self.record > end_record(MOST_LINES)
     }
 
-    /// What the number is the record of, where the board's is a right shape and has one.
+    /// What the number is the record of on a board of a right shape, where that has one.
     fn what(&self) -> Option<What> {
         let lines = self.before.shape().lines;
         let end = end_record(lines);
@@ -60,25 +60,22 @@ impl Seen<'_> {
             record if record == end => Some(What::End),
             _ if place == 0 => Some(What::Opener { bank }),
             _ => {
-                let first = bank * BANK_LINES + 2 * (place - 1);
+                let first = bank * BANK_LINES + RECORD_LINES * (place - 1);
                 let is_odd = first + 1 == lines;
                 Some(What::Lines { first, is_odd })
             }
         }
     }
 
-    /// The same where the board is of a right shape.
+    /// The same, going by the number answered where the board is of a right shape.
     fn what_if_right(&self) -> Option<What> {
         let has_right_shape = [OK, SHORT, PAST, LOG_HELD].contains(&self.number);
         has_right_shape.then(|| self.what()).flatten()
     }
 
+    /// What was put.
     fn put(&self) -> Option<What> {
-        if self.number == OK {
-            self.what()
-        } else {
-            None
-        }
+        (self.number == OK).then(|| self.what()).flatten()
     }
 
     fn puts_opener(&self, is_it: fn(u64) -> bool) -> bool {

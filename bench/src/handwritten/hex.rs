@@ -9,7 +9,7 @@ use crate::interface::Answer;
 
 /// Line i is at byte address 8i, and a data record has two lines.
 const LINE_BYTES: usize = size_of::<u64>();
-const RECORD_LINES: u64 = 2;
+pub const RECORD_LINES: u64 = 2;
 
 /// A bank has the addresses that two bytes can tell apart. Its records are its opener and those of its lines.
 pub const BANK_LINES: u64 = (1 << 16) / LINE_BYTES as u64;

@@ -7,7 +7,7 @@ use crate::differential::habit::{begin, go_on, Habit};
 use crate::differential::player::{Outcome, Player};
 use crate::differential::sides::Lent;
 use crate::handwritten::hex::{end_record, BANK_LINES, BANK_RECORDS, TEXT_BYTES};
-use crate::handwritten::layout::{Control, Shape, LAST_EPOCH, MOST_ENTRIES, MOST_LINES};
+use crate::handwritten::layout::{Control, Shape, COUNT_BITS, LAST_EPOCH, MOST_ENTRIES, MOST_LINES};
 use crate::interface::ANSWER_WORDS;
 use crate::random::Random;
 use crate::sizes::Sizes;
@@ -16,6 +16,12 @@ use crate::sizes::Sizes;
 const EXPORTS_OF_SMALL: u64 = 200;
 const EXPORTS_OF_BANKS: u64 = 60;
 const EXPORTS_OF_LARGE: u64 = 40;
+
+/// The most lines and log entries of a small board, and the lowest bit that no smaller number has.
+const SMALL_LINES: u64 = 300;
+const SMALL_ENTRIES: u64 = 40;
+const ABOVE_SMALL_LINES: u64 = 9;
+const ABOVE_SMALL_ENTRIES: u64 = 6;
 
 /// The longest text, bytes before it, which may stand at any address, and bytes behind it.
 const LONGEST_TEXT: u64 = 60;
@@ -62,10 +68,10 @@ fn running(player: &mut Player) -> Outcome {
 /// Few lines behind a short log: right boards, and such as have something wrong with them.
 fn small(player: &mut Player) -> Outcome {
     let random = &mut player.random;
-    let most_lines = random.pick(&[1, 2, 3, 4, 12, 300]);
+    let most_lines = random.pick(&[1, 2, 3, 4, 12, SMALL_LINES]);
     let shape = Shape {
         lines: random.between(1, most_lines),
-        entries: random.between(1, 40),
+        entries: random.between(1, SMALL_ENTRIES),
     };
     lend_board(player, shape);
     for _ in 0..EXPORTS_OF_SMALL {
@@ -85,7 +91,7 @@ fn about_banks(player: &mut Player) -> Outcome {
     let banks = random.pick(&[1, 1, 1, 2]);
     let shape = Shape {
         lines: random.near(banks * BANK_LINES, 3),
-        entries: random.between(1, 40),
+        entries: random.between(1, SMALL_ENTRIES),
     };
     lend_board(player, shape);
     exports(player, EXPORTS_OF_BANKS)
@@ -99,7 +105,7 @@ fn large(player: &mut Player) -> Outcome {
     let any = random.between(1, MOST_LINES);
     let shape = Shape {
         lines: random.pick(&[about_its_end, any, MOST_LINES - 1, MOST_LINES]),
-        entries: random.pick(&[1, 2, 40, 1_000, MOST_ENTRIES]),
+        entries: random.pick(&[1, 2, SMALL_ENTRIES, 1_000, MOST_ENTRIES]),
     };
     lend_board(player, shape);
     exports(player, EXPORTS_OF_LARGE)
@@ -191,7 +197,8 @@ fn make_wrong(random: &mut Random, state: &mut Lent) {
 fn make_control_wrong(random: &mut Random, state: &mut Lent) {
     let mut control = state.control();
     let entries = state.shape().entries;
-    let (just_more, far_more) = (entries + random.below(2), entries | 1 << random.between(6, 19));
+    let upper_bit = random.between(ABOVE_SMALL_ENTRIES, u64::from(COUNT_BITS) - 1);
+    let (just_more, far_more) = (entries + random.below(2), entries | 1 << upper_bit);
     match random.below(4) {
         0 => control.persisted = LAST_EPOCH,
         1 => control.start = random.pick(&[just_more, far_more]) as usize,
@@ -210,8 +217,8 @@ fn make_shape_wrong(random: &mut Random, state: &mut Lent) {
         2 => shape.lines |= 1 << random.between(first, last),
         3 => shape.lines = 0,
         4 => shape.entries = 0,
-        5 => shape.lines |= 1 << random.between(9, first - 1),
-        _ => shape.entries |= 1 << random.between(6, first - 1),
+        5 => shape.lines |= 1 << random.between(ABOVE_SMALL_LINES, first - 1),
+        _ => shape.entries |= 1 << random.between(ABOVE_SMALL_ENTRIES, first - 1),
     }
     state.set_shape(shape);
     // The board has the words that go with them, most times where these are not too many.
@@ -224,9 +231,10 @@ fn make_shape_wrong(random: &mut Random, state: &mut Lent) {
 /// Asks for a record, about those that the board has, and puts the arrays for it away.
 fn export(player: &mut Player) -> Outcome {
     let random = &mut player.random;
-    let lines = match player.state.has_head() {
-        true => player.state.shape().lines.clamp(1, MOST_LINES),
-        false => 1,
+    let lines = if player.state.has_head() {
+        player.state.shape().lines.clamp(1, MOST_LINES)
+    } else {
+        1
     };
     let record = draw_record(random, lines);
     lend_arrays(random, &mut player.state);

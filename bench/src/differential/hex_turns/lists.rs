@@ -1,7 +1,7 @@
 //! The lists of turns.
 
 use super::{Seen, What};
-use crate::handwritten::hex::{BANK_LINES, TEXT_BYTES};
+use crate::handwritten::hex::{BANK_LINES, RECORD_LINES, TEXT_BYTES};
 use crate::handwritten::layout::{LAST_EPOCH, MOST_ENTRIES, MOST_LINES};
 use crate::interface::{ANSWER_WORDS, LOG_HELD, OK, PAST, SHAPE, SHORT};
 
@@ -53,13 +53,17 @@ pub const PUT: [(&str, Turn); 24] = [
         seen.puts_lines(false, |first, _| first > 0 && first % BANK_LINES == 0)
     }),
     ("a pair of lines ends a bank before another", |seen| {
-        seen.puts_lines(false, |first, lines| first + 2 < lines && (first + 2) % BANK_LINES == 0)
+        seen.puts_lines(false, |first, lines| {
+            first + RECORD_LINES < lines && (first + RECORD_LINES).is_multiple_of(BANK_LINES)
+        })
     }),
     ("a pair of lines ends a bank and the board", |seen| {
-        seen.puts_lines(false, |first, lines| first + 2 == lines && lines % BANK_LINES == 0)
+        seen.puts_lines(false, |first, lines| {
+            first + RECORD_LINES == lines && lines % BANK_LINES == 0
+        })
     }),
     ("a pair of lines ends the largest board", |seen| {
-        seen.puts_lines(false, |first, _| first + 2 == MOST_LINES)
+        seen.puts_lines(false, |first, _| first + RECORD_LINES == MOST_LINES)
     }),
     ("an odd line is all of a board", |seen| {
         seen.puts_lines(true, |first, _| first == 0)
@@ -68,13 +72,13 @@ pub const PUT: [(&str, Turn); 24] = [
         seen.puts_lines(true, |first, _| first > 0 && first % BANK_LINES == 0)
     }),
     ("an odd line is just before a bank's end", |seen| {
-        seen.puts_lines(true, |first, _| (first + 2) % BANK_LINES == 0)
+        seen.puts_lines(true, |first, _| (first + RECORD_LINES).is_multiple_of(BANK_LINES))
     }),
     ("the end behind an odd line", |seen| {
-        seen.puts_end(|lines| !lines.is_multiple_of(2))
+        seen.puts_end(|lines| !lines.is_multiple_of(RECORD_LINES))
     }),
     ("the end behind a pair", |seen| {
-        seen.puts_end(|lines| lines.is_multiple_of(2) && lines % BANK_LINES != 0)
+        seen.puts_end(|lines| lines.is_multiple_of(RECORD_LINES) && lines % BANK_LINES != 0)
     }),
     ("the end behind a whole bank", |seen| {
         seen.puts_end(|lines| lines == BANK_LINES)
