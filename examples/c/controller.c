@@ -287,7 +287,6 @@ static uint64_t end_epoch(uint64_t picks, uint64_t halvings)
     uint64_t number = commit();
     if (number == PICL_OK) {
         check_filter();
-    check_panel();
         check_panel();
         uint64_t committed = registers[PICL_EPOCH] - 1;
         noted[committed].picks = noted[committed - 1].picks + picks;
