@@ -8,11 +8,11 @@
  * It has no state of its own and allocates nothing: the caller lends it all memory, for the time of a call. Every
  * function answers every input: whatever words the memories hold, whatever the registers and arguments are, the answer
  * and all lent memory afterwards are fixed by what went in, and proved to be what the definitions in
- * crates/picl/specs/Calls.antt and crates/capi/specs/Crossing.antt give.
+ * crates/picl/specs/Calls.antt, crates/hex/specs/Export.antt and crates/capi/specs/Crossing.antt give.
  *
- * A refusal (1 to 11, 13 and 14) leaves board and work memory, or the record's bytes, as they were. The registers too stay
- * as they were, but a refused power-up leaves them zero. The answer is filled, refused or not. Only PICL_TOO_SHORT (255)
- * touches nothing at all.
+ * A refusal (1 to 11, 13, 14 and 16 to 18) leaves board and work memory, or the bytes of the record or the text, as they were.
+ * The registers too stay as they were, but a refused power-up leaves them zero. The answer is filled, refused or not. Only
+ * PICL_TOO_SHORT (255) touches nothing at all.
  *
  *
  * THE BOARD MEMORY outlives the current. PICL_BOARD_WORDS(N, L) words of 64 bits, fields most significant bit first:
@@ -78,15 +78,32 @@
  * board's first power-up until the current went.
  *
  *
+ * A HEX RECORD is another thing: a line of text in an Intel HEX file. As such a file a service laptop gets the lines of a board,
+ * line i at byte address 8 * i, its most significant byte first. Digits are upper case, and one line feed ends each record:
+ *
+ *     :02000004bbbbcc       16 bytes  opens bank b, which is 65,536 byte addresses or 8,192 lines
+ *     :10aaaa00d..dcc       44 bytes  two lines; aaaa is where in its bank the first of them stands
+ *     :08aaaa00d..dcc       28 bytes  one line, the last of a board with odd N
+ *     :00000001FF           12 bytes  closes the file
+ *
+ * The bytes of text are counted with the line feed. The last byte of a record, cc, makes the sum of all its bytes 0 modulo 256.
+ * Every bank has its opener, the first too, and then its lines. A file has PICL_HEX_RECORDS(N) records, numbered from 0 on: for
+ * 65,536 lines these are 32,777 records of 1,441,932 bytes.
+ *
+ *
  * THE CALLER'S DUTIES. The library cannot test these:
  *
  *  - No pointer is null, each to words is aligned for 64 bits, and each has as many words, or bytes, behind it as the length
- *    that follows it says. The arrays of one call do not overlap.
+ *    that follows it says. One to bytes, those of a record or of a text, needs no alignment. The arrays of one call do not
+ *    overlap.
  *  - One task makes all calls, one after the other; nothing else writes the board memory, the work memory or the registers.
  *  - Each call gets board, work memory and registers as the call before returned and left them. Only power-up may be
  *    given any work memory and any registers.
  *  - A commit is made only at a moment when the lines agree with each other (pattern card, pick count, beam tension). It
  *    makes the lines, as they stand, a state in which the loom may wake.
+ *  - From the first HEX record of a file to its last neither format nor a call that takes an allowance is made. Otherwise a
+ *    later epoch may be persisted in between, and the file has lines of both, which no answer tells. After a cut, too, the file
+ *    begins again with record 0.
  *  - The hardware makes 64-bit stores to the board in the order in which the program makes them, each wholly or not at
  *    all. Where a cache or a write buffer of the processor stands before the board's memory, map it write-through and in
  *    order (uncached, or as device memory).
@@ -113,6 +130,10 @@
  *    0. When its value is not 0, commit again.
  *  - After PICL_LAST (10): nothing was committed, and the running epoch never can be. The lines have to go to another board:
  *    docs/INTEGRATION.md says how.
+ *  - After PICL_LOGHELD (18): no byte was written. The log has entries, since the board was not powered up after a cut or has
+ *    worked since, and the lines on it may be of several epochs. A power-up empties the log: export right after it, before
+ *    anything is stored. It gives up the running epoch and those that wait. To have them in the file, first commit, at a moment
+ *    when the lines agree, and call picl_scan until it answers PICL_NONE (11).
  */
 #ifndef PICL_H
 #define PICL_H
@@ -140,9 +161,15 @@ extern "C" {
 #define PICL_REGISTER_WORDS 4
 #define PICL_ANSWER_WORDS 2
 
-/* The bytes of a record, and of a text that has room for every name. */
+/* The bytes of a record, of a text that has room for every name, and of one that has room for every HEX record. */
 #define PICL_RECORD_BYTES 16
 #define PICL_NAME_BYTES 8
+#define PICL_HEX_BYTES 44
+
+/* The lines of a bank, and the HEX records of a board: one for each bank, one for each two lines, and the last. */
+#define PICL_HEX_BANK_LINES 8192
+#define PICL_HEX_RECORDS(lines) \
+    (((uint64_t)(lines) + PICL_HEX_BANK_LINES - 1) / PICL_HEX_BANK_LINES + ((uint64_t)(lines) + 1) / 2 + 1)
 
 /* Places in the registers and in the answer. */
 #define PICL_EPOCH 0
@@ -156,8 +183,8 @@ extern "C" {
 #define PICL_NO_CUT UINT32_MAX
 
 /*
- * The numbers that a call returns. PICL_TOO_SHORT comes before all others. Of those, the first that applies is returned, in
- * this order of tests, which is not everywhere that of the numbers:
+ * The numbers that a call returns; no call returns 15. PICL_TOO_SHORT comes before all others. Of those, the first that applies
+ * is returned, in this order of tests, which is not everywhere that of the numbers:
  *
  *     format                1
  *     power-up              1 2 3 12
@@ -167,6 +194,7 @@ extern "C" {
  *     scan                  1 2 4 6 4 7 14 11 12
  *     tally                 1 2 4
  *     filter_bits           2
+ *     hex_out               1 16 17 18
  *     trace_write           13
  *     name                  none: it refuses no number
  *
@@ -189,7 +217,10 @@ enum {
     PICL_CUT = 12,       /* more stores were due than the allowance: the first of them are on the board */
     PICL_TRACE = 13,     /* trace_write: a kind, an address or a value that has no place in a record */
     PICL_FILTER = 14,    /* a buffered undo entry lacks a bit in the filter */
-    PICL_TOO_SHORT = 255 /* registers or answer have too few words, a record or a text too few bytes; nothing was touched */
+    PICL_SHORT = 16,     /* hex_out: the text has fewer than PICL_HEX_BYTES bytes, whatever this record needs */
+    PICL_PAST = 17,      /* hex_out: there is no record of that number; after the last one this is the file's end */
+    PICL_LOGHELD = 18,   /* hex_out: the log's length is not 0 */
+    PICL_TOO_SHORT = 255 /* too few words for registers or answer, too few bytes for a record or a name; nothing was touched */
 };
 
 /* The kinds of recorded calls. Load, store and evict take an address, and store alone a value. */
@@ -202,9 +233,9 @@ enum {
 };
 
 /*
- * All but format, tally, filter_bits, trace_write and name take an allowance: the number of board stores that the call may
- * make. It stands in for the mains switch on a test bench; a controller passes PICL_NO_CUT. At a cut the first stores, as many
- * as allowed, are on the board, and the work memory and the registers are zero.
+ * All but format, tally, filter_bits, hex_out, trace_write and name take an allowance: the number of board stores that the call
+ * may make. It stands in for the mains switch on a test bench; a controller passes PICL_NO_CUT. At a cut the first stores, as
+ * many as allowed, are on the board, and the work memory and the registers are zero.
  *
  * No call but format and power-up makes more than 66 board stores; power-up makes at most one more than the log's length.
  */
@@ -250,6 +281,17 @@ uint64_t picl_tally(const uint64_t *board, size_t board_words, const uint64_t *w
 /* How many bits of the filter are set, 0 to 4,096, as value. Many set bits mean many false hits: with b entries there are at
  * most 2b of a controller's own. */
 uint64_t picl_filter_bits(const uint64_t *work, size_t work_words, uint64_t *answer, size_t answer_words);
+
+/* The HEX record of a number, in the first bytes of the text, and how many they are as value; those behind are not touched, and
+ * a refusal touches none. It is no string: no zero byte is put behind it. The text has PICL_HEX_BYTES bytes at least, for
+ * every record. Ask for record 0, 1, 2 and so on until the answer is PICL_PAST: one behind the other they are the file. It reads
+ * the board alone, and leaves it as it is. Stores are 0.
+ *
+ * Ask right after a power-up that has answered PICL_OK, before anything is stored: the log is then empty, and the file has the
+ * lines of the persisted epoch P, which are those that picl_load gives. At work it does not look at the cache. The answer is
+ * then PICL_LOGHELD, or, where the log happens to be empty, still the lines of epoch P, without what was stored since. */
+uint64_t picl_hex_out(const uint64_t *board, size_t board_words, uint8_t *text, size_t text_bytes, uint64_t record,
+                      uint64_t *answer, size_t answer_words);
 
 /* A call as a record, in the first PICL_RECORD_BYTES bytes; those behind are not touched, and a refusal (PICL_TRACE) touches
  * none. Value and stores are 0. It makes no call and needs no board: a controller that records itself writes the record of each
