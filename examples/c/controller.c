@@ -9,12 +9,12 @@
  * At first an epoch has PICKS_AN_EPOCH picks. If one needs more undo entries than the log has, the controller gives it up and
  * from then on weaves epochs of half as many picks. How often it has halved them is a line too.
  *
- *     controller SCRIPT TRANSCRIPT
+ *     controller SCRIPT TRANSCRIPT HEX
  *
  * also writes the calls that it made, in the language of the bench program `loomreplay`, and what they answered, as that
- * prints it.
+ * prints it. HEX is for the service laptop: whenever the controller wakes it writes all lines into that file anew, as Intel HEX.
  *
- *     controller SCRIPT TRANSCRIPT TRACE TOTALS
+ *     controller SCRIPT TRANSCRIPT HEX TRACE TOTALS
  *
  * weaves without a cut. It also records itself: it writes its calls as a trace, and the board stores that each kind of call has
  * made, as the bench program `loomtrace` prints them for that trace.
@@ -23,12 +23,16 @@
 #include <stdio.h>
 #include <stdlib.h>
 
+#include "exporter.h"
 #include "picl.h"
 #include "recorder.h"
 #include "trace.h"
 
-/* The figures that decide whether the log fills up, whether epochs have to wait, how often the mains goes, and whether cards
- * are evicted. */
+/* The figures that decide how large an export is, whether the log fills up, whether epochs have to wait, how often the mains
+ * goes, and whether cards are evicted. */
+#ifndef LINES
+#define LINES 64
+#endif
 #ifndef LOG_ENTRIES
 #define LOG_ENTRIES 96
 #endif
@@ -43,7 +47,6 @@
 #endif
 
 enum {
-    LINES = 64,
     SLOTS = 16,
     SHAPE_WORD = 1, /* of the board; zero until format */
 
@@ -90,6 +93,9 @@ static unsigned cuts;
 
 /* Epochs that needed more entries than the log has. */
 static unsigned given_up;
+
+/* The file that the service laptop reads, or NULL where there is no laptop. */
+static const char *hex_file;
 
 /* The weaver's notebook, which no cut reaches: how far the loom was when an epoch was committed. It judges what the controller
  * finds when it wakes; nothing that the controller stores depends on it. */
@@ -325,7 +331,7 @@ static uint64_t line_of(uint64_t epoch, uint64_t address)
     return address == HALVINGS ? noted[epoch].halvings : line_after(noted[epoch].picks, address);
 }
 
-/* After every accepted power-up: each line against what it held when the persisted epoch was committed. */
+/* Each line against what it held when the persisted epoch was committed. */
 static uint64_t check_lines(void)
 {
     uint64_t number = PICL_OK, persisted = registers[PICL_EPOCH] - 1;
@@ -341,6 +347,24 @@ static uint64_t check_lines(void)
         printf("awake: every line is of epoch %llu, pick %llu\n", (unsigned long long)persisted,
                (unsigned long long)noted[persisted].picks);
     return number;
+}
+
+/* All lines to the service laptop. The log is empty and nothing is stored yet, so that only the end of the file ends it. */
+static void serve_laptop(void)
+{
+    uint64_t records, number = export_lines(hex_file, LENT_BOARD, &records);
+    if (number != PICL_PAST)
+        fail("an export ended with", number);
+    if (records != PICL_HEX_RECORDS(LINES))
+        fail("an export has too many records, or too few", records);
+}
+
+/* After every accepted power-up, before anything else. */
+static uint64_t woken(void)
+{
+    if (hex_file != NULL)
+        serve_laptop();
+    return check_lines();
 }
 
 /* Half as many picks an epoch, from now on. The line that says so is an epoch of its own, and persisted at once: otherwise the
@@ -369,7 +393,7 @@ static uint64_t give_up_epoch(void)
     printf("epoch %llu needs more entries than the log has: given up\n", (unsigned long long)registers[PICL_EPOCH]);
     uint64_t number = power_up();
     if (number == PICL_OK)
-        number = check_lines();
+        number = woken();
     return number == PICL_OK ? halve_epochs() : number;
 }
 
@@ -395,7 +419,7 @@ static uint64_t start(void)
         turn_on();
         number = power_up();
     }
-    return number == PICL_OK ? check_lines() : number;
+    return number == PICL_OK ? woken() : number;
 }
 
 /* From mains on to mains off, or to the last epoch. */
@@ -411,12 +435,14 @@ static uint64_t run(void)
 }
 
 /* The program's words, behind its name. */
-enum { SCRIPT = 1, TRANSCRIPT, TRACE, TOTALS };
+enum { SCRIPT = 1, TRANSCRIPT, HEX, TRACE, TOTALS };
 
 int main(int count, char **words)
 {
-    if (count > TRANSCRIPT)
+    if (count > HEX) {
         open_records(words[SCRIPT], words[TRANSCRIPT]);
+        hex_file = words[HEX];
+    }
     if (count > TOTALS) {
         is_uncut = true;
         open_trace(words[TRACE], words[TOTALS]);
