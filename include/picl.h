@@ -285,7 +285,7 @@ uint64_t picl_filter_bits(const uint64_t *work, size_t work_words, uint64_t *ans
 /* The HEX record of a number, in the first bytes of the text, and how many they are as value; those behind are not touched, and
  * a refusal touches none. It is no string: no zero byte is put behind it. The text has PICL_HEX_BYTES bytes at least, for
  * every record. Ask for record 0, 1, 2 and so on until the answer is PICL_PAST: one behind the other they are the file. It reads
- * the board alone, and leaves it as it is. Stores are 0.
+ * the board alone, no work memory and no registers, and leaves it as it is. Stores are 0.
  *
  * Ask right after a power-up that has answered PICL_OK, before anything is stored: the log is then empty, and the file has the
  * lines of the persisted epoch P, which are those that picl_load gives. At work it does not look at the cache. The answer is
