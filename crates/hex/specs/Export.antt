@@ -16,9 +16,11 @@ use Rattle.picl.specs.declared.Report.{Report}
 use Rattle.picl.specs.Calls.{report}
 use Rattle.hex.specs.Records.{recordsOf}
 
+-- "the lines of a .. board": the last of its words
 abbrev pub linesOn : (board : List ℕ) → List ℕ
 linesOn board = drop (linesAt (shapeIn board .entries)) board
 
+-- "one record a call, by record number from 0"
 unfoldable pub recordAt : (board : List ℕ) (number : ℕ) → List ℕ
 recordAt board number = getD (recordsOf (linesOn board)) number []
 
