@@ -1,5 +1,6 @@
 //! How a history chooses its calls.
 
+use super::difference::Difference;
 use super::player::{Outcome, Player};
 use crate::call::{Call, NO_CUT};
 use crate::handwritten::layout::{FilterBit, ENTRY_WORDS, FILTER_BITS, MOST_LINES, WAYS};
@@ -179,6 +180,17 @@ pub fn begin(player: &mut Player, sizes: Sizes) -> Outcome {
     player.make(sizes.format())?;
     player.is_undamaged = true;
     player.make(Call::PowerUp { allowance: NO_CUT })
+}
+
+/// The same with sizes that are small mostly, and the habit of what follows.
+pub fn begin_mostly_small(player: &mut Player) -> Result<Habit, Box<Difference>> {
+    let sizes = if player.random.one_in(4) {
+        Sizes::draw(&mut player.random)
+    } else {
+        Sizes::draw_small(&mut player.random)
+    };
+    begin(player, sizes)?;
+    Ok(Habit::draw(&mut player.random, sizes))
 }
 
 /// Makes `calls` calls.

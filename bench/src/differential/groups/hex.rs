@@ -3,14 +3,13 @@
 
 use crate::differential::asked::Asked;
 use crate::differential::damage::damage;
-use crate::differential::habit::{begin, go_on, Habit};
+use crate::differential::habit::{begin_mostly_small, go_on};
 use crate::differential::player::{Outcome, Player};
 use crate::differential::sides::Lent;
 use crate::handwritten::hex::{end_record, BANK_LINES, BANK_RECORDS, TEXT_BYTES};
 use crate::handwritten::layout::{Control, Shape, COUNT_BITS, LAST_EPOCH, MOST_ENTRIES, MOST_LINES};
 use crate::interface::ANSWER_WORDS;
 use crate::random::Random;
-use crate::sizes::Sizes;
 
 /// Exports of one board: the more words it has, the fewer.
 const EXPORTS_OF_SMALL: u64 = 200;
@@ -41,13 +40,7 @@ pub fn history(player: &mut Player) -> Outcome {
 
 /// A board that is woken and worked on; now and then it is damaged for some exports.
 fn running(player: &mut Player) -> Outcome {
-    let sizes = if player.random.one_in(4) {
-        Sizes::draw(&mut player.random)
-    } else {
-        Sizes::draw_small(&mut player.random)
-    };
-    begin(player, sizes)?;
-    let habit = Habit::draw(&mut player.random, sizes);
+    let habit = begin_mostly_small(player)?;
     for _ in 0..player.random.between(5, 40) {
         let calls = player.random.below(12);
         go_on(player, &habit, calls)?;
