@@ -27,7 +27,7 @@ names =
     ∷ "cut"
     ∷ "trace"
     ∷ "filter"
-    ∷ ""
+    ∷ "target"
     ∷ "short"
     ∷ "past"
     ∷ "logheld"

@@ -22,6 +22,7 @@ use Rattle.status.specs.declared.Status.the-variants.{
   Short,
   Past,
   LogHeld,
+  Target,
 }
 
 abbrev pub numberOf : Status → ℕ
@@ -40,6 +41,7 @@ numberOf None = 11
 numberOf Cut = 12
 numberOf Trace = 13
 numberOf Filter = 14
+numberOf Target = 15
 numberOf Short = 16
 numberOf Past = 17
 numberOf LogHeld = 18
@@ -47,3 +49,7 @@ numberOf LogHeld = 18
 -- "0 ok"
 abbrev pub isOk : Status → Bool
 isOk s = eqb (numberOf s) 0
+
+-- "12 cut"
+abbrev pub isCut : Status → Bool
+isCut s = eqb (numberOf s) 12

@@ -3,8 +3,9 @@ mod names;
 
 pub use names::put_name;
 ghost use mathlib.Core.Path.{_≡_};
-ghost use Rattle.status.specs.Numbers.{numberOf, isOk};
+ghost use Rattle.status.specs.Numbers.{numberOf, isOk, isCut};
 
+// In the order in which their numbers were given out.
 pub enum Status {
     Ok,
     Shape,
@@ -24,9 +25,12 @@ pub enum Status {
     Short,
     Past,
     LogHeld,
+    Target,
 }
 
 const OK: u64 = 0;
+
+const CUT: u64 = 12;
 
 impl Status {
     pub fn number(self) -> u64
@@ -51,6 +55,7 @@ impl Status {
             Status::Short => 16,
             Status::Past => 17,
             Status::LogHeld => 18,
+            Status::Target => 15,
         }
     }
 
@@ -58,5 +63,11 @@ impl Status {
         ensures { λ r. ⌜ r ≡ isOk self ⌝ }
     {
         self.number() == OK
+    }
+
+    pub fn is_cut(self) -> bool
+        ensures { λ r. ⌜ r ≡ isCut self ⌝ }
+    {
+        self.number() == CUT
     }
 }

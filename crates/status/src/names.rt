@@ -5,16 +5,16 @@ ghost use lib.ListN.{length};
 ghost use Rattle.status.specs.Names.{names, PutsName};
 ghost use Rattle.status.specs.Letters.{letters, starts, Spans};
 
-// The numbers below have an entry each. Where one of them has no name its entry is empty.
+// The numbers below have a name each.
 const NAMES: usize = 19;
 
-const LETTERS: usize = 86;
+const LETTERS: usize = 92;
 
 // The names in the order of their numbers, as many bytes as they have letters.
 fn letters() -> [u8; LETTERS]
     ensures { λ r. ⌜ r ≡ letters ⌝ }
 {
-    *b"okshapeworkentryregsaddressslotbufferroomwaitinglastnonecuttracefiltershortpastlogheld"
+    *b"okshapeworkentryregsaddressslotbufferroomwaitinglastnonecuttracefiltertargetshortpastlogheld"
 }
 
 // Where each name starts among the letters, and where the last one ends.
@@ -38,10 +38,10 @@ fn starts() -> [u8; NAMES + 1]
         59,
         64,
         70,
-        70,
-        75,
-        79,
-        86,
+        76,
+        81,
+        85,
+        92,
     ]
 }
 

@@ -57,6 +57,9 @@ enum-told-17 c = search needs
 enum-told-18 : tie.Need-enum-told-18
 enum-told-18 c = search needs
 
+enum-told-19 : tie.Need-enum-told-19
+enum-told-19 c = search needs
+
 returns : tie.Need-returns
 returns c = number-at (c .before .before .args .self) 0 (c .before .match .keys1)
 
@@ -111,6 +114,9 @@ returns-17 c = number-at (c .before .before .args .self) 16 (c .before .match .k
 returns-18 : tie.Need-returns-18
 returns-18 c = number-at (c .before .before .args .self) 17 (c .before .match .keys18)
 
+returns-19 : tie.Need-returns-19
+returns-19 c = number-at (c .before .before .args .self) 18 (c .before .match .keys19)
+
 pub number-spec : {M : Type 1} → statement M
 number-spec =
     tie.close
@@ -133,6 +139,7 @@ number-spec =
     enum-told-16
     enum-told-17
     enum-told-18
+    enum-told-19
     returns
     returns-2
     returns-3
@@ -150,4 +157,5 @@ number-spec =
     returns-15
     returns-16
     returns-17
-    returns-18)
+    returns-18
+    returns-19)
