@@ -68,5 +68,5 @@ module _ (r : Registers) (was is : Bool) (n m : ℕ) (less : IsBit was n) (more 
       go false e = omega arith
 
   pub count-changed : (u : LogState)
-      → record { epoch = r .epoch; buffered = u .buffered; cursor = r .cursor; dirty = r .dirty - n + m } ≡ leaving (recounted r was is) u
+      → record { epoch = r .epoch; buffered = u .buffered; cursor = r .cursor; dirty = r .dirty - n + m; target = r .target } ≡ leaving (recounted r was is) u
   count-changed u = rw (less .is, more .is)

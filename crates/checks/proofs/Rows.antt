@@ -4,7 +4,7 @@ use mathlib.Core.Path.{_≡_, refl, sym, _∙_}
 use mathlib.Core.Bool.{Bool, true, false, not, cond, _&&_, _||_}
 use mathlib.Core.List.{List, [], _∷_, _++_}
 use native.Mathlib.Omega.{arith}
-use borrow.Author.Tests.{lt-ltb, le-ltb, le-leb, lt-leb, eqb-false, not-true, not-false}
+use borrow.Author.Tests.{lt-ltb, le-ltb, le-leb, lt-leb, eq-eqb, ne-eqb, eqb-false, not-true, not-false}
 use lib.Dec.{eqb}
 use lib.ListN.{length, take, drop}
 use Rattle.base.specs.Parts.{rest-lent}
@@ -24,8 +24,8 @@ use Rattle.checks.specs.declared.Checked.{Checked}
 use Rattle.checks.specs.declared.Checked.the-variants.{Refused, Passed}
 use Rattle.checks.specs.declared.Registers.{Registers}
 use Rattle.checks.specs.declared.View.{View}
-use Rattle.checks.specs.View.{boundsOf, miscounted, goodBuffer, goodFilter}
-use Rattle.checks.specs.Refusals.{tested, bufferRows, addressRows, roomRows, epochRows, cursorRows, waitingRows}
+use Rattle.checks.specs.View.{boundsOf, waits, miscounted, goodBuffer, goodFilter}
+use Rattle.checks.specs.Refusals.{Row, tested, bufferRows, addressRows, roomRows, targetRows, cursorRows, waitingRows}
 use Rattle.checks.specs.Contracts.{RowsReady, SiteReady, siteRows}
 use Rattle.checks.specs.Laws.{refused-first, passed-first}
 
@@ -104,21 +104,14 @@ module _ (v : View) (work : List ℕ) (r : Registers) (spot : Spot) where
     pub room-found : not t ≡ false → v .control .length + r .buffered + 1 ≤ v .shape .entries → Passed v ≡ tested (roomRows v work r spot) v
     room-found h g = rw (← due, not-false t h, le-ltb (v .shape .entries) (v .control .length + r .buffered + 1) g)
 
--- commit's rows, and scan's
+-- the rows of commit, begin and scan: 7 and 14, and those behind
 module _ (v : View) (work : List ℕ) (r : Registers) (k : Checked) where
-  module _ (is : k ≡ tested (bufferRows v work r) v) where
-    pub commit-buffer : (s : Status) → k ≡ Refused s → Refused s ≡ tested (bufferRows v work r ++ epochRows v r) v
-    commit-buffer s e = refused-first (bufferRows v work r) (epochRows v r) v s (sym e ∙ is)
+  module _ (rows : List Row) (is : k ≡ tested (bufferRows v work r) v) where
+    pub first-buffer : (s : Status) → k ≡ Refused s → Refused s ≡ tested (bufferRows v work r ++ rows) v
+    first-buffer s e = refused-first (bufferRows v work r) rows v s (sym e ∙ is)
 
-    pub commit-epoch : (w : View) (k′ : Checked) → k ≡ Passed w → k′ ≡ tested (epochRows v r) v → k′ ≡ tested (bufferRows v work r ++ epochRows v r) v
-    commit-epoch w k′ e x = x ∙ sym (passed-first (bufferRows v work r) (epochRows v r) v w (sym e ∙ is))
-
-    pub scan-buffer : (s : Status) → k ≡ Refused s → Refused s ≡ tested (bufferRows v work r ++ waitingRows v r) v
-    scan-buffer s e = refused-first (bufferRows v work r) (waitingRows v r) v s (sym e ∙ is)
-
-    pub scan-waiting : (w : View) (k′ : Checked) → k ≡ Passed w → k′ ≡ tested (waitingRows v r) v
-        → k′ ≡ tested (bufferRows v work r ++ waitingRows v r) v
-    scan-waiting w k′ e x = x ∙ sym (passed-first (bufferRows v work r) (waitingRows v r) v w (sym e ∙ is))
+    pub behind-buffer : (w : View) (k′ : Checked) → k ≡ Passed w → k′ ≡ tested rows v → k′ ≡ tested (bufferRows v work r ++ rows) v
+    behind-buffer w k′ e x = x ∙ sym (passed-first (bufferRows v work r) rows v w (sym e ∙ is))
 
   module _ (is : k ≡ tested (cursorRows v work r) v) where
     pub scan-cursor : (s : Status) → k ≡ Refused s → Refused s ≡ tested (cursorRows v work r ++ bufferRows v work r ++ waitingRows v r) v
@@ -166,6 +159,18 @@ module _ (v : View) (work : List ℕ) (r : Registers) where
 
         pub cursor-passed : m ≡ false → Passed v ≡ tested (cursorRows v work r) v
         cursor-passed h = rw (lt-ltb (r .cursor) (v .slots) within, proper-alone proper, ← count, h)
+
+-- 15
+module _ (v : View) (r : Registers) (target : ℕ) where
+  pub target-inside : (r .target ≡ 0 → ⊥) → Refused status.Target ≡ tested (targetRows v r target) v
+  target-inside n = rw (ne-eqb (r .target) 0 n)
+
+  module _ (outside : r .target ≡ 0) (t : Bool) (test : t ≡ waits v r target) where
+    pub target-refused : not t ≡ true → Refused status.Target ≡ tested (targetRows v r target) v
+    target-refused h = rw (eq-eqb (r .target) 0 outside, ← test, not-true t h)
+
+    pub target-passed : not t ≡ false → Passed v ≡ tested (targetRows v r target) v
+    target-passed h = rw (eq-eqb (r .target) 0 outside, ← test, not-false t h)
 
 -- behind 1, 2 and 4
 module _ (v : View) (r : Registers) (b : Bounds) (work : List ℕ) (e : b ≡ boundsOf v r) (h : RowsReady work r v) where

@@ -1,14 +1,14 @@
 -- The tests of the first stages: one law for each way out.
 use Prim.Native.Nat.{ℕ, _+_, _-_, _*_, _/_, _%_, _^_, _<_, _≤_}
 use mathlib.Core.Path.{_≡_, refl, sym, ap, _∙_}
-use mathlib.Core.Bool.{Bool, true, false, not, _&&_, and-true, and-false}
+use mathlib.Core.Bool.{Bool, true, false, not, _&&_, _||_, and-true, and-false}
 use mathlib.Core.List.{List}
 use mir.Syntax.{w64}
 use mir.Val.{Fits}
 use native.Mathlib.Omega.{arith}
-use borrow.Author.Tests.{lt-ltb, le-ltb, le-leb, lt-leb, eq-eqb, ltb-true, eqb-true, eqb-false, not-true, not-false}
+use borrow.Author.Tests.{lt-ltb, le-ltb, le-leb, lt-leb, eq-eqb, ne-eqb, ltb-true, eqb-true, eqb-false, not-true, not-false}
 use lib.Bits.{bitAnd, bitOr, or-lt}
-use lib.Dec.{ltb, eqb}
+use lib.Dec.{ltb, leb, eqb}
 use lib.ListN.{getD}
 use Rattle.base.specs.Bits.{left-or, right-or, and-high-last}
 use Rattle.base.specs.Tests.{held, hold-together}
@@ -19,7 +19,7 @@ use Rattle.layout.specs.Memory.{logAt, entryWords, linesAt, boardWords, control
 use Rattle.layout.specs.Words.{Decoded, ControlFits, ShapeFits, OwnLines, decodeControl, decodeShape}
 use Rattle.checks.specs.declared.Registers.{Registers}
 use Rattle.checks.specs.declared.View.{View}
-use Rattle.checks.specs.View.{viewOf, lent, goodSizes, goodControl, goodShape, goodSlots, goodWork, properEpoch, properCounts, properRegisters}
+use Rattle.checks.specs.View.{viewOf, lent, goodSizes, goodControl, goodShape, goodSlots, goodWork, properEpoch, properCounts, properPass, properRegisters, waits}
 use Rattle.checks.specs.Contracts.{Viewed}
 
 module _ (v : View) (r : Registers) (t : Bool) (epoch : t ≡ properEpoch v r) where
@@ -27,9 +27,50 @@ module _ (v : View) (r : Registers) (t : Bool) (epoch : t ≡ properEpoch v r) w
   unfolding properRegisters
   proper-not h = rw (← epoch, not-true t h)
 
-  pub proper-both : (u : Bool) → not t ≡ false → u ≡ properCounts v r → u ≡ properRegisters v r
-  unfolding properRegisters
-  proper-both u h a = a ∙ sym (rw (← epoch, not-false t h))
+  module _ (good : not t ≡ false) where
+    proper : properEpoch v r ≡ true
+    proper = sym epoch ∙ not-false t good
+
+    pub epoch-first : v .control .persisted < r .epoch
+    unfolding properEpoch
+    epoch-first = let h = proper in search held
+
+    pub epoch-last : r .epoch ≤ lastEpoch
+    unfolding properEpoch
+    epoch-last = let h = proper in search held
+
+    module _ (u : Bool) (pass : u ≡ properPass v r) where
+      pub proper-unpassed : not u ≡ true → false ≡ properRegisters v r
+      unfolding properRegisters
+      proper-unpassed h = rw (proper, ← pass, not-true u h)
+
+      pub proper-all : (w : Bool) → not u ≡ false → w ≡ properCounts v r → w ≡ properRegisters v r
+      unfolding properRegisters
+      proper-all w h a = a ∙ sym (rw (proper, ← pass, not-false u h))
+
+-- the target of a pass, and the cursor
+module _ (v : View) (r : Registers) (t : Bool) (target : t ≡ waits v r (r .target)) where
+  pub pass-inside : t ≡ true → leb (r .cursor) (v .slots) ≡ properPass v r
+  unfolding properPass
+  pass-inside h = rw (← target, h) (go (leb (r .cursor) (v .slots)) (eqb (r .target) 0 && eqb (r .cursor) 0))
+    where
+      go : (w x : Bool) → w ≡ w && (x || true)
+      go true true = refl
+      go true false = refl
+      go false x = refl
+
+  module _ (h : t ≡ false) where
+    pub pass-astray : (r .target ≡ 0 → ⊥) → false ≡ properPass v r
+    unfolding properPass
+    pass-astray n = rw (← target, h, ne-eqb (r .target) 0 n, and-false)
+
+    pub pass-outside : r .target ≡ 0 → eqb (r .cursor) 0 ≡ properPass v r
+    unfolding properPass
+    pass-outside z = rw (← target, h, eq-eqb (r .target) 0 z) (go (eqb (r .cursor) 0) refl)
+      where
+        go : (x : Bool) → eqb (r .cursor) 0 ≡ x → x ≡ leb (r .cursor) (v .slots) && (x || false)
+        go true e = rw (le-leb (r .cursor) (v .slots) (omega (arith, eqb-true (r .cursor) 0 e)))
+        go false e = rw and-false
 
 -- ---- one test for both ends of a range: what the code has of numbers modulo 2 ^ 64 is a difference, r of a less b
 
@@ -58,6 +99,21 @@ module _ (v : View) (r : Registers) where
       let some : v .control .persisted < r .epoch = search held depth 12 in
       let most : r .epoch - v .control .persisted ≤ mostAhead = search held depth 12 in
       lt-ltb waiting mostAhead (omega arith))
+
+-- and an epoch less P and 1 is below s − P − 1 exactly where it waits
+module _ (v : View) (r : Registers) (epoch above left : ℕ) (some : v .control .persisted < r .epoch) (early : r .epoch ≤ lastEpoch)
+    (x : Less epoch (v .control .persisted) above) (hx : above < 2 ^ wordBits) (y : Less above 1 left) (hy : left < 2 ^ wordBits) where
+  pub waits-between : ltb left (r .epoch - v .control .persisted - 1) ≡ waits v r epoch
+  unfolding waits
+  waits-between =
+      hold-together _ _
+      (λ t.
+      let few : left < r .epoch - v .control .persisted - 1 = ltb-true left _ t in
+      rw (lt-ltb (v .control .persisted) epoch (omega arith), lt-ltb epoch (r .epoch) (omega arith)))
+      (λ t.
+      let ahead : v .control .persisted < epoch = search held in
+      let ended : epoch < r .epoch = search held in
+      lt-ltb left _ (omega arith))
 
 -- 1
 module _ (v : View) where

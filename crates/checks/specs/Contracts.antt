@@ -14,7 +14,7 @@ use Rattle.status.specs.declared.Status.the-variants as status
 use Rattle.slots.specs.Passes.{nowhere, firstOf}
 use Rattle.slots.specs.Sets.{slotsFrom}
 use Rattle.checks.specs.Refusals.{Row, row}
-use Rattle.checks.specs.View.{viewOf, miscounted}
+use Rattle.checks.specs.View.{viewOf, properPass, miscounted}
 
 pub record Viewed (board : List ℕ) (v : View) : Type 0 where
   pub is : v ≡ viewOf board []
@@ -55,6 +55,12 @@ pub record Running (board work : List ℕ) (r : Registers) (v : View) : Type 0 w
   pub cursor : r .cursor ≤ v .slots
   pub dirty : r .dirty ≤ v .slots
   pub room : v .control .length + r .buffered ≤ v .shape .entries
+  pub pass : properPass v r ≡ true
+
+-- an epoch that waits: what the target of a pass is
+pub record Waits (v : View) (r : Registers) (epoch : ℕ) : Type 0 where
+  pub ahead : v .control .persisted < epoch
+  pub ended : epoch < r .epoch
 
 -- what the later rows ask of the earlier ones
 pub record RowsReady (work : List ℕ) (r : Registers) (v : View) : Type 0 where

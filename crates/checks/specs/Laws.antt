@@ -5,11 +5,11 @@ use mathlib.Core.Path.{_≡_, refl, sym, _∙_}
 use mathlib.Core.Bool.{Bool, true, false, not, cond, _&&_, _||_, false≢true}
 use mathlib.Core.List.{List, [], _∷_, _++_}
 use native.Mathlib.Omega.{arith}
-use borrow.Author.Tests.{eqb-false, leb-false, ltb-false, lt-ltb, not-true, not-false}
-use lib.Dec.{ltb, eqb}
+use borrow.Author.Tests.{eqb-true, eqb-false, leb-false, ltb-false, lt-ltb, not-true, not-false}
+use lib.Dec.{ltb, leb, eqb}
 use lib.ListN.{length, getD}
 use Rattle.base.specs.Several.{allOf, anyOf, none-all}
-use Rattle.base.specs.Tests.{held}
+use Rattle.base.specs.Tests.{held, and-right}
 use Rattle.layout.specs.Limits.{lastEpoch, mostAhead, mostSlots}
 use Rattle.layout.specs.Laws.{control-laws}
 use Rattle.layout.specs.Memory.{slotsOf, controlAt, bufferWords, workWords}
@@ -24,10 +24,11 @@ use Rattle.checks.specs.declared.Checked.{Checked}
 use Rattle.checks.specs.declared.Checked.the-variants.{Refused, Passed}
 use Rattle.checks.specs.declared.Registers.{Registers}
 use Rattle.checks.specs.declared.View.{View}
-use Rattle.checks.specs.View.{viewOf, boundsOf, goodSizes, goodControl, goodShape, goodSlots, goodWork, properEpoch, properCounts, properRegisters, miscounted}
-use Rattle.checks.specs.Refusals.{Row, tested, then, boardRows, workRows, registerRows, cursorRows, bufferRows, lineRows, roomRows, epochRows, waitingRows}
-use Rattle.checks.specs.Refusals.{boardChecked, memoriesChecked, runningChecked, lineChecked, storeChecked, commitChecked, scanChecked}
-use Rattle.checks.specs.Contracts.{Opened, Shaped, Running, Countable}
+use Rattle.checks.specs.View.{viewOf, boundsOf, goodSizes, goodControl, goodShape, goodSlots, goodWork, properEpoch, properCounts, properPass, properRegisters, waits, miscounted}
+use Rattle.checks.specs.Refusals.{Row, tested, then, boardRows, workRows, registerRows, cursorRows, bufferRows, lineRows, roomRows, epochRows, waitingRows, targetRows}
+use Rattle.checks.specs.Refusals.{boardChecked, memoriesChecked, runningChecked, lineChecked, storeChecked, commitChecked, beginChecked, scanChecked}
+use Rattle.checks.specs.Registers.{scanTarget}
+use Rattle.checks.specs.Contracts.{Opened, Shaped, Running, Waits, Countable}
 
 pub differ : _≡_ {A = ℕ} 0 1 → ⊥
 differ e = omega arith
@@ -162,7 +163,7 @@ work-buffer words t test good =
 -- ---- 4
 
 running-of : (board work : List ℕ) (r : Registers) (v : View) → Shaped board work v → properRegisters v r ≡ true → Running board work r v
-unfolding properRegisters properEpoch properCounts
+unfolding properRegisters properEpoch properPass properCounts
 running-of board work r v s h =
     record {
       shaped = s;
@@ -173,6 +174,7 @@ running-of board work r v s h =
       cursor = search held depth 12;
       dirty = search held depth 12;
       room = search held depth 12;
+      pass = search held depth 12;
     }
 
 pub running : (board work : List ℕ) (r : Registers) (v : View) → Passed v ≡ runningChecked board work r → Running board work r v
@@ -275,6 +277,32 @@ module _ (board work : List ℕ) (r : Registers) (v : View) (e : Passed v ≡ co
       let n : r .epoch ≡ lastEpoch → ⊥ = eqb-false _ _ (commit-row status.Last) in
       omega (arith, commit-running .epoch-most)
 
+-- ---- begin
+
+module _ (board work : List ℕ) (r : Registers) (target : ℕ) (v : View) (e : Passed v ≡ beginChecked board work r target) where
+  begin-both : Both (runningChecked board work r) (λ w. bufferRows w work r ++ targetRows w r target) v
+  unfolding beginChecked
+  begin-both = then-both (runningChecked board work r) (λ w. bufferRows w work r ++ targetRows w r target) v e
+
+  begin-row : (eqb (r .target) 0 ≡ true) × (waits v r target ≡ true)
+  begin-row =
+      go (eqb (r .target) 0) (waits v r target) (passed-row status.Target (bufferRows v work r ++ targetRows v r target) v v (begin-both .here))
+    where
+      go : (t u : Bool) → not t || not u ≡ false → (t ≡ true) × (u ≡ true)
+      go true u x = (refl, not-false u x)
+      go false u x = absurd (false≢true (sym x))
+
+  pub begin-running : Running board work r v
+  begin-running = running board work r v (begin-both .before)
+
+  -- outside a pass
+  pub begin-outside : r .target ≡ 0
+  begin-outside = eqb-true _ _ (begin-row .0)
+
+  pub begin-waits : Waits v r target
+  unfolding waits
+  begin-waits = let h : waits v r target ≡ true = begin-row .1 in record { ahead = search held; ended = search held }
+
 -- ---- scan
 
 module _ (board work : List ℕ) (r : Registers) (v : View) (e : Passed v ≡ scanChecked board work r) where
@@ -304,3 +332,14 @@ module _ (board work : List ℕ) (r : Registers) (v : View) (e : Passed v ≡ sc
   scan-waiting =
       let n : r .epoch ≡ v .control .persisted + 1 → ⊥ = eqb-false _ _ (scan-row status.None) in
       omega (arith, scan-running .ahead)
+
+  -- inside a pass its target waits, and outside one P + 1 does
+  pub scan-aims : Waits v r (scanTarget r (v .control .persisted))
+  unfolding properPass waits
+  scan-aims =
+      go (eqb (r .target) 0)
+      (and-right (leb (r .cursor) (v .slots)) (eqb (r .target) 0 && eqb (r .cursor) 0 || waits v r (r .target)) (scan-running .pass))
+    where
+      go : (t : Bool) → t && eqb (r .cursor) 0 || waits v r (r .target) ≡ true → Waits v r (cond t (v .control .persisted + 1) (r .target))
+      go true h = record { ahead = omega arith; ended = scan-waiting }
+      go false h = record { ahead = search held; ended = search held }

@@ -1,7 +1,7 @@
 -- "What an answer says": the rows of the paper's table, and the order in which each call tests them. The paper's "The lowest number wins" is
 -- true of the rows that it lists; a later request says behind which row its own is tested.
 use Prim.Native.Nat.{ℕ, _+_, _-_}
-use mathlib.Core.Bool.{Bool, not, cond, _&&_}
+use mathlib.Core.Bool.{Bool, not, cond, _&&_, _||_}
 use mathlib.Core.List.{List, [], _∷_, _++_}
 use lib.Dec.{ltb, leb, eqb}
 use lib.ListN.{length}
@@ -15,7 +15,7 @@ use Rattle.checks.specs.declared.Checked.{Checked}
 use Rattle.checks.specs.declared.Checked.the-variants.{Refused, Passed}
 use Rattle.checks.specs.declared.Registers.{Registers}
 use Rattle.checks.specs.declared.View.{View}
-use Rattle.checks.specs.View.{viewOf, goodShape, goodWork, properRegisters, miscounted, boundsOf, goodBuffer, goodFilter}
+use Rattle.checks.specs.View.{viewOf, goodShape, goodWork, properRegisters, waits, miscounted, boundsOf, goodBuffer, goodFilter}
 
 -- a row of the table: when it refuses, and as what
 pub record Row : Type 0 where
@@ -87,6 +87,10 @@ epochRows v r =
 abbrev pub waitingRows : View → Registers → List Row
 waitingRows v r = row (eqb (r .epoch) (v .control .persisted + 1)) status.None ∷ []
 
+-- request 8/13, "15 target, a begin call inside a pass or with a target out of range", which goes "from P + 1 to s − 1"
+abbrev pub targetRows : View → Registers → (target : ℕ) → List Row
+targetRows v r target = row (not (eqb (r .target) 0) || not (waits v r target)) status.Target ∷ []
+
 -- ---- the checks, each behind another
 
 -- the board alone: no slots are lent with it
@@ -113,3 +117,7 @@ commitChecked board work r = then (runningChecked board work r) (λ v. bufferRow
 
 unfoldable pub scanChecked : (board work : List ℕ) → Registers → Checked
 scanChecked board work r = then (runningChecked board work r) (λ v. cursorRows v work r ++ bufferRows v work r ++ waitingRows v r)
+
+-- "after commit's 1, 2, 4, 7 and 14"
+unfoldable pub beginChecked : (board work : List ℕ) → Registers → (target : ℕ) → Checked
+beginChecked board work r target = then (runningChecked board work r) (λ v. bufferRows v work r ++ targetRows v r target)

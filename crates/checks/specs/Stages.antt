@@ -23,8 +23,8 @@ use Rattle.checks.specs.declared.Checked.the-variants.{Refused, Passed}
 use Rattle.checks.specs.declared.Registers.{Registers}
 use Rattle.checks.specs.declared.View.{View}
 use Rattle.checks.specs.View.{viewOf, boundsOf}
-use Rattle.checks.specs.Refusals.{Row, tested, then, registerRows, addressRows, slotRows, lineRows, roomRows, cursorRows, bufferRows, epochRows, waitingRows}
-use Rattle.checks.specs.Refusals.{memoriesChecked, runningChecked, lineChecked, storeChecked, commitChecked, scanChecked}
+use Rattle.checks.specs.Refusals.{Row, tested, then, registerRows, addressRows, slotRows, lineRows, roomRows, cursorRows, bufferRows, epochRows, targetRows, waitingRows}
+use Rattle.checks.specs.Refusals.{memoriesChecked, runningChecked, lineChecked, storeChecked, commitChecked, beginChecked, scanChecked}
 use Rattle.checks.specs.Contracts.{Running, RowsReady, SiteReady, siteRows}
 use Rattle.checks.specs.Laws.{passed-view, passed-row, refused-first, passed-first, then-refused, then-passed, memories-shaped, running, line-running}
 
@@ -198,6 +198,15 @@ module _ (board work : List ℕ) (r : Registers) (v : View) (passed : Passed v �
       unfolding commitChecked
       commit-passed = stage-passed (runningChecked board work r) (λ w. bufferRows w work r ++ epochRows w r) v passed k commit
 
+    module _ (target : ℕ) (begin : k ≡ tested (bufferRows v work r ++ targetRows v r target) v) where
+      pub begin-refused : (s : Status) → k ≡ Refused s → Refused s ≡ beginChecked board work r target
+      unfolding beginChecked
+      begin-refused = stage-refused (runningChecked board work r) (λ w. bufferRows w work r ++ targetRows w r target) v passed k begin
+
+      pub begin-passed : (w : View) → k ≡ Passed w → Passed v ≡ beginChecked board work r target
+      unfolding beginChecked
+      begin-passed = stage-passed (runningChecked board work r) (λ w. bufferRows w work r ++ targetRows w r target) v passed k begin
+
     module _ (scan : k ≡ tested (cursorRows v work r ++ bufferRows v work r ++ waitingRows v r) v) where
       pub scan-refused : (s : Status) → k ≡ Refused s → Refused s ≡ scanChecked board work r
       unfolding scanChecked
@@ -218,6 +227,10 @@ module _ (board work : List ℕ) (r : Registers) (s : Status) (refused : Refused
   pub commit-first : Refused s ≡ commitChecked board work r
   unfolding commitChecked
   commit-first = then-refused (runningChecked board work r) (λ v. bufferRows v work r ++ epochRows v r) s refused
+
+  pub begin-first : (target : ℕ) → Refused s ≡ beginChecked board work r target
+  unfolding beginChecked
+  begin-first target = then-refused (runningChecked board work r) (λ v. bufferRows v work r ++ targetRows v r target) s refused
 
   pub scan-first : Refused s ≡ scanChecked board work r
   unfolding scanChecked

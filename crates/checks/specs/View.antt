@@ -45,8 +45,8 @@ goodSlots slots = eqb (slots % ways) 0 && leb ways slots && leb slots mostSlots
 unfoldable pub goodWork : (words : ℕ) → Bool
 goodWork words = goodSlots (slotsOf words) && eqb words (workWords (slotsOf words))
 
--- "Proper registers: P < s ≤ 2^24 − 1, s − P ≤ 16, b ≤ 31, c ≤ S, c = 0 where s = P + 1, length + b ≤ L." Request 5/13: "Registers are also
--- improper when the count exceeds S."
+-- "Proper registers: P < s ≤ 2^24 − 1, s − P ≤ 16, b ≤ 31, .., length + b ≤ L." Request 5/13: "Registers are also improper when the count
+-- exceeds S."
 unfoldable pub properEpoch : View → Registers → Bool
 properEpoch v r =
     ltb (v .control .persisted) (r .epoch)
@@ -56,13 +56,20 @@ properEpoch v r =
 unfoldable pub properCounts : View → Registers → Bool
 properCounts v r =
     ltb (r .buffered) bufferPlaces
-    && leb (r .cursor) (v .slots)
     && leb (r .dirty) (v .slots)
-    && (not (eqb (r .epoch) (v .control .persisted + 1)) || eqb (r .cursor) 0)
     && leb (v .control .length + r .buffered) (v .shape .entries)
 
+-- "Epochs between p and e wait"
+unfoldable pub waits : View → Registers → (epoch : ℕ) → Bool
+waits v r epoch = ltb (v .control .persisted) epoch && ltb epoch (r .epoch)
+
+-- "c ≤ S". Request 8/13: "Registers are proper with target 0 and c = 0, or with P < target < s." So "c = 0 where s = P + 1", where no epoch
+-- waits.
+unfoldable pub properPass : View → Registers → Bool
+properPass v r = leb (r .cursor) (v .slots) && (eqb (r .target) 0 && eqb (r .cursor) 0 || waits v r (r .target))
+
 unfoldable pub properRegisters : View → Registers → Bool
-properRegisters v r = properEpoch v r && properCounts v r
+properRegisters v r = properEpoch v r && properPass v r && properCounts v r
 
 -- "a count of 0 with the visited slot dirty, or of S with it not". Request 6/13: it "refuses 0 if any slot of it is dirty, S if any is not"
 unfoldable pub miscounted : View → Registers → (work visited : List ℕ) → Bool

@@ -1,5 +1,6 @@
 // The registers, what a call reads of the two memories, and the tests that it makes before it does anything.
 mod refusals;
+mod sizes;
 
 ghost use Prim.Native.Nat.{_+_, _-_, _≤_, _<_};
 ghost use lib.ListN.{length};
@@ -8,8 +9,8 @@ ghost use mathlib.Core.Path.{_≡_};
 ghost use Rattle.layout.specs.Limits.{lastEpoch, ways, mostSlots};
 ghost use Rattle.layout.specs.Memory.{logAt, slotAt, slotWords, bufferWords};
 ghost use Rattle.layout.specs.Words.{ControlFits, ShapeFits, encodeSlot};
-ghost use Rattle.checks.specs.Registers.{zero, given, woken, committed, stepped, restarted, recounted, leaving};
-ghost use Rattle.checks.specs.View.{goodSizes, goodControl, goodShape, goodWork, properEpoch, properCounts, properRegisters, miscounted};
+ghost use Rattle.checks.specs.Registers.{zero, given, woken, committed, begun, stepped, ended, recounted, leaving, scanTarget};
+ghost use Rattle.checks.specs.View.{goodControl, goodShape, properEpoch, properCounts, properPass, properRegisters, waits, miscounted};
 ghost use Rattle.checks.specs.View.{lent, boundsOf, undoOf};
 ghost use Rattle.checks.specs.Contracts.{Viewed, Countable};
 ghost use Rattle.slots.specs.Sets.{slotsFrom};
@@ -17,16 +18,12 @@ ghost use Rattle.slots.specs.Slots.{dirtySlot};
 use layout::BUFFER_PLACES;
 use layout::CONTROL_AT;
 use layout::Control;
-use layout::ENTRY_WORDS;
 use layout::LAST_EPOCH;
-use layout::LEAST_WORK;
-use layout::LOG_AT;
 use layout::MOST_AHEAD;
-use layout::MOST_LINES;
-use layout::MOST_WORK;
 use layout::SHAPE_AT;
 use layout::Shape;
 pub use refusals::check_address;
+pub use refusals::check_begin;
 pub use refusals::check_board;
 pub use refusals::check_buffer;
 pub use refusals::check_commit;
@@ -35,17 +32,21 @@ pub use refusals::check_registers;
 pub use refusals::check_room;
 pub use refusals::check_scan;
 pub use refusals::check_set;
+pub use sizes::is_good_sizes;
+pub use sizes::is_good_work;
 use slots::Bounds;
 use status::Status;
 use undo::LogState;
 use undo::Progress;
 
-// s, b and c of the paper and the count of dirty slots: the running epoch, the number of buffered entries, the scan's cursor.
+// s, b and c of the paper, the count of dirty slots and the target: the running epoch, the number of buffered entries, the scan's cursor and
+// the epoch that its pass persists, 0 outside a pass.
 pub struct Registers {
     pub epoch: u64,
     pub buffered: u64,
     pub cursor: u64,
     pub dirty: u64,
+    pub target: u64,
 }
 
 impl Registers {
@@ -57,18 +58,20 @@ impl Registers {
             buffered: 0,
             cursor: 0,
             dirty: 0,
+            target: 0,
         }
     }
 
     // As a caller hands them in: any words.
-    pub fn given(epoch: u64, buffered: u64, cursor: u64, dirty: u64) -> Registers
-        ensures { λ r. ⌜ r ≡ given epoch buffered cursor dirty ⌝ }
+    pub fn given(epoch: u64, buffered: u64, cursor: u64, dirty: u64, target: u64) -> Registers
+        ensures { λ r. ⌜ r ≡ given epoch buffered cursor dirty target ⌝ }
     {
         Registers {
             epoch,
             buffered,
             cursor,
             dirty,
+            target,
         }
     }
 
@@ -82,6 +85,7 @@ impl Registers {
             buffered: 0,
             cursor: 0,
             dirty: 0,
+            target: 0,
         }
     }
 
@@ -95,6 +99,31 @@ impl Registers {
             buffered: self.buffered,
             cursor: self.cursor,
             dirty: self.dirty,
+            target: self.target,
+        }
+    }
+
+    // The target of a scan: that of the pass, or the oldest epoch that waits, with which the scan begins one.
+    pub fn scan_target(self, persisted: u64) -> u64
+        requires { ⌜ persisted < lastEpoch ⌝ }
+        ensures { λ r. ⌜ r ≡ scanTarget self persisted ⌝ }
+    {
+        if self.target == 0 {
+            return persisted + 1;
+        }
+        self.target
+    }
+
+    // In a pass with this target.
+    pub fn begun(self, target: u64) -> Registers
+        ensures { λ r. ⌜ r ≡ begun self target ⌝ }
+    {
+        Registers {
+            epoch: self.epoch,
+            buffered: self.buffered,
+            cursor: self.cursor,
+            dirty: self.dirty,
+            target,
         }
     }
 
@@ -108,18 +137,20 @@ impl Registers {
             buffered: self.buffered,
             cursor: self.cursor + 1,
             dirty: self.dirty,
+            target: self.target,
         }
     }
 
-    // With the cursor before the first slot.
-    pub fn restarted(self) -> Registers
-        ensures { λ r. ⌜ r ≡ restarted self ⌝ }
+    // Outside a pass, the cursor before the first slot.
+    pub fn ended(self) -> Registers
+        ensures { λ r. ⌜ r ≡ ended self ⌝ }
     {
         Registers {
             epoch: self.epoch,
             buffered: self.buffered,
             cursor: 0,
             dirty: self.dirty,
+            target: 0,
         }
     }
 
@@ -132,6 +163,7 @@ impl Registers {
             buffered: done.undo.buffered,
             cursor: self.cursor,
             dirty: self.dirty,
+            target: self.target,
         }
     }
 
@@ -145,6 +177,7 @@ impl Registers {
             buffered: done.undo.buffered,
             cursor: self.cursor,
             dirty: self.dirty - layout::bit(was) + layout::bit(is),
+            target: self.target,
         }
     }
 
@@ -164,7 +197,32 @@ impl Registers {
             < MOST_AHEAD
     }
 
-    // b, c and the count of dirty slots within their limits, the log has room for what is buffered, and no pass has begun where no epoch waits.
+    // Whether an epoch has ended and is not persisted. Both ends in one comparison, as above.
+    fn waits(self, view: View, epoch: u64) -> bool
+        requires { ⌜ view .control .persisted < self .epoch ⌝ }
+        requires { ⌜ self .epoch ≤ lastEpoch ⌝ }
+        ensures { λ r. ⌜ r ≡ waits view self epoch ⌝ }
+    {
+        std::num::wrapping_sub_u64(std::num::wrapping_sub_u64(epoch, view.control.persisted), 1)
+            < self.epoch - view.control.persisted - 1
+    }
+
+    // The target waits and the cursor is at most at the end, or there is no target and the cursor is before the first slot.
+    fn is_proper_pass(self, view: View) -> bool
+        requires { ⌜ view .control .persisted < self .epoch ⌝ }
+        requires { ⌜ self .epoch ≤ lastEpoch ⌝ }
+        ensures { λ r. ⌜ r ≡ properPass view self ⌝ }
+    {
+        if self.waits(view, self.target) {
+            return self.cursor <= view.slots as u64;
+        }
+        if self.target != 0 {
+            return false;
+        }
+        self.cursor == 0
+    }
+
+    // b and the count of dirty slots within their limits, and the log has room for what is buffered.
     fn is_proper_counts(self, view: View) -> bool
         requires { ⌜ ControlFits (view .control) ⌝ }
         ensures { λ r. ⌜ r ≡ properCounts view self ⌝ }
@@ -172,16 +230,7 @@ impl Registers {
         if self.buffered >= BUFFER_PLACES as u64 {
             return false;
         }
-        if self.cursor > view.slots as u64 {
-            return false;
-        }
         if self.dirty > view.slots as u64 {
-            return false;
-        }
-        if self.epoch != view.control.persisted + 1 {
-            return view.control.length + self.buffered <= view.shape.entries;
-        }
-        if self.cursor != 0 {
             return false;
         }
         view.control.length + self.buffered <= view.shape.entries
@@ -218,6 +267,9 @@ impl Registers {
         ensures { λ r. ⌜ r ≡ properRegisters view self ⌝ }
     {
         if !self.is_proper_epoch(view) {
+            return false;
+        }
+        if !self.is_proper_pass(view) {
             return false;
         }
         self.is_proper_counts(view)
@@ -323,28 +375,6 @@ impl View {
             buffered: registers.buffered,
         }
     }
-}
-
-// Of 1: N, L and the word count. One test for the limits of both: they are the same power of two, below which an `|` is exactly where both
-// its sides are; and a 0 less one wraps round to more than any limit.
-pub fn is_good_sizes(words: usize, lines: u64, entries: u64) -> bool
-    ensures { λ r. ⌜ r ≡ goodSizes words lines entries ⌝ }
-{
-    if std::num::wrapping_sub_u64(lines, 1) | std::num::wrapping_sub_u64(entries, 1) >= MOST_LINES {
-        return false;
-    }
-    words as u64 == LOG_AT as u64 + ENTRY_WORDS as u64 * entries + lines
-}
-
-// A work memory has a multiple of 8 words more than the least, and fewer than 512: no bit but those of such a number is set.
-const UNUSED_WORK_BITS: usize = usize::MAX - (MOST_WORK - LEAST_WORK);
-
-// 2. Fewer words than the least wrap round to a number whose first bit is set.
-pub fn is_good_work(words: usize) -> bool
-    ensures { λ r. ⌜ r ≡ goodWork words ⌝ }
-{
-    let more = std::num::wrapping_sub_usize(words, LEAST_WORK);
-    more & UNUSED_WORK_BITS == 0
 }
 
 // What came of a call's tests.

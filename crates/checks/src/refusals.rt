@@ -1,17 +1,18 @@
 // The paper's table of refusals. A call makes its tests in stages, in the order of specs/Refusals: check_memories, then check_registers,
 // then the rows of its own. Each stage requires what the stages before it told.
-ghost use Prim.Native.Nat.{_<_};
+ghost use Prim.Native.Nat.{_<_, _≤_};
 ghost use lib.ListN.{length};
 ghost use mathlib.Core.List.{_++_};
 ghost use mathlib.Core.Path.{_≡_};
+ghost use Rattle.layout.specs.Limits.{lastEpoch};
 ghost use Rattle.layout.specs.Words.{ControlFits};
 ghost use Rattle.checks.specs.Refusals.{tested, registerRows, bufferRows, addressRows, roomRows, epochRows, cursorRows};
-ghost use Rattle.checks.specs.Refusals.{waitingRows, boardChecked, memoriesChecked};
+ghost use Rattle.checks.specs.Refusals.{waitingRows, targetRows, boardChecked, memoriesChecked};
 ghost use Rattle.checks.specs.Contracts.{RowsReady, SiteReady, siteRows};
 use crate::Checked;
 use crate::Registers;
 use crate::View;
-use crate::is_good_work;
+use crate::sizes::is_good_work;
 use layout::LAST_EPOCH;
 use layout::LOG_AT;
 use layout::MOST_AHEAD;
@@ -147,6 +148,33 @@ fn check_commit_epoch(view: View, registers: Registers) -> Checked
         return Checked::Refused(Status::Last);
     }
     Checked::Passed(view)
+}
+
+// 15 of begin.
+fn check_target(view: View, registers: Registers, target: u64) -> Checked
+    requires { ⌜ view .control .persisted < registers .epoch ⌝ }
+    requires { ⌜ registers .epoch ≤ lastEpoch ⌝ }
+    ensures { λ r. ⌜ r ≡ tested (targetRows view registers target) view ⌝ }
+{
+    if registers.target != 0 {
+        return Checked::Refused(Status::Target);
+    }
+    if !registers.waits(view, target) {
+        return Checked::Refused(Status::Target);
+    }
+    Checked::Passed(view)
+}
+
+// 7, 14 and 15 of begin.
+pub fn check_begin(view: View, work: &[u64], registers: Registers, target: u64) -> Checked
+    requires { ⌜ RowsReady (now work) registers view ⌝ }
+    ensures { λ r. ⌜ r ≡ tested (bufferRows view (now (work .entry)) registers ++ targetRows view registers target) view ⌝ }
+{
+    let buffer = check_buffer(view, work, registers);
+    match buffer {
+        Checked::Refused(status) => Checked::Refused(status),
+        Checked::Passed(_) => check_target(view, registers, target),
+    }
 }
 
 // 6 of scan and the test of the count: the slot at the cursor, while there is one.

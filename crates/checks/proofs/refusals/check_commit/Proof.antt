@@ -1,4 +1,4 @@
-use Rattle.checks.proofs.Rows.{commit-buffer, commit-epoch}
+use Rattle.checks.proofs.Rows.{first-buffer, behind-buffer}
 use borrow.Author.Needs.{needs}
 use Rattle.checks.proofs.refusals.check_commit.Statement.{statement}
 use Rattle.checks.proofs.refusals.check_commit.Tie as tie
@@ -16,10 +16,10 @@ check-commit-epoch-requires : tie.Need-check-commit-epoch-requires
 check-commit-epoch-requires c κs = search needs
 
 returns : tie.Need-returns
-returns c = search (commit-buffer)
+returns c = search (first-buffer)
 
 returns-2 : tie.Need-returns-2
-returns-2 c = search (commit-epoch)
+returns-2 c = search (behind-buffer)
 
 pub check-commit-spec : {M : Type 1} → statement M
 check-commit-spec =

@@ -1,7 +1,7 @@
 use Rattle.checks.proofs.Testing.{work-bits}
 use borrow.Author.Needs.{needs}
-use Rattle.checks.proofs.is_good_work.Statement.{statement}
-use Rattle.checks.proofs.is_good_work.Tie as tie
+use Rattle.checks.proofs.sizes.is_good_work.Statement.{statement}
+use Rattle.checks.proofs.sizes.is_good_work.Tie as tie
 
 wrapping-sub-usize-requires : tie.Need-wrapping-sub-usize-requires
 wrapping-sub-usize-requires c κs = search needs

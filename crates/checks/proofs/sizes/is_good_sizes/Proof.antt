@@ -1,7 +1,7 @@
 use Rattle.checks.proofs.Testing.{sizes-beyond, log-fits, log-end-fits, board-fits, sizes-words}
 use borrow.Author.Needs.{needs}
-use Rattle.checks.proofs.is_good_sizes.Statement.{statement}
-use Rattle.checks.proofs.is_good_sizes.Tie as tie
+use Rattle.checks.proofs.sizes.is_good_sizes.Statement.{statement}
+use Rattle.checks.proofs.sizes.is_good_sizes.Tie as tie
 
 wrapping-sub-u64-requires : tie.Need-wrapping-sub-u64-requires
 wrapping-sub-u64-requires c κs = search needs
