@@ -4,7 +4,7 @@ use mathlib.Core.Path.{_≡_, refl, sym, ap, _∙_}
 use mathlib.Core.Bool.{Bool, true, false, not, cond, _||_}
 use mathlib.Core.List.{List, _++_}
 use native.Mathlib.Omega.{arith}
-use borrow.Author.Tests.{not-true, not-false, eq-eqb, ne-eqb}
+use borrow.Author.Tests.{not-true, not-false, le-leb, lt-leb}
 use lib.ListN.{length, getD, set, length-append}
 use Rattle.board.specs.declared.Meter.{Meter}
 use Rattle.board.specs.Stores.{applied, allowed, Ran}
@@ -59,15 +59,15 @@ module _ (board work : List ℕ) (u : LogState) (k target : ℕ) (m : Meter) (s 
   visit-clean h = rw (← read .is, not-true (s .dirty) h) record { ran = ran-none board m; undo = refl; memory = refl }
 
   module _ (dirty : not (s .dirty) ≡ false) where
-    pub visit-other : (s .tag ≡ target → ⊥) → Acts board m (visiting u work k target) board work (record { undo = u; meter = m })
+    pub visit-other : target < s .tag → Acts board m (visiting u work k target) board work (record { undo = u; meter = m })
     unfolding visiting
     visit-other n =
-        rw (← read .is, not-false (s .dirty) dirty, ne-eqb (s .tag) target n) record { ran = ran-none board m; undo = refl; memory = refl }
+        rw (← read .is, not-false (s .dirty) dirty, lt-leb (s .tag) target n) record { ran = ran-none board m; undo = refl; memory = refl }
 
-    pub visit-target : (board′ work′ : List ℕ) (r : Progress) → s .tag ≡ target → Acts board m (cleaning u work k) board′ work′ r
+    pub visit-target : (board′ work′ : List ℕ) (r : Progress) → s .tag ≤ target → Acts board m (cleaning u work k) board′ work′ r
         → Acts board m (visiting u work k target) board′ work′ r
     unfolding visiting
-    visit-target board′ work′ r e x = rw (← read .is, not-false (s .dirty) dirty, eq-eqb (s .tag) target e) x
+    visit-target board′ work′ r e x = rw (← read .is, not-false (s .dirty) dirty, le-leb (s .tag) target e) x
 
 -- a scan's last step
 module _ (board work : List ℕ) (u : LogState) (target : ℕ) (m : Meter) (board′ work′ : List ℕ) (f : Progress)

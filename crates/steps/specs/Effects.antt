@@ -2,7 +2,7 @@
 use Prim.Native.Nat.{ℕ, _+_}
 use mathlib.Core.Bool.{Bool, true, cond, _&&_}
 use mathlib.Core.List.{List, [], _++_}
-use lib.Dec.{eqb}
+use lib.Dec.{leb, eqb}
 use lib.ListN.{getD}
 use Rattle.board.specs.Stores.{Store, one, applied}
 use Rattle.layout.specs.declared.Entry.{Entry}
@@ -86,19 +86,16 @@ storing board u work address spot epoch value =
 unfoldable pub evicting : LogState → List ℕ → Spot → Effect
 evicting u work spot = cond (spot .held) (emptying u work (spot .slot)) (nothing u work)
 
--- "Scan: target P + 1."
-abbrev pub scanTarget : (persisted : ℕ) → ℕ
-scanTarget persisted = persisted + 1
-
--- "it visits slot c: if dirty and tagged with the target, the line is written out and becomes clean, tag 0"
+-- "the line is written out and becomes clean, tag 0"
 unfoldable pub cleaning : LogState → List ℕ → ℕ → Effect
 cleaning u work k =
     let w = writingOut u work (slotIn work k .address) (dataIn work k) in
     record { stores = w .stores; undo = w .undo; work = cleaned (w .work) k (slotIn work k .address) }
 
+-- "it visits slot c": request 8/13, "the pass then writes out dirty lines with tags up to the target"
 unfoldable pub visiting : LogState → List ℕ → (k target : ℕ) → Effect
 visiting u work k target =
-    cond (slotIn work k .dirty && eqb (slotIn work k .tag) target) (cleaning u work k) (nothing u work)
+    cond (slotIn work k .dirty && leb (slotIn work k .tag) target) (cleaning u work k) (nothing u work)
 
 -- "With c = S it flushes, then stores one control word with P = target and .."
 unfoldable pub persisting : List ℕ → LogState → List ℕ → (target : ℕ) → Effect

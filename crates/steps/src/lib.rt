@@ -7,7 +7,7 @@ ghost use Rattle.layout.specs.Limits.{addressBits, lastEpoch};
 ghost use Rattle.layout.specs.Memory.{slotIn};
 ghost use Rattle.slots.specs.Slots.{filled};
 ghost use Rattle.steps.specs.Effects.{entryFor, storingHeld, lineIn};
-ghost use Rattle.steps.specs.Effects.{loading, storing, evicting, cleaning, scanTarget, visiting, persisting};
+ghost use Rattle.steps.specs.Effects.{loading, storing, evicting, cleaning, visiting, persisting};
 ghost use Rattle.steps.specs.Contracts.{Acts, Carries, SlotReady, FillReady, StoreHeldReady, StoreAbsentReady};
 ghost use Rattle.steps.specs.Contracts.{Logs, LogReady, LogsStore, LogStoreReady, StoreReady, PersistReady};
 use board::Meter;
@@ -164,15 +164,7 @@ fn clean(
     done
 }
 
-// The epoch that a scan persists.
-pub fn scan_target(persisted: u64) -> u64
-    requires { ⌜ persisted < lastEpoch ⌝ }
-    ensures { λ r. ⌜ r ≡ scanTarget persisted ⌝ }
-{
-    persisted + 1
-}
-
-// A scan's visit of slot k: a line that was last stored to in the target epoch is written out and stays held.
+// A scan's visit of slot k: a line that was last stored to in the target epoch or before is written out and stays held.
 pub fn visit(
     board: &mut [u64],
     work: &mut [u64],
@@ -188,7 +180,7 @@ pub fn visit(
     if !slot.dirty {
         return Progress { undo, meter };
     }
-    if slot.tag != target {
+    if slot.tag > target {
         return Progress { undo, meter };
     }
     clean(board, work, undo, k, slot.address, meter)
