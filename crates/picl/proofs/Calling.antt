@@ -15,7 +15,7 @@ use Rattle.status.specs.declared.Status.the-variants as status
 use Rattle.undo.specs.declared.LogState.{LogState}
 use Rattle.undo.specs.declared.Progress.{Progress}
 use Rattle.slots.specs.declared.Spot.{Spot}
-use Rattle.steps.specs.Effects.{loading, storing, evicting, scanTarget, visiting, persisting}
+use Rattle.steps.specs.Effects.{loading, storing, evicting, visiting, persisting}
 use Rattle.steps.specs.Contracts.{Acts, Carries}
 use Rattle.slots.specs.Sets.{spotOf}
 use Rattle.slots.specs.Slots.{dirtyAt}
@@ -24,16 +24,16 @@ use Rattle.checks.specs.declared.Checked.the-variants.{Refused, Passed}
 use Rattle.checks.specs.declared.Registers.{Registers}
 use Rattle.checks.specs.declared.View.{View}
 use Rattle.checks.specs.Laws.{line-running, line-named, line-proper, line-countable, store-line, store-room, running}
-use Rattle.checks.specs.Laws.{scan-running, scan-proper, scan-countable, scan-waiting}
-use Rattle.checks.specs.Refusals.{tested, bufferRows, epochRows, runningChecked, lineChecked, storeChecked, commitChecked, scanChecked}
-use Rattle.checks.specs.Registers.{leaving, committed, stepped, restarted, recounted}
-use Rattle.checks.specs.Stages.{commit-passed}
+use Rattle.checks.specs.Laws.{scan-running, scan-proper, scan-countable, scan-aims}
+use Rattle.checks.specs.Refusals.{tested, bufferRows, epochRows, targetRows, runningChecked, lineChecked, storeChecked, commitChecked, beginChecked, scanChecked}
+use Rattle.checks.specs.Registers.{leaving, committed, begun, stepped, ended, recounted, scanTarget}
+use Rattle.checks.specs.Stages.{commit-passed, begin-passed}
 use Rattle.checks.specs.View.{undoOf}
 use Rattle.picl.specs.declared.Answer.{Answer}
 use Rattle.picl.specs.Answers.{Outcome, answer, refusal}
 use Rattle.board.specs.Verdict.{due}
 use Rattle.picl.specs.Calls.{loadAt, loadOutcome, storeAt, storeOutcome, evictAt, evictOutcome}
-use Rattle.picl.specs.Calls.{judged, carried, carriedAt, commitOutcome, commitVerdict, scanOutcome}
+use Rattle.picl.specs.Calls.{judged, carried, carriedAt, commitOutcome, commitVerdict, beginOutcome, beginVerdict, scanAt, scanOutcome}
 use Rattle.picl.specs.Contracts.{Answers, Finishes, LinePassed, StorePassed, ScanPassed, Found}
 use Rattle.picl.proofs.Finishing.{answers-refused, answers-nothing, acted, carries-answers}
 
@@ -143,6 +143,15 @@ commit-answered allowance board work r v w k a run is e x =
     judged-passed allowance board work r (commitChecked board work r) (λ u. commitOutcome work r) v board work a
     (commit-passed board work r v run k is w e) (answers-nothing allowance r board work (committed r) a x)
 
+-- begin
+pub begin-answered : (allowance : ℕ) (board work : List ℕ) (r : Registers) (target : ℕ) (v w : View) (k : Checked) (a : Answer)
+    → Passed v ≡ runningChecked board work r → k ≡ tested (bufferRows v work r ++ targetRows v r target) v → k ≡ Passed w
+    → a ≡ answer status.Ok 0 0 (begun r target) → Answers allowance r board work (beginVerdict board work r target) board work a
+unfolding beginVerdict beginOutcome
+begin-answered allowance board work r target v w k a run is e x =
+    judged-passed allowance board work r (beginChecked board work r target) (λ u. beginOutcome work r target) v board work a
+    (begin-passed board work r v run k target is w e) (answers-nothing allowance r board work (begun r target) a x)
+
 -- scan
 module _ (allowance : ℕ) (board work : List ℕ) (r next : Registers) (u : LogState) (target : ℕ) (m : Meter) (p : Progress)
     (board′ work′ work″ : List ℕ) (a : Answer) (new : m ≡ full allowance) (same : length work′ ≡ length work) where
@@ -161,19 +170,25 @@ module _ (allowance : ℕ) (board work : List ℕ) (r next : Registers) (u : Log
       carries-answers allowance r board work (persisting board u work target) m p board′ work′ work″ target next next target a new c same
       (λ x. refl) (λ x. refl) (rw q at f)
 
-module _ (allowance : ℕ) (board work : List ℕ) (r next : Registers) (v : View) (u : LogState) (target : ℕ) (board′ work′ : List ℕ) (a : Answer)
-    (is : u ≡ undoOf v r) (aim : target ≡ scanTarget (v .control .persisted)) where
-  pub scan-visits : r .cursor < v .slots → next ≡ stepped r
-      → Answers allowance r board work (due (carriedAt 0 next work (r .cursor) (visiting u work (r .cursor) target))) board′ work′ a
-      → Answers allowance r board work (due (scanOutcome board work r v)) board′ work′ a
-  unfolding scanOutcome
-  scan-visits h n x = rw (lt-ltb (r .cursor) (v .slots) h) (rw (n, is, aim) at x)
+module _ (allowance : ℕ) (board work : List ℕ) (r next : Registers) (v : View) (target : ℕ) (board′ work′ : List ℕ) (a : Answer) where
+  module _ (u : LogState) (is : u ≡ undoOf v r) where
+    pub scan-visits : (in-pass : Registers) → r .cursor < v .slots → in-pass ≡ begun r target → next ≡ stepped in-pass
+        → Answers allowance r board work (due (carriedAt 0 next work (r .cursor) (visiting u work (r .cursor) target))) board′ work′ a
+        → Answers allowance r board work (due (scanAt board work r v target)) board′ work′ a
+    unfolding scanAt
+    scan-visits in-pass h b n x = rw (lt-ltb (r .cursor) (v .slots) h) (rw (n, b, is) at x)
 
-  pub scan-persists : v .slots ≤ r .cursor → next ≡ restarted r
-      → Answers allowance r board work (due (carried target next (persisting board u work target))) board′ work′ a
+    pub scan-persists : v .slots ≤ r .cursor → next ≡ ended r
+        → Answers allowance r board work (due (carried target next (persisting board u work target))) board′ work′ a
+        → Answers allowance r board work (due (scanAt board work r v target)) board′ work′ a
+    unfolding scanAt
+    scan-persists h n x = rw (le-ltb (r .cursor) (v .slots) h) (rw (n, is) at x)
+
+  pub scan-aimed : target ≡ scanTarget r (v .control .persisted)
+      → Answers allowance r board work (due (scanAt board work r v target)) board′ work′ a
       → Answers allowance r board work (due (scanOutcome board work r v)) board′ work′ a
   unfolding scanOutcome
-  scan-persists h n x = rw (le-ltb (r .cursor) (v .slots) h) (rw (n, is, aim) at x)
+  scan-aimed e x = rw e at x
 
 pub scan-told : (board work : List ℕ) (r : Registers) (v : View) → Passed v ≡ scanChecked board work r → ScanPassed board work r v
 scan-told board work r v p =
@@ -181,5 +196,5 @@ scan-told board work r v p =
       running = scan-running board work r v p;
       slot = scan-proper board work r v p;
       count = scan-countable board work r v p;
-      waiting = scan-waiting board work r v p;
+      aims = scan-aims board work r v p;
     }

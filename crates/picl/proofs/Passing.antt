@@ -5,18 +5,18 @@ use mathlib.Core.Bool.{Bool}
 use mathlib.Core.List.{List}
 use native.Mathlib.Omega.{arith}
 use lib.ListN.{length}
+use Rattle.layout.specs.Limits.{mostSlots}
 use Rattle.layout.specs.Memory.{slotAt, slotWords}
 use Rattle.undo.specs.declared.LogState.{LogState}
 use Rattle.slots.specs.declared.Spot.{Spot}
-use Rattle.steps.specs.Effects.{scanTarget}
 use Rattle.steps.specs.Contracts.{Ready, SlotReady, FillReady, StoreReady, PersistReady}
 use Rattle.slots.specs.Laws.{spot-below, spot-named, proper-named}
 use Rattle.slots.specs.Sets.{spotOf}
 use Rattle.slots.specs.Slots.{dirtyAt}
 use Rattle.checks.specs.declared.Registers.{Registers}
 use Rattle.checks.specs.declared.View.{View}
-use Rattle.checks.specs.Contracts.{Running}
-use Rattle.checks.specs.Registers.{stepped}
+use Rattle.checks.specs.Contracts.{Running, Waits}
+use Rattle.checks.specs.Registers.{begun, stepped}
 use Rattle.checks.specs.View.{boundsOf, undoOf}
 use Rattle.picl.specs.Contracts.{LinePassed, StorePassed, ScanPassed, Found}
 
@@ -86,10 +86,14 @@ module _ (board work : List ℕ) (r : Registers) (v : View) (u : LogState) (is :
             (arith, run .shaped .board-words, proper-named (boundsOf v r) work (r .cursor) (run .shaped .lines-some) (p .slot h));
       }
 
-  pub visit-found : (next : Registers) (was : Bool) → next ≡ stepped r → was ≡ dirtyAt work (r .cursor) → ScanPassed board work r v → r .cursor < v .slots
-      → Found work next (r .cursor) was
-  visit-found next was n e p h =
-      record { is = e; count = rw (n, e) record { least = p .count h .least; most = p .count h .most } }
+  pub visit-steps : (target : ℕ) (in-pass : Registers) → in-pass ≡ begun r target → ScanPassed board work r v → r .cursor < v .slots
+      → in-pass .cursor ≤ mostSlots
+  visit-steps target in-pass b p h = rw b (omega (arith, p .running .shaped .slots-most))
 
-  pub persist-ready : (target : ℕ) → target ≡ scanTarget (v .control .persisted) → ScanPassed board work r v → PersistReady board work u target
-  persist-ready target aim p = rw is record { ready = ready-of board work r v (p .running); fits = omega (arith, p .waiting, p .running .epoch-most) }
+  pub visit-found : (target : ℕ) (in-pass next : Registers) (was : Bool) → in-pass ≡ begun r target → next ≡ stepped in-pass
+      → was ≡ dirtyAt work (r .cursor) → ScanPassed board work r v → r .cursor < v .slots → Found work next (r .cursor) was
+  visit-found target in-pass next was b n e p h =
+      record { is = e; count = rw (n, b, e) record { least = p .count h .least; most = p .count h .most } }
+
+  pub persist-ready : (target : ℕ) → ScanPassed board work r v → Waits v r target → PersistReady board work u target
+  persist-ready target p aim = rw is record { ready = ready-of board work r v (p .running); fits = omega (arith, aim .ended, p .running .epoch-most) }

@@ -15,14 +15,14 @@ use Rattle.undo.specs.Log.{firstImproper, recoverStores}
 use Rattle.slots.specs.declared.Spot.{Spot}
 use Rattle.slots.specs.Sets.{spotOf}
 use Rattle.slots.specs.Slots.{dirtyAt}
-use Rattle.steps.specs.Effects.{Effect, loading, storing, evicting, visiting, persisting, scanTarget}
+use Rattle.steps.specs.Effects.{Effect, loading, storing, evicting, visiting, persisting}
 use Rattle.checks.specs.declared.Checked.{Checked}
 use Rattle.checks.specs.declared.Checked.the-variants.{Refused, Passed}
 use Rattle.checks.specs.declared.Registers.{Registers}
 use Rattle.checks.specs.declared.View.{View}
 use Rattle.checks.specs.Registers as registers
 use Rattle.checks.specs.View.{goodSizes, goodWork, undoOf}
-use Rattle.checks.specs.Refusals.{memoriesChecked, runningChecked, lineChecked, storeChecked, commitChecked, scanChecked}
+use Rattle.checks.specs.Refusals.{memoriesChecked, runningChecked, lineChecked, storeChecked, commitChecked, beginChecked, scanChecked}
 use Rattle.picl.specs.declared.Report.{Report}
 use Rattle.picl.specs.Answers.{Outcome, Verdict, answerOf}
 use Rattle.board.specs.Verdict.{refused, due}
@@ -82,14 +82,24 @@ commitOutcome work r = unstored 0 (registers.committed r) work
 unfoldable pub commitVerdict : (board work : List ℕ) → Registers → Verdict
 commitVerdict board work r = judged (commitChecked board work r) (λ v. commitOutcome work r)
 
+-- request 8/13: "A begin call takes a target ..; it visits no slot"
+unfoldable pub beginOutcome : (work : List ℕ) → Registers → (target : ℕ) → Outcome
+beginOutcome work r target = unstored 0 (registers.begun r target) work
+
+unfoldable pub beginVerdict : (board work : List ℕ) → Registers → (target : ℕ) → Verdict
+beginVerdict board work r target = judged (beginChecked board work r target) (λ v. beginOutcome work r target)
+
 -- "With c < S it visits slot c: ..; c rises by one. .. With c = S it flushes, then stores one control word with P = target ..;
 -- c = 0; value is the new P."
-unfoldable pub scanOutcome : (board work : List ℕ) → Registers → View → Outcome
-scanOutcome board work r v =
+unfoldable pub scanAt : (board work : List ℕ) → Registers → View → (target : ℕ) → Outcome
+scanAt board work r v target =
     cond (ltb (r .cursor) (v .slots))
-    (carriedAt 0 (registers.stepped r) work (r .cursor) (visiting (undoOf v r) work (r .cursor) (scanTarget (v .control .persisted))))
-    (carried (scanTarget (v .control .persisted)) (registers.restarted r)
-    (persisting board (undoOf v r) work (scanTarget (v .control .persisted))))
+    (carriedAt 0 (registers.stepped (registers.begun r target)) work (r .cursor) (visiting (undoOf v r) work (r .cursor) target))
+    (carried target (registers.ended r) (persisting board (undoOf v r) work target))
+
+-- request 8/13: "A scan call outside a pass begins one with P + 1", and visits slot 0: S + 1 calls are a pass
+unfoldable pub scanOutcome : (board work : List ℕ) → Registers → View → Outcome
+scanOutcome board work r v = scanAt board work r v (registers.scanTarget r (v .control .persisted))
 
 unfoldable pub scanVerdict : (board work : List ℕ) → Registers → Verdict
 scanVerdict board work r = judged (scanChecked board work r) (scanOutcome board work r)
@@ -129,6 +139,7 @@ pub data Call : Type 0 where
   store : (address value : ℕ) → Call
   evict : (address : ℕ) → Call
   commit : Call
+  begin : (target : ℕ) → Call
   scan : Call
   tally : Call
   filterBits : Call
@@ -138,9 +149,14 @@ verdictOf board work r (load address) = loadVerdict board work r address
 verdictOf board work r (store address value) = storeVerdict board work r address value
 verdictOf board work r (evict address) = evictVerdict board work r address
 verdictOf board work r commit = commitVerdict board work r
+verdictOf board work r (begin target) = beginVerdict board work r target
 verdictOf board work r scan = scanVerdict board work r
 verdictOf board work r tally = tallyVerdict board work r
 verdictOf board work r filterBits = filterBitsVerdict work r
+
+-- of a call that takes no allowance, and owes no store
+abbrev pub noAllowance : ℕ
+noAllowance = 0
 
 -- ---- format, tally and the status question return no registers: they report
 
@@ -157,7 +173,7 @@ formatAfter board lines entries = cond (goodSizes (length board) lines entries) 
 -- a question owes no store, so that no allowance is too small for it: "it takes no allowance and reports 0"
 abbrev pub reportOf : Verdict → Report
 reportOf v =
-    let a = answerOf 0 registers.zero v in
+    let a = answerOf noAllowance registers.zero v in
     record { status = a .status; value = a .value; stores = a .stores }
 
 unfoldable pub tallyReport : (board work : List ℕ) → Registers → Report

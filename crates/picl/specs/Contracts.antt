@@ -14,9 +14,10 @@ use Rattle.slots.specs.declared.Spot.{Spot}
 use Rattle.slots.specs.Sets.{placesOf, properSet, spotOf}
 use Rattle.slots.specs.Slots.{properAt, dirtyAt, dirtySlot, undoDue}
 use Rattle.checks.specs.declared.View.{View}
-use Rattle.checks.specs.Contracts.{Running, Countable}
+use Rattle.checks.specs.Contracts.{Running, Waits, Countable}
 use Rattle.checks.specs.declared.Checked.the-variants.{Passed}
 use Rattle.checks.specs.Refusals.{tested, lineRows, runningChecked}
+use Rattle.checks.specs.Registers.{scanTarget}
 use Rattle.checks.specs.View.{boundsOf}
 use Rattle.checks.specs.declared.Registers.{Registers}
 use Rattle.picl.specs.declared.Answer.{Answer}
@@ -83,4 +84,4 @@ pub record ScanPassed (board work : List ℕ) (r : Registers) (v : View) : Type 
   pub running : Running board work r v
   pub slot : r .cursor < v .slots → properAt (boundsOf v r) work (r .cursor) ≡ true
   pub count : r .cursor < v .slots → Countable r (dirtyAt work (r .cursor))
-  pub waiting : v .control .persisted + 1 < r .epoch
+  pub aims : Waits v r (scanTarget r (v .control .persisted))

@@ -1,4 +1,4 @@
-// Commit, scan and power-up: the calls that end, persist and restore epochs. The names of their functions tell how far a call has come, as
+// Commit, begin, scan and power-up: the calls that end, persist and restore epochs. The names of their functions tell how far a call has come, as
 // those of the calls of lines do.
 ghost use Prim.Native.Nat.{_<_, _≤_};
 ghost use lib.ListN.{length};
@@ -8,14 +8,14 @@ ghost use Rattle.checks.specs.declared.Checked.the-variants.{Passed};
 ghost use Rattle.checks.specs.Refusals.{runningChecked};
 ghost use Rattle.steps.specs.Contracts.{SlotReady, PersistReady};
 ghost use Rattle.steps.specs.Effects.{visiting, persisting};
-ghost use Rattle.checks.specs.Registers.{zero, committed};
-ghost use Rattle.checks.specs.Contracts.{Shaped};
+ghost use Rattle.checks.specs.Registers.{zero, committed, begun};
+ghost use Rattle.checks.specs.Contracts.{Shaped, Waits};
 ghost use Rattle.layout.specs.Limits.{lastEpoch};
 ghost use Rattle.status.specs.declared.Status.the-variants as status;
 ghost use Rattle.undo.specs.Contracts.{RecoverReady};
 ghost use Rattle.picl.specs.Answers.{answer};
 ghost use Rattle.picl.specs.Calls as call;
-ghost use Rattle.picl.specs.Calls.{scanOutcome, carried, carriedAt, wakeAt, wakeVerdict, powerUpVerdict};
+ghost use Rattle.picl.specs.Calls.{noAllowance, scanOutcome, scanAt, carried, carriedAt, wakeAt, wakeVerdict, powerUpVerdict};
 ghost use Rattle.picl.specs.Contracts.{Answers, Calls, ScanPassed, Found};
 use crate::Answer;
 use crate::finish;
@@ -74,7 +74,52 @@ pub fn commit(board: &[u64], work: &[u64], registers: Registers, allowance: u32)
     }
 }
 
-// The slot at the cursor; `next` are the registers with the cursor moved on.
+fn begin_passed(registers: Registers, target: u64) -> Answer
+    ensures { λ r. ⌜ r ≡ answer status.Ok 0 0 (begun registers target) ⌝ }
+{
+    Answer {
+        status: Status::Ok,
+        value: 0,
+        stores: 0,
+        registers: registers.begun(target),
+    }
+}
+
+fn begin_running(
+    board: &[u64],
+    work: &[u64],
+    registers: Registers,
+    target: u64,
+    view: View,
+) -> Answer
+    requires { ⌜ Passed view ≡ runningChecked (now board) (now work) registers ⌝ }
+    ensures { λ r. ⌜ Calls (call.begin target) noAllowance registers (now (board .entry)) (now (work .entry)) (now (board .entry)) (now (work .entry)) r ⌝ }
+{
+    let checked = checks::check_begin(view, work, registers, target);
+    match checked {
+        Checked::Refused(status) => refusal(status, 0, registers),
+        Checked::Passed(_) => begin_passed(registers, target),
+    }
+}
+
+// A pass that persists all epochs up to the target. It makes no store, and it cannot write either memory.
+pub fn begin(board: &[u64], work: &[u64], registers: Registers, target: u64) -> Answer
+    ensures { λ r. ⌜ Calls (call.begin target) noAllowance registers (now (board .entry)) (now (work .entry)) (now (board .entry)) (now (work .entry)) r ⌝ }
+{
+    let memories = checks::check_memories(board, work);
+    match memories {
+        Checked::Refused(status) => refusal(status, 0, registers),
+        Checked::Passed(view) => {
+            let running = checks::check_registers(view, registers);
+            match running {
+                Checked::Refused(status) => refusal(status, 0, registers),
+                Checked::Passed(_) => begin_running(board, work, registers, target, view),
+            }
+        }
+    }
+}
+
+// The slot at the cursor; `next` are the registers in the pass, with the cursor moved on.
 fn visit_at(
     board: &mut [u64],
     work: &mut [u64],
@@ -95,7 +140,7 @@ fn visit_at(
     finish_slot(work, k, was, done, allowance, 0, next)
 }
 
-// The end of a pass; `next` are the registers with the cursor moved back.
+// The end of a pass; `next` are the registers outside it.
 fn persist_at(
     board: &mut [u64],
     work: &mut [u64],
@@ -114,19 +159,20 @@ fn persist_at(
     finish(work, meter, allowance, target, next.leaving(done))
 }
 
-fn scan_passed(
+fn scan_at(
     board: &mut [u64],
     work: &mut [u64],
     registers: Registers,
     view: View,
+    target: u64,
     allowance: u32,
 ) -> Answer
     requires { ⌜ ScanPassed (now board) (now work) registers view ⌝ }
+    requires { ⌜ Waits view registers target ⌝ }
     ensures { λ r. ⌜ Answers allowance registers (now (board .entry)) (now (work .entry))
-        (due (scanOutcome (now (board .entry)) (now (work .entry)) registers view)) (now (board .exit)) (now (work .exit)) r ⌝ }
+        (due (scanAt (now (board .entry)) (now (work .entry)) registers view target)) (now (board .exit)) (now (work .exit)) r ⌝ }
 {
     let undo = view.undo(registers);
-    let target = steps::scan_target(view.control.persisted);
     if registers.cursor < view.slots as u64 {
         let k = registers.cursor as usize;
         let was = slots::is_dirty_at(work, k);
@@ -134,7 +180,7 @@ fn scan_passed(
             board,
             work,
             registers,
-            registers.stepped(),
+            registers.begun(target).stepped(),
             undo,
             k,
             was,
@@ -146,11 +192,26 @@ fn scan_passed(
         board,
         work,
         registers,
-        registers.restarted(),
+        registers.ended(),
         undo,
         target,
         allowance,
     )
+}
+
+fn scan_passed(
+    board: &mut [u64],
+    work: &mut [u64],
+    registers: Registers,
+    view: View,
+    allowance: u32,
+) -> Answer
+    requires { ⌜ ScanPassed (now board) (now work) registers view ⌝ }
+    ensures { λ r. ⌜ Answers allowance registers (now (board .entry)) (now (work .entry))
+        (due (scanOutcome (now (board .entry)) (now (work .entry)) registers view)) (now (board .exit)) (now (work .exit)) r ⌝ }
+{
+    let target = registers.scan_target(view.control.persisted);
+    scan_at(board, work, registers, view, target, allowance)
 }
 
 fn scan_running(
@@ -170,7 +231,7 @@ fn scan_running(
     }
 }
 
-// One step of persisting the oldest epoch that waits.
+// One step of the pass that persists the epochs up to its target. Outside a pass it is the first of one for the oldest epoch that waits.
 pub fn scan(board: &mut [u64], work: &mut [u64], registers: Registers, allowance: u32) -> Answer
     ensures { λ r. ⌜ Calls call.scan allowance registers (now (board .entry)) (now (work .entry)) (now (board .exit)) (now (work .exit)) r ⌝ }
 {

@@ -1,4 +1,4 @@
-// The PiCL cache log: format, power-up, load, store, evict, commit, scan, tally and the number of filter bits, over two lent memories, the
+// The PiCL cache log: format, power-up, load, store, evict, commit, begin, scan, tally and the number of filter bits, over two lent memories, the
 // board's and the work memory. Every call answers every input.
 mod epochs;
 mod evictions;
@@ -15,6 +15,7 @@ ghost use Rattle.checks.specs.Registers.{recounted, leaving};
 ghost use Rattle.picl.specs.Contracts.{Finishes, FinishReady};
 use board::Meter;
 use checks::Registers;
+pub use epochs::begin;
 pub use epochs::commit;
 pub use epochs::power_up;
 pub use epochs::scan;

@@ -1,23 +1,13 @@
-use Rattle.picl.proofs.Passing.{visit-ready, visit-found, persist-ready}
-use Rattle.picl.proofs.Calling.{scan-visits, scan-persists}
+use Rattle.picl.proofs.Calling.{scan-aimed}
 use borrow.Author.Needs.{needs}
 use Rattle.picl.proofs.epochs.scan_passed.Statement.{statement}
 use Rattle.picl.proofs.epochs.scan_passed.Tie as tie
 
-undo-requires : tie.Need-undo-requires
-undo-requires c κs = search needs
-
 scan-target-requires : tie.Need-scan-target-requires
 scan-target-requires c κs = search needs
 
-is-dirty-at-requires : tie.Need-is-dirty-at-requires
-is-dirty-at-requires c κs = search needs
-
-stepped-requires : tie.Need-stepped-requires
-stepped-requires c κs = search needs
-
-visit-at-requires : tie.Need-visit-at-requires
-visit-at-requires c κs = (search (visit-ready), search (visit-found))
+scan-at-requires : tie.Need-scan-at-requires
+scan-at-requires c κs = search needs
 
 same-length : tie.Need-same-length
 same-length c = search needs
@@ -26,37 +16,8 @@ same-length-2 : tie.Need-same-length-2
 same-length-2 c = search needs
 
 returns : tie.Need-returns
-returns c = search (scan-visits)
-
-restarted-requires : tie.Need-restarted-requires
-restarted-requires c κs = search needs
-
-persist-at-requires : tie.Need-persist-at-requires
-persist-at-requires c κs = search (persist-ready)
-
-same-length-3 : tie.Need-same-length-3
-same-length-3 c = search needs
-
-same-length-4 : tie.Need-same-length-4
-same-length-4 c = search needs
-
-returns-2 : tie.Need-returns-2
-returns-2 c = search (scan-persists)
+returns c = search (scan-aimed)
 
 pub scan-passed-spec : {M : Type 1} → statement M
 scan-passed-spec =
-    tie.close
-    (tie.spec
-    undo-requires
-    scan-target-requires
-    is-dirty-at-requires
-    stepped-requires
-    visit-at-requires
-    same-length
-    same-length-2
-    returns
-    restarted-requires
-    persist-at-requires
-    same-length-3
-    same-length-4
-    returns-2)
+    tie.close (tie.spec scan-target-requires scan-at-requires same-length same-length-2 returns)
