@@ -17,15 +17,14 @@ use Rattle.checks.specs.declared.Checked.the-variants.{Refused, Passed}
 use Rattle.checks.specs.declared.Registers.{Registers}
 use Rattle.checks.specs.declared.View.{View}
 use Rattle.checks.specs.Laws.{line-running, store-line, scan-running, memories-shaped}
-use Rattle.checks.specs.Refusals.{memoriesChecked, runningChecked, lineChecked, storeChecked, commitChecked, scanChecked}
-use Rattle.checks.specs.Registers.{zero}
+use Rattle.checks.specs.Refusals.{memoriesChecked, runningChecked, lineChecked, storeChecked, commitChecked, beginChecked, scanChecked}
+use Rattle.checks.specs.Registers.{zero, scanTarget}
 use Rattle.checks.specs.View.{viewOf, goodWork, undoOf}
 use Rattle.picl.specs.Answers.{Outcome, Verdict, success, cutOff, answerOf}
 use Rattle.board.specs.Verdict.{refused, due}
 use Rattle.picl.specs.Calls as calls
 use Rattle.picl.specs.Calls.{Call, verdictOf, unstored, tallyVerdict, filterBitsVerdict, judged, loadAt, loadOutcome, loadVerdict, storeAt, storeOutcome, storeVerdict}
-use Rattle.steps.specs.Effects.{scanTarget}
-use Rattle.picl.specs.Calls.{evictAt, evictOutcome, evictVerdict, commitOutcome, commitVerdict, scanOutcome, scanVerdict}
+use Rattle.picl.specs.Calls.{evictAt, evictOutcome, evictVerdict, commitOutcome, commitVerdict, beginOutcome, beginVerdict, scanAt, scanOutcome, scanVerdict}
 use Rattle.picl.specs.Calls.{wakeJudged, wakeAt, wakeVerdict, powerUpVerdict}
 use Rattle.base.specs.Cases.{either}
 use Rattle.bounds.specs.Costs.{owed-most, loading-cost, evicting-cost, visiting-cost}
@@ -90,13 +89,18 @@ module _ (board work : List ℕ) (r : Registers) where
   unfolding commitVerdict commitOutcome
   commit-bounded = judged-bounded mostStores (commitChecked board work r) (λ v. commitOutcome work r) (λ v p. omega arith)
 
+  begin-bounded : (target : ℕ) → Bounded mostStores (beginVerdict board work r target)
+  unfolding beginVerdict beginOutcome
+  begin-bounded target =
+      judged-bounded mostStores (beginChecked board work r target) (λ v. beginOutcome work r target) (λ v p. omega arith)
+
   scan-bounded : Bounded mostStores (scanVerdict board work r)
-  unfolding scanVerdict scanOutcome
+  unfolding scanVerdict scanOutcome scanAt
   scan-bounded =
       judged-bounded mostStores (scanChecked board work r) (scanOutcome board work r)
       (λ v p.
       let most = owed-most (r .buffered) (scan-running board work r v p .buffered) in
-      let target = scanTarget (v .control .persisted) in
+      let target = scanTarget r (v .control .persisted) in
       either (λ (o : Outcome). length (o .stores) ≤ mostStores) (ltb (r .cursor) (v .slots))
       (omega (arith, most, visiting-cost (undoOf v r) work (r .cursor) target))
       (omega (arith, most, persisting-most board (undoOf v r) work target)))
@@ -116,6 +120,7 @@ module _ (board work : List ℕ) (r : Registers) where
   call-bounded (calls.store address value) = store-bounded address value
   call-bounded (calls.evict address) = evict-bounded address
   call-bounded calls.commit = commit-bounded
+  call-bounded (calls.begin target) = begin-bounded target
   call-bounded calls.scan = scan-bounded
   call-bounded calls.tally = tally-bounded
   call-bounded calls.filterBits = filter-bits-bounded

@@ -8,7 +8,7 @@ use mathlib.Core.List.{List, [], _++_}
 use native.Mathlib.Nat.{mul-suc}
 use native.Mathlib.Omega.{arith}
 use borrow.Author.Tests.{eqb-true}
-use lib.Dec.{eqb}
+use lib.Dec.{leb, eqb}
 use lib.ListN.{length, length-append}
 use Rattle.base.specs.Cases.{either}
 use Rattle.board.specs.Parts.{length-shifted}
@@ -86,7 +86,7 @@ evicting-cost u work spot = either (Costs 1 u) (spot .held) (emptying-cost u wor
 pub visiting-cost : (u : LogState) (work : List ℕ) (k target : ℕ) → Costs 1 u (visiting u work k target)
 unfolding visiting cleaning
 visiting-cost u work k target =
-    either (Costs 1 u) (slotIn work k .dirty && eqb (slotIn work k .tag) target)
+    either (Costs 1 u) (slotIn work k .dirty && leb (slotIn work k .tag) target)
     (writing-cost u work (slotIn work k .address) (dataIn work k))
     (nothing-cost 1 u work)
 
