@@ -2,15 +2,15 @@
  * The PiCL cache log for loom controllers, for firmware in C.
  *
  * The library stands between the controller's one task and the board's nonvolatile memory. It keeps a write-back cache
- * whose lines carry epoch tags, an undo buffer and an undo log on the board, persists one epoch at a time, and after a cut
- * of the mains brings every line back as of ONE epoch, the persisted one.
+ * whose lines carry epoch tags, an undo buffer and an undo log on the board, persists the committed epochs, one in a pass or
+ * several, and after a cut of the mains brings every line back as of ONE epoch, the persisted one.
  *
  * It has no state of its own and allocates nothing: the caller lends it all memory, for the time of a call. Every
  * function answers every input: whatever words the memories hold, whatever the registers and arguments are, the answer
  * and all lent memory afterwards are fixed by what went in, and proved to be what the definitions in
  * crates/picl/specs/Calls.antt, crates/hex/specs/Export.antt and crates/capi/specs/Crossing.antt give.
  *
- * A refusal (1 to 11, 13, 14 and 16 to 18) leaves board and work memory, or the bytes of the record or the text, as they were.
+ * A refusal (1 to 11 and 13 to 18) leaves board and work memory, or the bytes of the record or the text, as they were.
  * The registers too stay as they were, but a refused power-up leaves them zero. The answer is filled, refused or not. Only
  * PICL_TOO_SHORT (255) touches nothing at all.
  *
@@ -54,9 +54,16 @@
  *     word 1                b         how many undo entries are buffered, 0 to 31
  *     word 2                c         the scan's cursor, 0 to S
  *     word 3                d         how many slots are dirty, 0 to S
+ *     word 4                target    the epoch that the pass under way persists, P + 1 to s - 1; 0 outside a pass, as c is
  *
- * A program that was built with a header in which PICL_REGISTER_WORDS was 3 has to be built anew: picl_tally's arguments are
- * others, and every other call that takes registers answers PICL_TOO_SHORT where it is lent three words.
+ * A pass is S + 1 accepted scan calls. Each of the first S visits a slot, and writes out its line if that is dirty with a tag up
+ * to the target; the last one makes the target P. A scan call outside a pass begins one with the target P + 1, and visits slot 0
+ * at once. picl_begin begins one with any target from P + 1 to s - 1, and visits no slot. All other calls may be made in between:
+ * what they store is of the running epoch, which the pass does not persist. A cut or a power-up breaks a pass off, and P stays.
+ *
+ * A program that was built with a header in which PICL_REGISTER_WORDS was 3 or 4 has to be built anew: every call that takes
+ * registers answers PICL_TOO_SHORT where it is lent fewer than five words. When there were three, picl_tally's arguments were
+ * others, too.
  *
  * THE ANSWER is PICL_ANSWER_WORDS words that each call fills, and the number that it returns:
  *
@@ -75,7 +82,8 @@
  *     byte 8 to 15          value     64
  *
  * Address and value are zero for kinds that take none. Power-up has no kind: a trace is what one controller did from its
- * board's first power-up until the current went.
+ * board's first power-up until the current went. Nor has picl_begin, without which the scan calls behind it would do another
+ * pass: a trace ends before it.
  *
  *
  * A HEX RECORD is another thing: a line of text in an Intel HEX file. As such a file a service laptop gets the lines of a board,
@@ -117,8 +125,8 @@
  *    stored later is gone, and so are all of work memory and the registers. A cut in mid-power-up does no harm: power up again.
  *  - A power-up with the current on does the same: it gives up the running epoch and every committed one that still waits.
  *  - After PICL_ROOM (8): nothing was stored. Call picl_scan as long as it answers PICL_OK with value 0 (S + 1 calls at
- *    most). A value other than 0 says that an epoch is persisted, and that its entries are no longer in the log. Store
- *    again. If that epoch had no entries, the store is refused again. So repeat both, scan calls and store, until the store
+ *    most). A value other than 0 says up to which epoch all are persisted, and that their entries are no longer in the log. Store
+ *    again. If these epochs had no entries, the store is refused again. So repeat both, scan calls and store, until the store
  *    is accepted or picl_scan answers PICL_NONE (11).
  *  - After PICL_ROOM and then PICL_NONE: the log holds the running epoch alone, and this epoch needs more entries than L. It
  *    cannot be brought to its end. Do not commit in mid-epoch: that persists lines that do not agree. Give the epoch up: call
@@ -130,6 +138,9 @@
  *    0. When its value is not 0, commit again.
  *  - After PICL_LAST (10): nothing was committed, and the running epoch never can be. The lines have to go to another board:
  *    docs/INTEGRATION.md says how.
+ *  - After PICL_TARGET (15): no pass was begun. Where word 4 of the registers is not 0, one is under way: call picl_scan as long
+ *    as it answers PICL_OK with value 0, and begin again. Where it is 0, the target is not from P + 1 to s - 1. With s = P + 1
+ *    there is no such target, since no epoch waits.
  *  - After PICL_LOGHELD (18): no byte was written. The log has entries, since the board was not powered up after a cut or has
  *    worked since, and the lines on it may be of several epochs. A power-up empties the log: export right after it, before
  *    anything is stored. It gives up the running epoch and those that wait. To have them in the file, first commit, at a moment
@@ -158,7 +169,7 @@ extern "C" {
 /* The words of each lent memory. */
 #define PICL_BOARD_WORDS(lines, entries) (2 + 2 * (size_t)(entries) + (size_t)(lines))
 #define PICL_WORK_WORDS(slots) (2 * (size_t)(slots) + 2 * PICL_BUFFER_ENTRIES + PICL_FILTER_WORDS)
-#define PICL_REGISTER_WORDS 4
+#define PICL_REGISTER_WORDS 5
 #define PICL_ANSWER_WORDS 2
 
 /* The bytes of a record, of a text that has room for every name, and of one that has room for every HEX record. */
@@ -176,21 +187,26 @@ extern "C" {
 #define PICL_BUFFERED 1
 #define PICL_CURSOR 2
 #define PICL_DIRTY 3
+#define PICL_PASS_TARGET 4
 #define PICL_VALUE 0
 #define PICL_STORES 1
+
+/* The persisted epoch P of a board: the control word without log start and log length. */
+#define PICL_PERSISTED(board) ((board)[0] >> 40)
 
 /* The allowance of a call that the current is not to leave. */
 #define PICL_NO_CUT UINT32_MAX
 
 /*
- * The numbers that a call returns; no call returns 15. PICL_TOO_SHORT comes before all others. Of those, the first that applies
- * is returned, in this order of tests, which is not everywhere that of the numbers:
+ * The numbers that a call returns. PICL_TOO_SHORT comes before all others. Of those, the first that applies is returned, in this
+ * order of tests, which is not everywhere that of the numbers:
  *
  *     format                1
  *     power-up              1 2 3 12
  *     load, evict           1 2 4 5 6 4 7 14 12
  *     store                 1 2 4 5 6 4 7 14 8 12
  *     commit                1 2 4 7 14 9 10
+ *     begin                 1 2 4 7 14 15
  *     scan                  1 2 4 6 4 7 14 11 12
  *     tally                 1 2 4
  *     filter_bits           2
@@ -217,6 +233,7 @@ enum {
     PICL_CUT = 12,       /* more stores were due than the allowance: the first of them are on the board */
     PICL_TRACE = 13,     /* trace_write: a kind, an address or a value that has no place in a record */
     PICL_FILTER = 14,    /* a buffered undo entry lacks a bit in the filter */
+    PICL_TARGET = 15,    /* begin: a pass is under way, or the target is not from P + 1 to s - 1 */
     PICL_SHORT = 16,     /* hex_out: the text has fewer than PICL_HEX_BYTES bytes, whatever this record needs */
     PICL_PAST = 17,      /* hex_out: there is no record of that number; after the last one this is the file's end */
     PICL_LOGHELD = 18,   /* hex_out: the log's length is not 0 */
@@ -233,8 +250,8 @@ enum {
 };
 
 /*
- * All but format, tally, filter_bits, hex_out, trace_write and name take an allowance: the number of board stores that the call
- * may make. It stands in for the mains switch on a test bench; a controller passes PICL_NO_CUT. At a cut the first stores, as
+ * All but format, begin, tally, filter_bits, hex_out, trace_write and name take an allowance: the number of board stores that the
+ * call may make. It stands in for the mains switch on a test bench; a controller passes PICL_NO_CUT. At a cut the first stores, as
  * many as allowed, are on the board, and the work memory and the registers are zero.
  *
  * No call but format and power-up makes more than 66 board stores; power-up makes at most one more than the log's length.
@@ -268,8 +285,17 @@ uint64_t picl_commit(const uint64_t *board, size_t board_words, const uint64_t *
                      uint64_t *registers, size_t register_words, uint32_t allowance, uint64_t *answer,
                      size_t answer_words);
 
-/* One step of persisting the oldest epoch that waits: S + 1 accepted calls, with no cut or power-up between them, persist it.
- * Value is the epoch that this call has persisted, or 0. */
+/* The beginning of a pass that persists all epochs up to a target, which is from P + 1 to s - 1: the next S + 1 accepted scan
+ * calls, with no cut or power-up between them, persist them. Before a loom is moved the target is s - 1: every committed epoch.
+ * The target in the registers is all that changes. No slot is visited and no board store made, so it takes no allowance and never
+ * answers PICL_CUT. It tests as commit does up to 14; then it answers PICL_TARGET inside a pass and for any other target, and so,
+ * not by PICL_NONE, where no epoch waits. Value and stores are 0. */
+uint64_t picl_begin(const uint64_t *board, size_t board_words, const uint64_t *work, size_t work_words, uint64_t *registers,
+                    size_t register_words, uint64_t target, uint64_t *answer, size_t answer_words);
+
+/* One step of the pass under way, or else the first of one that persists the oldest epoch that waits. S + 1 accepted calls, with
+ * no cut or power-up between them, persist that epoch; the first S + 1 after picl_begin persist all up to its target. Value is
+ * the epoch that this call has persisted, with all before it, or 0: the last step of a pass gives its target. */
 uint64_t picl_scan(uint64_t *board, size_t board_words, uint64_t *work, size_t work_words, uint64_t *registers,
                    size_t register_words, uint32_t allowance, uint64_t *answer, size_t answer_words);
 

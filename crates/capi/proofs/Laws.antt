@@ -15,18 +15,28 @@ use Rattle.picl.specs.Answers.{Verdict}
 use Rattle.picl.specs.Calls.{formatReport, formatAfter, tallyReport}
 use Rattle.picl.specs.Contracts.{Answers, Formats}
 use Rattle.hex.specs.Export.{exportReport, exportText, Exports}
-use Rattle.capi.specs.Places.{epochAt, bufferedAt, cursorAt, registerWords, answerWords, hasAnswer, hasPlaces, readRegisters}
+use Rattle.capi.specs.Places.{epochAt, bufferedAt, cursorAt, dirtyAt, registerWords, answerWords, hasAnswer, hasPlaces, readRegisters}
 use Rattle.capi.specs.Contracts.{Gives, Reports}
 use Rattle.capi.specs.Crossing.{tooShort, back, crossing, tallyCrossing}
 use Rattle.capi.specs.Crossing.{reported, reporting, formatCrossing, hexCrossing}
 
-pub buffered-within : (registers : List ℕ) (epoch : ℕ) → registerWords ≤ length registers → bufferedAt < length (set registers epochAt epoch)
-buffered-within registers epoch h = rw (length-set registers epochAt epoch) (omega arith)
+-- each register has its place when those before it are written
+module _ (registers : List ℕ) (epoch : ℕ) (lent : registerWords ≤ length registers) where
+  pub buffered-within : bufferedAt < length (set registers epochAt epoch)
+  buffered-within = rw (length-set registers epochAt epoch) (omega arith)
 
-pub cursor-within : (registers : List ℕ) (epoch buffered : ℕ) → registerWords ≤ length registers
-    → cursorAt < length (set (set registers epochAt epoch) bufferedAt buffered)
-cursor-within registers epoch buffered h =
-    rw (length-set (set registers epochAt epoch) bufferedAt buffered, length-set registers epochAt epoch) (omega arith)
+  module _ (buffered : ℕ) where
+    abbrev two : List ℕ
+    two = set (set registers epochAt epoch) bufferedAt buffered
+
+    two-kept : length two ≡ length registers
+    two-kept = length-set (set registers epochAt epoch) bufferedAt buffered ∙ length-set registers epochAt epoch
+
+    pub cursor-within : cursorAt < length two
+    cursor-within = rw two-kept (omega arith)
+
+    pub dirty-within : (cursor : ℕ) → dirtyAt < length (set two cursorAt cursor)
+    dirty-within cursor = rw (length-set two cursorAt cursor, two-kept) (omega arith)
 
 module _ (registers answer : List ℕ) where
   pub registers-lent : hasPlaces registers answer ≡ true → registerWords ≤ length registers

@@ -21,8 +21,11 @@ cursorAt = 2
 abbrev pub dirtyAt : ℕ
 dirtyAt = 3
 
+abbrev pub targetAt : ℕ
+targetAt = 4
+
 abbrev pub registerWords : ℕ
-registerWords = 4
+registerWords = 5
 
 abbrev pub valueAt : ℕ
 valueAt = 0
@@ -44,11 +47,12 @@ unfoldable pub hasRecordPlaces : (bytes answer : List ℕ) → Bool
 hasRecordPlaces bytes answer = leb recordBytes (length bytes) && hasAnswer answer
 
 unfoldable pub readRegisters : List ℕ → Registers
-readRegisters words = given (getD words epochAt 0) (getD words bufferedAt 0) (getD words cursorAt 0) (getD words dirtyAt 0)
+readRegisters words =
+    given (getD words epochAt 0) (getD words bufferedAt 0) (getD words cursorAt 0) (getD words dirtyAt 0) (getD words targetAt 0)
 
 abbrev pub writeRegisters : List ℕ → Registers → List ℕ
 writeRegisters words r =
-    set (set (set (set words epochAt (r .epoch)) bufferedAt (r .buffered)) cursorAt (r .cursor)) dirtyAt (r .dirty)
+    set (set (set (set (set words epochAt (r .epoch)) bufferedAt (r .buffered)) cursorAt (r .cursor)) dirtyAt (r .dirty)) targetAt (r .target)
 
 abbrev pub writeAnswer : List ℕ → (value stores : ℕ) → List ℕ
 writeAnswer words value stores = set (set words valueAt value) storesAt stores

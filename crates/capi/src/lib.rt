@@ -6,11 +6,13 @@ mod recording;
 
 ghost use mathlib.Core.Path.{_≡_};
 ghost use Rattle.picl.specs.Calls as call;
+ghost use Rattle.picl.specs.Calls.{noAllowance};
 ghost use Rattle.capi.specs.Crossing.{back, callCrossing};
 ghost use Rattle.capi.specs.Crossing.{powerUpCrossing, reported, formatCrossing, tallyCrossing, filterBitsCrossing, hexCrossing, recordCrossing, nameCrossing};
 use picl::Report;
 use places::TOO_SHORT;
 use places::give;
+use places::give_line;
 use places::has_answer;
 use places::has_places;
 use places::report;
@@ -68,7 +70,7 @@ pub extern "C" fn picl_load(
         return TOO_SHORT;
     }
     let given = reading::load(board, work, registers, address, allowance);
-    give(registers, answer, given)
+    give_line(registers, answer, given)
 }
 
 #[no_mangle]
@@ -88,7 +90,7 @@ pub extern "C" fn picl_store(
         return TOO_SHORT;
     }
     let given = reading::store(board, work, registers, address, value, allowance);
-    give(registers, answer, given)
+    give_line(registers, answer, given)
 }
 
 #[no_mangle]
@@ -107,7 +109,7 @@ pub extern "C" fn picl_evict(
         return TOO_SHORT;
     }
     let given = reading::evict(board, work, registers, address, allowance);
-    give(registers, answer, given)
+    give_line(registers, answer, given)
 }
 
 #[no_mangle]
@@ -125,6 +127,24 @@ pub extern "C" fn picl_commit(
         return TOO_SHORT;
     }
     let given = reading::commit(board, work, registers, allowance);
+    give(registers, answer, given)
+}
+
+#[no_mangle]
+pub extern "C" fn picl_begin(
+    board: &[u64],
+    work: &[u64],
+    registers: &mut [u64],
+    target: u64,
+    answer: &mut [u64],
+) -> u64
+    ensures { λ r. ⌜ back r (now (board .entry)) (now (work .entry)) (now (registers .exit)) (now (answer .exit))
+        ≡ callCrossing (call.begin target) noAllowance (now (board .entry)) (now (work .entry)) (now (registers .entry)) (now (answer .entry)) ⌝ }
+{
+    if !has_places(registers, answer) {
+        return TOO_SHORT;
+    }
+    let given = reading::begin(board, work, registers, target);
     give(registers, answer, given)
 }
 

@@ -4,7 +4,7 @@ ghost use mathlib.Core.Bool.{true};
 ghost use Prim.Native.Nat.{_≤_};
 ghost use lib.ListN.{length};
 ghost use Rattle.capi.specs.Places.{registerWords, answerWords, hasAnswer, hasPlaces, readRegisters, writeRegisters, writeAnswer};
-ghost use Rattle.capi.specs.Contracts.{Gives, Reports};
+ghost use Rattle.capi.specs.Contracts.{Gives, Reports, withPass, LeavesPass};
 use checks::Registers;
 use picl::Answer;
 use picl::Report;
@@ -17,7 +17,9 @@ const CURSOR_AT: usize = 2;
 
 const DIRTY_AT: usize = 3;
 
-const REGISTER_WORDS: usize = 4;
+const TARGET_AT: usize = 4;
+
+const REGISTER_WORDS: usize = 5;
 
 const VALUE_AT: usize = 0;
 
@@ -52,6 +54,7 @@ pub fn read_registers(registers: &[u64]) -> Registers
         registers[BUFFERED_AT],
         registers[CURSOR_AT],
         registers[DIRTY_AT],
+        registers[TARGET_AT],
     )
 }
 
@@ -63,6 +66,7 @@ fn write_registers(registers: &mut [u64], new: Registers)
     registers[BUFFERED_AT] = new.buffered;
     registers[CURSOR_AT] = new.cursor;
     registers[DIRTY_AT] = new.dirty;
+    registers[TARGET_AT] = new.target;
 }
 
 fn write_answer(answer: &mut [u64], value: u64, stores: u32)
@@ -82,6 +86,44 @@ pub fn give(registers: &mut [u64], answer: &mut [u64], given: Answer) -> u64
     write_registers(registers, given.registers);
     write_answer(answer, given.value, given.stores);
     status.number()
+}
+
+// s, c and the target where they stand, and the rest of other registers.
+fn with_pass(registers: &[u64], left: Registers) -> Registers
+    requires { ⌜ registerWords ≤ length (now registers) ⌝ }
+    ensures { λ r. ⌜ r ≡ withPass (readRegisters (now (registers .entry))) left ⌝ }
+{
+    Registers::given(
+        registers[EPOCH_AT],
+        left.buffered,
+        registers[CURSOR_AT],
+        left.dirty,
+        registers[TARGET_AT],
+    )
+}
+
+// The same for a call on one line. Unless it was cut it leaves s, c and the target as they were, so they are read again here: to carry them
+// through the call would cost more.
+pub fn give_line(registers: &mut [u64], answer: &mut [u64], given: Answer) -> u64
+    requires { ⌜ hasPlaces (now registers) (now answer) ≡ true ⌝ }
+    requires { ⌜ LeavesPass (readRegisters (now registers)) given ⌝ }
+    ensures { λ r. ⌜ Gives (now (registers .entry)) (now (answer .entry)) given (now (registers .exit)) (now (answer .exit)) r ⌝ }
+{
+    let status = given.status;
+    if status.is_cut() {
+        return give(registers, answer, given);
+    }
+    let left = with_pass(registers, given.registers);
+    give(
+        registers,
+        answer,
+        Answer {
+            status,
+            value: given.value,
+            stores: given.stores,
+            registers: left,
+        },
+    )
 }
 
 // The same for a call without registers.

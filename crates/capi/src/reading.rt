@@ -3,7 +3,7 @@ ghost use Prim.Native.Nat.{_≤_};
 ghost use lib.ListN.{length};
 ghost use mathlib.Core.Path.{_≡_};
 ghost use Rattle.picl.specs.Calls as call;
-ghost use Rattle.picl.specs.Calls.{tallyReport};
+ghost use Rattle.picl.specs.Calls.{noAllowance, tallyReport};
 ghost use Rattle.picl.specs.Contracts.{Calls};
 ghost use Rattle.capi.specs.Places.{registerWords, readRegisters};
 use crate::places::read_registers;
@@ -62,6 +62,13 @@ pub fn commit(board: &[u64], work: &[u64], registers: &[u64], allowance: u32) ->
     ensures { λ r. ⌜ Calls call.commit allowance (readRegisters (now (registers .entry))) (now (board .entry)) (now (work .entry)) (now (board .entry)) (now (work .entry)) r ⌝ }
 {
     picl::commit(board, work, read_registers(registers), allowance)
+}
+
+pub fn begin(board: &[u64], work: &[u64], registers: &[u64], target: u64) -> Answer
+    requires { ⌜ registerWords ≤ length (now registers) ⌝ }
+    ensures { λ r. ⌜ Calls (call.begin target) noAllowance (readRegisters (now (registers .entry))) (now (board .entry)) (now (work .entry)) (now (board .entry)) (now (work .entry)) r ⌝ }
+{
+    picl::begin(board, work, read_registers(registers), target)
 }
 
 pub fn scan(board: &mut [u64], work: &mut [u64], registers: &[u64], allowance: u32) -> Answer

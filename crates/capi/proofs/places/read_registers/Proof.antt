@@ -15,6 +15,9 @@ shared-slice-read-given-3 c = search needs
 shared-slice-read-given-4 : tie.Need-shared-slice-read-given-4
 shared-slice-read-given-4 c = search needs
 
+shared-slice-read-given-5 : tie.Need-shared-slice-read-given-5
+shared-slice-read-given-5 c = search needs
+
 given-requires : tie.Need-given-requires
 given-requires c κs = search needs
 
@@ -30,5 +33,6 @@ read-registers-spec =
     shared-slice-read-given-2
     shared-slice-read-given-3
     shared-slice-read-given-4
+    shared-slice-read-given-5
     given-requires
     returns)

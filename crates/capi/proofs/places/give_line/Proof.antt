@@ -1,0 +1,50 @@
+use Rattle.capi.proofs.Laws.{registers-lent}
+use Rattle.capi.proofs.Lines.{gives-again}
+use borrow.Author.Needs.{needs}
+use Rattle.capi.proofs.places.give_line.Statement.{statement}
+use Rattle.capi.proofs.places.give_line.Tie as tie
+
+is-cut-requires : tie.Need-is-cut-requires
+is-cut-requires c κs = search needs
+
+give-requires : tie.Need-give-requires
+give-requires c κs = search needs
+
+same-length : tie.Need-same-length
+same-length c = search needs
+
+same-length-2 : tie.Need-same-length-2
+same-length-2 c = search needs
+
+returns : tie.Need-returns
+returns c = search needs
+
+with-pass-requires : tie.Need-with-pass-requires
+with-pass-requires c κs = search (registers-lent)
+
+give-requires-2 : tie.Need-give-requires-2
+give-requires-2 c κs = search needs
+
+same-length-3 : tie.Need-same-length-3
+same-length-3 c = search needs
+
+same-length-4 : tie.Need-same-length-4
+same-length-4 c = search needs
+
+returns-2 : tie.Need-returns-2
+returns-2 c = search (gives-again)
+
+pub give-line-spec : {M : Type 1} → statement M
+give-line-spec =
+    tie.close
+    (tie.spec
+    is-cut-requires
+    give-requires
+    same-length
+    same-length-2
+    returns
+    with-pass-requires
+    give-requires-2
+    same-length-3
+    same-length-4
+    returns-2)
