@@ -26,7 +26,7 @@ use Rattle.volatile.specs.Slotted.{slot-kind, clean-cached}
 use Rattle.volatile.specs.Stores.{Stored, zeroed-empty, zeroed-held}
 use Rattle.layout.specs.ZeroWord.{emptySlot}
 use Rattle.volatile.specs.View.{volatileOf, withLines}
-use Rattle.refine.specs.Pass.{pass-cleaned}
+use Rattle.refine.specs.Pass.{Sweep, pass-cleaned}
 use Rattle.refine.specs.State.{Ok}
 use Rattle.refine.specs.Along.{along-none}
 use Rattle.refine.specs.Flush.{Keeps}
@@ -39,7 +39,7 @@ update-again f a x y =
     (update-same (update f a x) a y ∙ sym (update-same f a y))
     (λ c away. update-other (update f a x) a y c away ∙ update-other f a x c away ∙ sym (update-other f a y c away)) c i
 
-module _ {L : ℕ} {b : Bounds} {c : ℕ} {board work : List ℕ} {u : LogState} {g : Reference} (o : Ok L b c board work u g) (k : ℕ)
+module _ {L : ℕ} {b : Bounds} {at : Sweep} {board work : List ℕ} {u : LogState} {g : Reference} (o : Ok L b at board work u g) (k : ℕ)
     (below : k < b .slots) where
   abbrev w : Volatile
   w = volatileOf work (b .slots) (b .epoch) (u .buffered)
@@ -47,29 +47,29 @@ module _ {L : ℕ} {b : Bounds} {c : ℕ} {board work : List ℕ} {u : LogState}
   -- a slot that makes no store
   quiet : {s : Slot} {word : ℕ} {lines : ℕ → Line} {work′ : List ℕ} → Stored b work k s word lines work′ → s .dirty ≡ false
       → Live (b .lines) mostAhead (o .durable) (withLines w lines) g
-      → Keeps L b c board g (record { stores = []; undo = u; work = work′ }) c g
+      → Keeps L b board g (record { stores = []; undo = u; work = work′ }) at g
   unfolding applied
   quiet st clean-slot live =
       record {
         along = along-none (b .lines) L board g;
         after =
-            ok-with o st c (pass-cleaned (o .pass) st clean-slot) board
+            ok-with o st at (pass-cleaned (o .pass) st clean-slot) board
             (o .durable) (o .reads) (o .persisted) g (o .safe) live;
       }
 
-  empty-keeps : slotIn work k ≡ emptySlot → Keeps L b c board g (emptying u work k) c g
+  empty-keeps : slotIn work k ≡ emptySlot → Keeps L b board g (emptying u work k) at g
   unfolding emptying writingBack
   empty-keeps e = rw e (quiet (zeroed-empty (o .slotted) k below e) refl (o .live))
 
   module _ (a : ℕ) (home : AtHome b k a) where
-    clean-keeps : slotIn work k ≡ cleanSlot a → Keeps L b c board g (emptying u work k) c g
+    clean-keeps : slotIn work k ≡ cleanSlot a → Keeps L b board g (emptying u work k) at g
     unfolding emptying writingBack
     clean-keeps e =
         rw e
         (quiet (zeroed-held (o .slotted) k below a (clean-holds work k a e)) refl
         (discard-live (o .live) a (clean-cached (o .slotted) k a below e)))
 
-    dirty-keeps : (tag : ℕ) → slotIn work k ≡ dirtySlot a tag → b .persisted < tag → tag ≤ b .epoch → Keeps L b c board g (emptying u work k) c g
+    dirty-keeps : (tag : ℕ) → slotIn work k ≡ dirtySlot a tag → b .persisted < tag → tag ≤ b .epoch → Keeps L b board g (emptying u work k) at g
     unfolding emptying writingBack writingOut
     dirty-keeps tag e lo hi =
         let t = hits (bufferIn work) (u .buffered) a in
@@ -77,17 +77,17 @@ module _ {L : ℕ} {b : Bounds} {c : ℕ} {board work : List ℕ} {u : LogState}
         let h = dirty-holds (flushingIf t u work .work) k a tag (flushed-slot o k below a tag home e t refl) in
         let st = zeroed-held (x .after .slotted) k below a h in
         rw e
-        (written-keeps o k below a tag home e t refl absent st c
+        (written-keeps o k below a tag home e t refl absent st at
         (pass-cleaned (x .after .pass) st refl)
         (subst
         (λ (lines : ℕ → Line). Live (b .lines) mostAhead (written (x .after .durable) a (dataIn work k)) (withLines (volatileOf (flushingIf t u work .work) (b .slots) (b .epoch) (flushingIf t u work .undo .buffered)) lines) g)
         (update-again (cacheOf (flushingIf t u work .work) (b .slots)) a (clean (dataIn work k)) absent)
         (discard-live (written-live o k below a tag home e t refl) a (update-same (cacheOf (flushingIf t u work .work) (b .slots)) a (clean (dataIn work k))))))
 
-  pub emptying-keeps : Keeps L b c board g (emptying u work k) c g
+  pub emptying-keeps : Keeps L b board g (emptying u work k) at g
   emptying-keeps = go (slot-kind (o .slotted) k below)
     where
-      go : ProperSlot b k (slotIn work k) → Keeps L b c board g (emptying u work k) c g
+      go : ProperSlot b k (slotIn work k) → Keeps L b board g (emptying u work k) at g
       go (is-empty e) = empty-keeps e
       go (is-full a home (is-clean e)) = clean-keeps a home e
       go (is-full a home (is-dirty tag e lo hi)) = dirty-keeps a home tag e lo hi

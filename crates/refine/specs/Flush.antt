@@ -19,27 +19,27 @@ use Rattle.durable.specs.Flush.{flush-cut, flush-reads}
 use Rattle.volatile.specs.Filter.{flushed-exact}
 use Rattle.volatile.specs.Slotted.{with-slotted}
 use Rattle.volatile.specs.View.{volatileOf, flushed-words, view-flushed}
-use Rattle.refine.specs.Pass.{pass-with}
+use Rattle.refine.specs.Pass.{Sweep, pass-with}
 use Rattle.refine.specs.State.{Off, Ok}
 use Rattle.refine.specs.Along.{Along, along-none}
 
 -- What an effect keeps: every cut of its stores leaves a board that recovers, and all of them a controller at work.
-pub record Keeps (L : ℕ) (b : Bounds) (c : ℕ) (board : List ℕ) (g : Reference) (e : Effect) (c′ : ℕ) (g′ : Reference) : Type 0 where
+pub record Keeps (L : ℕ) (b : Bounds) (board : List ℕ) (g : Reference) (e : Effect) (at : Sweep) (g′ : Reference) : Type 0 where
   pub along : Along (b .lines) L board g (e .stores)
-  pub after : Ok L b c′ (applied board (e .stores)) (e .work) (e .undo) g′
+  pub after : Ok L b at (applied board (e .stores)) (e .work) (e .undo) g′
 
-module _ {L : ℕ} {b : Bounds} {c : ℕ} {board work : List ℕ} {u : LogState} {g : Reference} (o : Ok L b c board work u g) where
+module _ {L : ℕ} {b : Bounds} {at : Sweep} {board work : List ℕ} {u : LogState} {g : Reference} (o : Ok L b at board work u g) where
   pub ok-off : Off (b .lines) L board g
   ok-off = record { control = u .control; durable = o .durable; reads = o .reads; safe = o .safe }
 
-  pub nothing-keeps : Keeps L b c board g (nothing u work) c g
+  pub nothing-keeps : Keeps L b board g (nothing u work) at g
   unfolding applied
   nothing-keeps = record { along = along-none (b .lines) L board g; after = o }
 
   abbrev w : Volatile
   w = volatileOf work (b .slots) (b .epoch) (u .buffered)
 
-  pub flushing-keeps : Keeps L b c board g (flushing u work) c g
+  pub flushing-keeps : Keeps L b board g (flushing u work) at g
   unfolding undo.flushed
   flushing-keeps =
       let held : u .control .length + u .buffered ≤ u .entries = omega (arith, o .ring, o .room) in
@@ -73,7 +73,7 @@ module _ {L : ℕ} {b : Bounds} {c : ℕ} {board work : List ℕ} {u : LogState}
             };
       }
 
-  pub flushing-if-keeps : (t : Bool) → Keeps L b c board g (flushingIf t u work) c g
+  pub flushing-if-keeps : (t : Bool) → Keeps L b board g (flushingIf t u work) at g
   unfolding flushingIf
   flushing-if-keeps true = flushing-keeps
   flushing-if-keeps false = nothing-keeps

@@ -21,21 +21,21 @@ use Rattle.volatile.specs.Proper.{AtHome, FullSlot, is-clean, is-dirty}
 use Rattle.volatile.specs.Slotted.{slot-full, clean-cached, dirty-cached}
 use Rattle.volatile.specs.Moves.{moved-empty, alone-moved}
 use Rattle.volatile.specs.Stores.{filled-empty}
-use Rattle.refine.specs.Pass.{pass-cleaned}
+use Rattle.refine.specs.Pass.{Sweep, pass-cleaned}
 use Rattle.refine.specs.State.{Ok}
 use Rattle.refine.specs.Flush.{Keeps, nothing-keeps}
 use Rattle.refine.specs.WriteOut.{ok-with}
 use Rattle.refine.specs.Empty.{emptying-keeps, emptying-slot, Fewer, same-fewer, emptying-fewer}
 
 -- a held line's data is the reference machine's line
-pub full-reads : {L : ℕ} {b : Bounds} {c : ℕ} {board work : List ℕ} {u : LogState} {g : Reference} → Ok L b c board work u g → (k a : ℕ)
+pub full-reads : {L : ℕ} {b : Bounds} {at : Sweep} {board work : List ℕ} {u : LogState} {g : Reference} → Ok L b at board work u g → (k a : ℕ)
     → k < b .slots → FullSlot b a (slotIn work k) → dataIn work k ≡ g .lines a
 full-reads o k a below (is-clean e) = held-as (o .live) a (clean-cached (o .slotted) k a below e) .0
 full-reads o k a below (is-dirty tag e lo hi) = held-as (o .live) a (dirty-cached (o .slotted) k a below tag e) .current
 
-module _ {L : ℕ} {b : Bounds} {c : ℕ} {board work : List ℕ} {u : LogState} {g : Reference} (o : Ok L b c board work u g) (k : ℕ)
+module _ {L : ℕ} {b : Bounds} {at : Sweep} {board work : List ℕ} {u : LogState} {g : Reference} (o : Ok L b at board work u g) (k : ℕ)
     (below : k < b .slots) (a : ℕ) (home : AtHome b k a) (alone : Alone work (b .slots) k a) where
-  pub emptied : Keeps L b c board g (emptying u work k) c g
+  pub emptied : Keeps L b board g (emptying u work k) at g
   emptied = emptying-keeps o k below
 
   abbrev board′ : List ℕ
@@ -54,7 +54,7 @@ module _ {L : ℕ} {b : Bounds} {c : ℕ} {board work : List ℕ} {u : LogState}
       cache-at (emptying u work k .work) (b .slots) k a below still-alone
       ∙ rw (emptying-slot o k below) (empty-held (dataIn (emptying u work k .work) k) a)
 
-  pub bringing-keeps : Keeps L b c board g (bringing board u work k a) c g
+  pub bringing-keeps : Keeps L b board g (bringing board u work k a) at g
   unfolding bringing
   bringing-keeps =
       let line = lineIn board′ u a in
@@ -62,7 +62,7 @@ module _ {L : ℕ} {b : Bounds} {c : ℕ} {board work : List ℕ} {u : LogState}
       record {
         along = emptied .along;
         after =
-            ok-with (emptied .after) st c (pass-cleaned (emptied .after .pass) st refl) board′
+            ok-with (emptied .after) st at (pass-cleaned (emptied .after .pass) st refl) board′
             (emptied .after .durable) (emptied .after .reads) (emptied .after .persisted) g (emptied .after .safe)
             (rw line-same (fill-live (emptied .after .live) a absent-now));
       }
@@ -78,11 +78,11 @@ module _ {L : ℕ} {b : Bounds} {c : ℕ} {board work : List ℕ} {u : LogState}
     abbrev spot : Spot
     spot = record { slot = k; held = held }
 
-    pub loading-keeps : Keeps L b c board g (loading board u work a spot) c g
+    pub loading-keeps : Keeps L b board g (loading board u work a spot) at g
     unfolding loading
     loading-keeps = go held
       where
-        go : (t : Bool) → Keeps L b c board g (loading board u work a (record { slot = k; held = t })) c g
+        go : (t : Bool) → Keeps L b board g (loading board u work a (record { slot = k; held = t })) at g
         go true = nothing-keeps o
         go false = bringing-keeps
 

@@ -14,7 +14,7 @@ use Rattle.durable.specs.View.{Reads}
 use Rattle.volatile.specs.Filter.{Exact}
 use Rattle.volatile.specs.Slotted.{Slotted}
 use Rattle.volatile.specs.View.{volatileOf}
-use Rattle.refine.specs.Pass.{Pass}
+use Rattle.refine.specs.Pass.{Sweep, Pass}
 
 -- A board of N lines and L log entries that recovers to the reference machine's copy of the persisted epoch: what every cut has to
 -- leave.
@@ -24,8 +24,8 @@ pub record Off (N L : ℕ) (board : List ℕ) (g : Reference) : Type 0 where
   pub reads : Reads N L board control durable
   pub safe : Safe N mostAhead durable g
 
--- A controller at work on such a board: the log's numbers u with which a call goes on, and the cursor c of the scan.
-pub record Ok (L : ℕ) (b : Bounds) (c : ℕ) (board work : List ℕ) (u : LogState) (g : Reference) : Type 0 where
+-- A controller at work on such a board: the log's numbers u with which a call goes on, and where the scan's pass is.
+pub record Ok (L : ℕ) (b : Bounds) (at : Sweep) (board work : List ℕ) (u : LogState) (g : Reference) : Type 0 where
   pub durable : Durable
   pub reads : Reads (b .lines) L board (u .control) durable
   pub ring : u .entries ≡ L
@@ -37,6 +37,6 @@ pub record Ok (L : ℕ) (b : Bounds) (c : ℕ) (board work : List ℕ) (u : LogS
   pub places : u .buffered ≤ bufferPlaces
   -- request 3/13: the filter is exactly the bits of the buffered entries
   pub filter : Exact (bufferIn work) (u .buffered)
-  pub pass : Pass b work c
+  pub pass : Pass b work at
   pub safe : Safe (b .lines) mostAhead durable g
   pub live : Live (b .lines) mostAhead durable (volatileOf work (b .slots) (b .epoch) (u .buffered)) g

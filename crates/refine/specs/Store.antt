@@ -27,13 +27,13 @@ use Rattle.volatile.specs.Proper.{AtHome, FullSlot, is-clean, is-dirty, clean-h
 use Rattle.volatile.specs.Slotted.{clean-cached, dirty-cached}
 use Rattle.volatile.specs.Stores.{dirtied-held}
 use Rattle.volatile.specs.View.{volatileOf, undoFields, marked-stored, view-marked}
-use Rattle.refine.specs.Pass.{pass-logged, pass-dirtied}
+use Rattle.refine.specs.Pass.{Sweep, pass-logged, pass-dirtied}
 use Rattle.refine.specs.State.{Ok}
 use Rattle.refine.specs.Along.{along-none, off-for}
 use Rattle.refine.specs.Flush.{Keeps, flushing-if-keeps}
 use Rattle.refine.specs.WriteOut.{ok-with}
 
-module _ {L : ℕ} {b : Bounds} {c : ℕ} {board work : List ℕ} {u : LogState} {g : Reference} (o : Ok L b c board work u g) (k : ℕ)
+module _ {L : ℕ} {b : Bounds} {at : Sweep} {board work : List ℕ} {u : LogState} {g : Reference} (o : Ok L b at board work u g) (k : ℕ)
     (below : k < b .slots) (a : ℕ) (home : AtHome b k a) (value : ℕ) where
   abbrev w : Volatile
   w = volatileOf work (b .slots) (b .epoch) (u .buffered)
@@ -54,7 +54,7 @@ module _ {L : ℕ} {b : Bounds} {c : ℕ} {board work : List ℕ} {u : LogState}
     entry-fits : EntryFits (undoFields (b .epoch) a from)
     entry-fits = record { address = home .fits; from = omega (arith, fits); till = fits }
 
-    logged-ok : Ok L b c board work′ (counted u) (stores g a value)
+    logged-ok : Ok L b at board work′ (counted u) (stores g a value)
     logged-ok =
         let st = marked-stored (o .slotted) u k a below h ahead fits (dataIn work k) value (undoFields (b .epoch) a from) in
         record {
@@ -67,7 +67,7 @@ module _ {L : ℕ} {b : Bounds} {c : ℕ} {board work : List ℕ} {u : LogState}
           room = omega arith;
           places = omega arith;
           filter = rw (st .buffer) (logged-exact (o .slotted) u (o .filter) (undoFields (b .epoch) a from) (dataIn work k) place entry-fits);
-          pass = pass-dirtied c (pass-logged (o .pass) (o .slotted) u (undoFields (b .epoch) a from) (dataIn work k)) st;
+          pass = pass-dirtied (pass-logged (o .pass) (o .slotted) u (undoFields (b .epoch) a from) (dataIn work k)) st;
           safe = store-safe (o .safe) a value;
           live =
               subst (λ (x : Volatile). Live (b .lines) mostAhead (o .durable) x (stores g a value))
@@ -75,7 +75,7 @@ module _ {L : ℕ} {b : Bounds} {c : ℕ} {board work : List ℕ} {u : LogState}
         }
 
     -- "at 32 the buffer is flushed at once"
-    logged-keeps : Keeps L b c board g (flushingIf (eqb (u .buffered + 1) bufferPlaces) (counted u) work′) c (stores g a value)
+    logged-keeps : Keeps L b board g (flushingIf (eqb (u .buffered + 1) bufferPlaces) (counted u) work′) at (stores g a value)
     logged-keeps =
         let x = flushing-if-keeps logged-ok (eqb (u .buffered + 1) bufferPlaces) in
         record { along = λ i p. off-for refl refl (x .along i p); after = x .after }
@@ -85,7 +85,7 @@ module _ {L : ℕ} {b : Bounds} {c : ℕ} {board work : List ℕ} {u : LogState}
     named : u .control .persisted ≡ b .persisted
     named = reads-persisted (o .reads) ∙ sym (o .persisted)
 
-    clean-keeps : slotIn work k ≡ cleanSlot a → Keeps L b c board g (storingHeld u work k a (b .epoch) value) c (stores g a value)
+    clean-keeps : slotIn work k ≡ cleanSlot a → Keeps L b board g (storingHeld u work k a (b .epoch) value) at (stores g a value)
     unfolding storingHeld entryDue entryFor
     clean-keeps e =
         let due : u .control .length + u .buffered + 1 ≤ L = room (rw e) in
@@ -102,7 +102,7 @@ module _ {L : ℕ} {b : Bounds} {c : ℕ} {board work : List ℕ} {u : LogState}
       cached : w .cache a ≡ dirty tag (dataIn work k)
       cached = dirty-cached (o .slotted) k a below tag e
 
-      committed-keeps : tag < b .epoch → Keeps L b c board g (storingHeld u work k a (b .epoch) value) c (stores g a value)
+      committed-keeps : tag < b .epoch → Keeps L b board g (storingHeld u work k a (b .epoch) value) at (stores g a value)
       unfolding storingHeld entryDue entryFor
       committed-keeps early =
           let other : eqb tag (b .epoch) ≡ false = ne-eqb tag (b .epoch) (omega arith) in
@@ -110,7 +110,7 @@ module _ {L : ℕ} {b : Bounds} {c : ℕ} {board work : List ℕ} {u : LogState}
           rw (e, other)
           (logged-keeps held tag early place due (store-committed-live (o .live) a value cached early (home .inside)))
 
-      transient-keeps : tag ≡ b .epoch → Keeps L b c board g (storingHeld u work k a (b .epoch) value) c (stores g a value)
+      transient-keeps : tag ≡ b .epoch → Keeps L b board g (storingHeld u work k a (b .epoch) value) at (stores g a value)
       unfolding storingHeld entryDue applied
       transient-keeps now =
           let st = dirtied-held (o .slotted) k below a held (b .epoch) value ahead (omega arith) fits in
@@ -119,14 +119,14 @@ module _ {L : ℕ} {b : Bounds} {c : ℕ} {board work : List ℕ} {u : LogState}
           record {
             along = along-none (b .lines) L board g;
             after =
-                ok-with o st c (pass-dirtied c (o .pass) st) board (o .durable) (o .reads) (o .persisted)
+                ok-with o st at (pass-dirtied (o .pass) st) board (o .durable) (o .reads) (o .persisted)
                 (stores g a value) (store-safe (o .safe) a value) (store-transient-live (o .live) a value again);
           }
 
-    pub storing-held-keeps : FullSlot b a (slotIn work k) → Keeps L b c board g (storingHeld u work k a (b .epoch) value) c (stores g a value)
+    pub storing-held-keeps : FullSlot b a (slotIn work k) → Keeps L b board g (storingHeld u work k a (b .epoch) value) at (stores g a value)
     storing-held-keeps (is-clean e) = clean-keeps e
     storing-held-keeps (is-dirty tag e lo hi) = go (ℕ-discrete tag (b .epoch))
       where
-        go : Dec (tag ≡ b .epoch) → Keeps L b c board g (storingHeld u work k a (b .epoch) value) c (stores g a value)
+        go : Dec (tag ≡ b .epoch) → Keeps L b board g (storingHeld u work k a (b .epoch) value) at (stores g a value)
         go (yes p) = transient-keeps tag e lo hi p
         go (no p) = committed-keeps tag e lo hi (omega arith)

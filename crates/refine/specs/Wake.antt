@@ -23,7 +23,7 @@ use Rattle.volatile.specs.Proper.{withEpochs}
 use Rattle.volatile.specs.Slotted.{WholeSets, zeroWork, zero-slotted}
 use Rattle.volatile.specs.Swept.{commit-slotted}
 use Rattle.volatile.specs.View.{view-awake, view-commit}
-use Rattle.refine.specs.Pass.{pass-none, pass-commit}
+use Rattle.refine.specs.Pass.{Sweep, idle, pass-none, pass-commit}
 use Rattle.refine.specs.State.{Off, Ok}
 use Rattle.refine.specs.Along.{Along}
 
@@ -52,7 +52,7 @@ module _ {N L : ℕ} {board : List ℕ} {g : Reference} (off : Off N L board g) 
   wakeBounds slots = record { lines = N; slots = slots; persisted = off .control .persisted; epoch = off .control .persisted + 1 }
 
   pub waking-ok : (slots : ℕ) → WholeSets slots
-      → Ok L (wakeBounds slots) 0 (applied board (recoverStores board u)) (zeroWork slots) (undoWith (undo.emptied (off .control)) L) (wakes g)
+      → Ok L (wakeBounds slots) idle (applied board (recoverStores board u)) (zeroWork slots) (undoWith (undo.emptied (off .control)) L) (wakes g)
   waking-ok slots sets =
       let p : off .control .persisted ≡ off .durable .persisted = reads-persisted (off .reads) in
       record {
@@ -73,8 +73,8 @@ module _ {N L : ℕ} {board : List ℕ} {g : Reference} (off : Off N L board g) 
 
 -- ---- commit
 
-pub commit-ok : {L : ℕ} {b : Bounds} {c : ℕ} {board work : List ℕ} {u : LogState} {g : Reference} → Ok L b c board work u g → b .epoch < lastEpoch
-    → b .epoch < b .persisted + mostAhead → Ok L (withEpochs b (b .persisted) (b .epoch + 1)) c board work u (commits g)
+pub commit-ok : {L : ℕ} {b : Bounds} {at : Sweep} {board work : List ℕ} {u : LogState} {g : Reference} → Ok L b at board work u g → b .epoch < lastEpoch
+    → b .epoch < b .persisted + mostAhead → Ok L (withEpochs b (b .persisted) (b .epoch + 1)) at board work u (commits g)
 commit-ok {b = b} {work = work} {u = u} o early window =
     record {
       durable = o .durable;

@@ -27,18 +27,18 @@ use Rattle.volatile.specs.Proper.{AtHome}
 use Rattle.volatile.specs.Slotted.{Slotted, dirty-cached, with-slot, with-value}
 use Rattle.volatile.specs.Stores.{Stored, LineStored}
 use Rattle.volatile.specs.View.{volatileOf, withLines, view-stored, flushed-words}
-use Rattle.refine.specs.Pass.{Pass}
+use Rattle.refine.specs.Pass.{Sweep, Pass}
 use Rattle.refine.specs.State.{Ok}
 use Rattle.refine.specs.Along.{along-one, along-then}
 use Rattle.refine.specs.Flush.{Keeps, ok-off, flushing-if-keeps}
 
 -- Slot k is stored to, and the board may have moved: all else stays.
-pub ok-with : {L : ℕ} {b : Bounds} {c : ℕ} {board work : List ℕ} {u : LogState} {g : Reference} (o : Ok L b c board work u g) {k : ℕ} {s : Slot} {word : ℕ}
-    {lines : ℕ → Line} {work′ : List ℕ} → Stored b work k s word lines work′ → (c′ : ℕ) → Pass b work′ c′
+pub ok-with : {L : ℕ} {b : Bounds} {at : Sweep} {board work : List ℕ} {u : LogState} {g : Reference} (o : Ok L b at board work u g) {k : ℕ} {s : Slot} {word : ℕ}
+    {lines : ℕ → Line} {work′ : List ℕ} → Stored b work k s word lines work′ → (at′ : Sweep) → Pass b work′ at′
     → (board′ : List ℕ) (d : Durable) → Reads (b .lines) L board′ (u .control) d → b .persisted ≡ d .persisted → (g′ : Reference)
     → Safe (b .lines) mostAhead d g′
-    → Live (b .lines) mostAhead d (withLines (volatileOf work (b .slots) (b .epoch) (u .buffered)) lines) g′ → Ok L b c′ board′ work′ u g′
-ok-with {b = b} {u = u} o st c′ pass board′ d reads named g′ safe live =
+    → Live (b .lines) mostAhead d (withLines (volatileOf work (b .slots) (b .epoch) (u .buffered)) lines) g′ → Ok L b at′ board′ work′ u g′
+ok-with {b = b} {u = u} o st at′ pass board′ d reads named g′ safe live =
     record {
       durable = d;
       reads = reads;
@@ -75,7 +75,7 @@ unfolding flushingIf listed recall undo.flushed
 flush-silent u work exact a e true h = λ d. refl
 flush-silent u work exact a e false h = missed-silent (bufferIn work) (u .buffered) exact a (sym h) e
 
-module _ {L : ℕ} {b : Bounds} {c : ℕ} {board work : List ℕ} {u : LogState} {g : Reference} (o : Ok L b c board work u g) (k : ℕ)
+module _ {L : ℕ} {b : Bounds} {at : Sweep} {board work : List ℕ} {u : LogState} {g : Reference} (o : Ok L b at board work u g) (k : ℕ)
     (below : k < b .slots) (a tag : ℕ) (home : AtHome b k a) (slot : slotIn work k ≡ dirtySlot a tag) (t : Bool)
     (test : t ≡ hits (bufferIn work) (u .buffered) a) where
   abbrev flush : Effect
@@ -84,7 +84,7 @@ module _ {L : ℕ} {b : Bounds} {c : ℕ} {board work : List ℕ} {u : LogState}
   abbrev value : ℕ
   value = dataIn work k
 
-  pub first : Keeps L b c board g flush c g
+  pub first : Keeps L b board g flush at g
   first = flushing-if-keeps o t
 
   abbrev w : Volatile
@@ -107,17 +107,17 @@ module _ {L : ℕ} {b : Bounds} {c : ℕ} {board work : List ℕ} {u : LogState}
   written-live = write-out-live (first .after .live) a flushed-cache
 
   -- the line store, and then what becomes of the slot
-  pub written-keeps : (l : Line) {s : Slot} {word : ℕ} {work′ : List ℕ} → LineStored b (flush .work) k s word a l work′ → (c′ : ℕ) → Pass b work′ c′
+  pub written-keeps : (l : Line) {s : Slot} {word : ℕ} {work′ : List ℕ} → LineStored b (flush .work) k s word a l work′ → (at′ : Sweep) → Pass b work′ at′
       → Live (b .lines) mostAhead (written d a value) (holding w a l) g
-      → Keeps L b c board g (record { stores = flush .stores ++ one (linesAt (u .entries) + a) value; undo = flush .undo; work = work′ }) c′ g
-  written-keeps l st c′ pass live =
-      let at : ℕ = linesAt (u .entries) + a in
-      let same : linesAt L + a ≡ at = ap (λ (n : ℕ). linesAt n + a) (sym (o .ring)) in
+      → Keeps L b board g (record { stores = flush .stores ++ one (linesAt (u .entries) + a) value; undo = flush .undo; work = work′ }) at′ g
+  written-keeps l st at′ pass live =
+      let line : ℕ = linesAt (u .entries) + a in
+      let same : linesAt L + a ≡ line = ap (λ (n : ℕ). linesAt n + a) (sym (o .ring)) in
       record {
-        along = along-then board (flush .stores) (one at value) (first .along) (along-one (ok-off (first .after)) at value);
+        along = along-then board (flush .stores) (one line value) (first .along) (along-one (ok-off (first .after)) line value);
         after =
             rw applied-append
-            (ok-with (first .after) st c′ pass (applied (applied board (flush .stores)) (one at value)) (written d a value)
+            (ok-with (first .after) st at′ pass (applied (applied board (flush .stores)) (one line value)) (written d a value)
             (subst (λ (x : ℕ). Reads (b .lines) L (applied (applied board (flush .stores)) (one x value)) (flush .undo .control) (written d a value)) same
             (line-reads (first .after .reads) a value (home .inside)))
             (first .after .persisted) g (write-out-safe (first .after .live) (first .after .safe) a flushed-cache logged) live);

@@ -4,7 +4,7 @@ use mathlib.Core.Path.{_≡_, refl, _∙_}
 use mathlib.Core.Bool.{Bool, true, false, cond, _&&_}
 use mathlib.Core.List.{List}
 use native.Mathlib.Omega.{arith}
-use lib.Dec.{eqb}
+use lib.Dec.{leb, eqb}
 use lib.ListN.{length}
 use Rattle.layout.specs.declared.Entry.{Entry}
 use Rattle.layout.specs.declared.Slot.{Slot}
@@ -120,7 +120,7 @@ module _ (slots k : ℕ) where
 
     pub moved-visit : (target : ℕ) → Moved work (visiting u work k target .work)
     unfolding visiting cleaning
-    moved-visit target = go (slotIn work k .dirty && eqb (slotIn work k .tag) target)
+    moved-visit target = go (slotIn work k .dirty && leb (slotIn work k .tag) target)
       where
         go : (t : Bool) → Moved work (cond t (cleaning u work k) (nothing u work) .work)
         go true =

@@ -5,8 +5,8 @@ use mathlib.Core.Path.{_≡_, sym, _∙_}
 use mathlib.Core.Bool.{false, _&&_, false≢true}
 use mathlib.Core.List.{List}
 use native.Mathlib.Omega.{arith}
-use borrow.Author.Tests.{eqb-false}
-use lib.Dec.{eqb}
+use borrow.Author.Tests.{leb-false}
+use lib.Dec.{leb}
 use lib.ListN.{length}
 use Rattle.layout.specs.declared.Entry.{Entry}
 use Rattle.layout.specs.declared.Slot.{Slot}
@@ -65,19 +65,10 @@ pub swept-visited : {b : Bounds} {work : List ℕ} {k : ℕ} {s : Slot} {word : 
 swept-visited {k = k} {work′ = work′} st target after swept =
     swept-next work′ k target (swept-stored st k target after swept) (rw (st .slot) after)
 
--- tags are above P
-waiting-after : (b : Bounds) (k : ℕ) (s : Slot) → ProperSlot b k s → DirtyAfter (b .persisted) s
-waiting-after b k s (is-empty e) = clean-after (b .persisted) s (rw e)
-waiting-after b k s (is-full a here (is-clean e)) = clean-after (b .persisted) s (rw e)
-waiting-after b k s (is-full a here (is-dirty t e low high)) = λ _. rw e low
-
--- so a slot that the visit passes by is clean, or has a tag above P + 1
-pub swept-passed : {b : Bounds} {work : List ℕ} → Slotted b work → (c target : ℕ) → c < b .slots → target ≤ b .persisted + 1
-    → slotIn work c .dirty && eqb (slotIn work c .tag) target ≡ false → SweptTo work c target → SweptTo work (c + 1) target
-swept-passed {b} {work} slotted c target below near passed swept = swept-next work c target swept (λ d.
-    let above = waiting-after b c (slotIn work c) (slot-kind slotted c below) d in
-    let other = eqb-false (slotIn work c .tag) target (rw d at passed) in
-    omega arith)
+-- a slot that the visit passes by is clean, or has a tag above the target
+pub swept-passed : (work : List ℕ) (c target : ℕ) → slotIn work c .dirty && leb (slotIn work c .tag) target ≡ false → SweptTo work c target
+    → SweptTo work (c + 1) target
+swept-passed work c target passed swept = swept-next work c target swept (λ d. leb-false (slotIn work c .tag) target (rw d at passed))
 
 -- ---- the end
 
@@ -87,6 +78,12 @@ swept-scanned work slots target epoch count swept a t d e =
     let k = found .0 in
     let m = marked-dirty (slotIn work k) (dataIn work k) a t d (found .2) in
     rw (m .1) at (swept k (found .1) (m .0))
+
+-- tags are above P
+waiting-after : (b : Bounds) (k : ℕ) (s : Slot) → ProperSlot b k s → DirtyAfter (b .persisted) s
+waiting-after b k s (is-empty e) = clean-after (b .persisted) s (rw e)
+waiting-after b k s (is-full a here (is-clean e)) = clean-after (b .persisted) s (rw e)
+waiting-after b k s (is-full a here (is-dirty t e low high)) = λ _. rw e low
 
 module _ {b : Bounds} {work : List ℕ} (slotted : Slotted b work) where
   slotted-rebound : (persisted epoch : ℕ) → b .epoch ≤ epoch → SweptTo work (b .slots) persisted
