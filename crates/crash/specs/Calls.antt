@@ -1,15 +1,14 @@
 -- What each call comes to on a controller at work, once its tests have passed.
-use Prim.Native.Nat.{ℕ, _+_, _-_, _*_, _≤_, _<_}
+use Prim.Native.Nat.{ℕ, _+_, _-_, _≤_, _<_}
 use mathlib.Core.Path.{_≡_, refl, sym, ap, subst, _∙_}
 use mathlib.Core.Bool.{Bool, true, false, not, cond, _&&_, _||_}
 use mathlib.Core.List.{List}
-use native.Mathlib.Nat.{add-mul}
 use native.Mathlib.Omega.{arith}
 use borrow.Author.Tests.{ltb-true, ltb-false, eqb-false, ne-eqb}
 use lib.Dec.{ltb, leb, eqb}
 use Rattle.layout.specs.Limits.{bufferPlaces, lastEpoch, mostAhead}
 use lib.ListN.{length}
-use Rattle.layout.specs.Memory.{workWords, bufferIn, slotIn, dataIn, slotsOf}
+use Rattle.layout.specs.Memory.{workWords, bufferIn, slotIn, dataIn}
 use Rattle.board.specs.Laws.{applied-append}
 use Rattle.board.specs.Stores.{applied}
 use Rattle.layout.specs.Words.{bit}
@@ -27,13 +26,12 @@ use Rattle.slots.specs.Sets.{spotOf}
 use Rattle.slots.specs.Slots.{holds, dirtied, dirtyAt, dirtySlots}
 use Rattle.checks.specs.declared.Registers.{Registers}
 use Rattle.checks.specs.declared.View.{View}
-use Rattle.checks.specs.Contracts.{Running}
-use Rattle.checks.specs.Registers.{leaving, recounted, committed, stepped, restarted}
+use Rattle.checks.specs.Contracts.{Running, Waits}
+use Rattle.checks.specs.Registers.{leaving, recounted, committed, begun, stepped, ended, scanTarget}
 use Rattle.checks.specs.View.{viewOf, boundsOf, undoOf}
 use Rattle.picl.specs.Calls as calls
 use Rattle.picl.specs.Calls.{Call, carried, carriedAt, loadAt, loadOutcome, storeAt, storeOutcome, evictAt, evictOutcome, commitOutcome}
-use Rattle.steps.specs.Effects.{scanTarget}
-use Rattle.picl.specs.Calls.{scanOutcome}
+use Rattle.picl.specs.Calls.{beginOutcome, scanAt, scanOutcome}
 use Rattle.picl.specs.Answers.{Outcome, success, cutOff, answerOf}
 use Rattle.board.specs.Verdict.{due}
 use Rattle.reference.specs.Machine.{Reference, stores, commits, persists, does}
@@ -45,38 +43,34 @@ use Rattle.volatile.specs.Sets.{spot-alone}
 use Rattle.refine.specs.Along.{Along, along-none, along-then}
 use Rattle.refine.specs.Flush.{Keeps, nothing-keeps}
 use Rattle.refine.specs.Empty.{Fewer, same-fewer, flush-fewer, emptying-keeps, emptying-fewer}
-use Rattle.refine.specs.Scan.{visiting-keeps, persisting-along, persisting-ok}
+use Rattle.refine.specs.Pass.{Sweep, aimed}
+use Rattle.refine.specs.Pass as pass
+use Rattle.refine.specs.Scan.{begun-ok, visiting-keeps, persisting-along, persisting-ok}
+use Rattle.refine.specs.State.{Ok}
 use Rattle.refine.specs.Wake.{commit-ok}
 use Rattle.refine.specs.Store.{storing-held-keeps}
 use Rattle.refine.specs.Load.{full-reads, loading-keeps, loading-full, loading-fewer}
 use Rattle.crash.specs.Statement.{Machine, answered, seenCall, countScan}
-use Rattle.crash.specs.State.{Up, Down, is-up, up-of}
-use Rattle.crash.specs.Fares.{progress, carriedOut, Fares, goes}
+use Rattle.crash.specs.State.{sweepOf, Up, Down, is-up, up-of}
+use Rattle.crash.specs.Reached.{reached, aim-outside, aim-inside, Onward, farther, done, onward-none}
+use Rattle.crash.specs.Fares.{carriedOut, Fares, goes}
 
 -- with the current off no call but a power-up passes its tests
 pub down-stays : {N L : ℕ} {m : Machine} {g : Reference} → Down N L m g → (v : View) → Running (m .board) (m .work) (m .registers) v → ⊥
 down-stays {m = m} d v r = omega (arith, r .ahead, ap (λ (x : Registers). x .epoch) (d .registers))
 
 -- an effect that keeps the invariant, as a call's outcome
-carried-goes : {N L : ℕ} {b : Bounds} {cursor : ℕ} {m : Machine} {g : Reference} {e : Effect} {cursor′ : ℕ} {g′ : Reference} (c : Call)
-    (base : Registers) (value : ℕ) → b .lines ≡ N → Keeps L b cursor (m .board) g e cursor′ g′ → base .epoch ≡ b .epoch → base .cursor ≡ cursor′
+carried-goes : {N L : ℕ} {b : Bounds} {to : Sweep} {m : Machine} {g : Reference} {e : Effect} {g′ : Reference} (c : Call)
+    (base : Registers) (value : ℕ) → b .lines ≡ N → Keeps L b (m .board) g e to g′ → base .epoch ≡ b .epoch → sweepOf base ≡ to
     → e .undo .buffered < bufferPlaces → base .dirty ≡ dirtySlots (e .work) (b .slots) → does g (seenCall c value) ≡ g′
     → length (m .work) ≡ workWords (b .slots)
-    → g′ .persisted * (slotsOf (length (m .work)) + 1) + base .cursor
-    ≡ progress (slotsOf (length (m .work))) m g + countScan (seenCall c value)
+    → Onward (countScan (seenCall c value)) (reached (m .registers) g) (reached base g′)
     → Fares N L m g c (due (carried value base e))
 carried-goes {N} {L} {b} {m = m} {g} {e} {g′ = g′} c base value lines x epoch at few count moves words further =
     goes (carried value base e) (subst (λ (n : ℕ). Along n L (m .board) g (e .stores)) lines (x .along))
     (rw moves
     (is-up (subst (λ (n : ℕ). Up n L (carriedOut m (carried value base e)) g′) lines (up-of (x .after) (leaving base (e .undo)) epoch refl at few count))))
     (x .after .slotted .words ∙ sym words) (rw moves further)
-
-still : (p c : ℕ) → p + c ≡ p + c + 0
-still p c = omega arith
-
--- a pass of S + 1 calls is over, and the next begins
-round : (p s : ℕ) → (p + 1) * (s + 1) + 0 ≡ p * (s + 1) + s + 1
-round p s = omega (arith, add-mul p 1 (s + 1))
 
 -- a line that was brought is clean, so its store makes an entry
 due-found : (board work : List ℕ) (u : LogState) (a epoch : ℕ) (spot : Spot) → entryDue epoch (slotIn (loading board u work a spot .work) (spot .slot)) ≡ true
@@ -111,7 +105,7 @@ storing-few board work u a epoch value spot h =
 
 visiting-fewer : (u : LogState) (work : List ℕ) (k target : ℕ) → Fewer u (visiting u work k target .undo)
 unfolding visiting cleaning writingOut
-visiting-fewer u work k target = go (slotIn work k .dirty && eqb (slotIn work k .tag) target)
+visiting-fewer u work k target = go (slotIn work k .dirty && leb (slotIn work k .tag) target)
   where
     go : (t : Bool) → Fewer u (cond t (cleaning u work k) (nothing u work) .undo)
     go true = flush-fewer (hits (bufferIn work) (u .buffered) (slotIn work k .address)) u work
@@ -133,6 +127,9 @@ module _ {N L : ℕ} {m : Machine} {g : Reference} (up : Up N L m g) where
   abbrev pub u : LogState
   u = undoOf v (m .registers)
 
+  abbrev pub at : Sweep
+  at = sweepOf (m .registers)
+
   lines : b .lines ≡ N
   unfolding viewOf
   lines = up .lines
@@ -145,11 +142,10 @@ module _ {N L : ℕ} {m : Machine} {g : Reference} (up : Up N L m g) where
   unfolding viewOf
   count-before = up .counted
 
-  slot-goes : {cursor′ : ℕ} {g′ : Reference} {e : Effect} (c : Call) (base : Registers) (value k : ℕ) → k < b .slots
-      → Keeps L b (m .registers .cursor) (m .board) g e cursor′ g′ → Moved (b .slots) k (m .work) (e .work) → base .epoch ≡ b .epoch
-      → base .dirty ≡ m .registers .dirty → base .cursor ≡ cursor′ → e .undo .buffered < bufferPlaces → does g (seenCall c value) ≡ g′
-      → g′ .persisted * (slotsOf (length (m .work)) + 1) + base .cursor
-      ≡ progress (slotsOf (length (m .work))) m g + countScan (seenCall c value)
+  slot-goes : {to : Sweep} {g′ : Reference} {e : Effect} (c : Call) (base : Registers) (value k : ℕ) → k < b .slots
+      → Keeps L b (m .board) g e to g′ → Moved (b .slots) k (m .work) (e .work) → base .epoch ≡ b .epoch
+      → base .dirty ≡ m .registers .dirty → sweepOf base ≡ to → e .undo .buffered < bufferPlaces → does g (seenCall c value) ≡ g′
+      → Onward (countScan (seenCall c value)) (reached (m .registers) g) (reached base g′)
       → Fares N L m g c (due (carriedAt value base (m .work) k e))
   slot-goes {e = e} c base value k below x moved epoch dirty at few seen further =
       let count : base .dirty - bit (dirtyAt (m .work) k) + bit (dirtyAt (e .work) k) ≡ dirtySlots (e .work) (b .slots) =
@@ -180,7 +176,7 @@ module _ {N L : ℕ} {m : Machine} {g : Reference} (up : Up N L m g) where
     held : spot .held ≡ holds (m .work) (spot .slot) a
     held = spot-holds (m .work) (v .slots) a
 
-    loads : Keeps L b (m .registers .cursor) (m .board) g (loading (m .board) u (m .work) a spot) (m .registers .cursor) g
+    loads : Keeps L b (m .board) g (loading (m .board) u (m .work) a spot) at g
     loads = loading-keeps (up .ok) (spot .slot) below a home alone (spot .held) held
 
     fewer : Fewer u (loading (m .board) u (m .work) a spot .undo)
@@ -194,7 +190,7 @@ module _ {N L : ℕ} {m : Machine} {g : Reference} (up : Up N L m g) where
     load-goes =
         slot-goes (calls.load a) (m .registers) _ (spot .slot) below loads
         (moved-load (b .slots) (spot .slot) (m .work) words u (m .board) a (spot .held)) refl refl refl
-        (omega (arith, fewer .buffered, up .few)) refl (still _ _)
+        (omega (arith, fewer .buffered, up .few)) refl (onward-none _)
 
     pub load-up-value : (allowance : ℕ)
         → answered allowance (m .registers) (m .board) (m .work) (due (loadOutcome (m .board) (m .work) (m .registers) a v)) .status ≡ status.Ok
@@ -217,16 +213,15 @@ module _ {N L : ℕ} {m : Machine} {g : Reference} (up : Up N L m g) where
         go true =
             slot-goes (calls.evict a) (m .registers) 1 (spot .slot) below (emptying-keeps (up .ok) (spot .slot) below)
             (moved-evict (b .slots) (spot .slot) (m .work) words u true) refl refl refl
-            (omega (arith, emptying-fewer u (m .work) (spot .slot) .buffered, up .few)) refl (still _ _)
+            (omega (arith, emptying-fewer u (m .work) (spot .slot) .buffered, up .few)) refl (onward-none _)
         go false =
             slot-goes (calls.evict a) (m .registers) 0 (spot .slot) below (nothing-keeps (up .ok))
-            (moved-evict (b .slots) (spot .slot) (m .work) words u false) refl refl refl (up .few) refl (still _ _)
+            (moved-evict (b .slots) (spot .slot) (m .work) words u false) refl refl refl (up .few) refl (onward-none _)
 
     -- "Store .. as load if not held. Then ..": the board and the reference machine go on from where the load left them
     store-keeps : (value : ℕ)
         → (undoDue (m .work) spot (m .registers .epoch) ≡ true → v .control .length + m .registers .buffered + 1 ≤ v .shape .entries)
-        → Keeps L b (m .registers .cursor) (m .board) g (storing (m .board) u (m .work) a spot (m .registers .epoch) value) (m .registers .cursor)
-        (stores g a value)
+        → Keeps L b (m .board) g (storing (m .board) u (m .work) a spot (m .registers .epoch) value) at (stores g a value)
     unfolding storing
     store-keeps value room =
         let l = loading (m .board) u (m .work) a spot in
@@ -248,7 +243,7 @@ module _ {N L : ℕ} {m : Machine} {g : Reference} (up : Up N L m g) where
     store-goes value room =
         slot-goes (calls.store a value) (m .registers) 0 (spot .slot) below (store-keeps value room)
         (moved-store (b .slots) (spot .slot) (m .work) words u (m .board) a (spot .held) (m .registers .epoch) value) refl refl refl
-        (storing-few (m .board) (m .work) u a (m .registers .epoch) value spot (omega (arith, fewer .buffered, up .few))) refl (still _ _)
+        (storing-few (m .board) (m .work) u a (m .registers .epoch) value spot (omega (arith, fewer .buffered, up .few))) refl (onward-none _)
 
   pub commit-goes : m .registers .epoch < lastEpoch → m .registers .epoch < v .control .persisted + mostAhead
       → Fares N L m g calls.commit (due (commitOutcome (m .work) (m .registers)))
@@ -258,45 +253,79 @@ module _ {N L : ℕ} {m : Machine} {g : Reference} (up : Up N L m g) where
       (is-up
       (subst (λ (n : ℕ). Up n L (record { board = m .board; work = m .work; registers = committed (m .registers) }) (commits g)) lines
       (up-of (commit-ok (up .ok) early window) (committed (m .registers)) refl refl refl (up .few) count-before)))
-      refl (still _ _)
+      refl (onward-none _)
 
-  -- the epoch that the scan persists is the uncached machine's next
-  next : scanTarget (v .control .persisted) ≡ g .persisted + 1
+  -- by the registers, and so by the bounds
+  waiting : {epoch : ℕ} → Waits v (m .registers) epoch → pass.Waits b epoch
+  waiting w = record { ahead = w .ahead; ended = w .ended }
+
+  -- the board's P is the uncached machine's p
+  named : v .control .persisted ≡ g .persisted
   unfolding viewOf
-  next = ap scanTarget (up .ok .persisted ∙ up .ok .safe .named)
+  named = up .ok .persisted ∙ up .ok .safe .named
+
+  pub begin-goes : (target : ℕ) → m .registers .target ≡ 0 → Waits v (m .registers) target
+      → Fares N L m g (calls.begin target) (due (beginOutcome (m .work) (m .registers) target))
+  unfolding beginOutcome applied
+  begin-goes target none waits =
+      let before = aim-outside (m .registers) (g .persisted) none in
+      let behind = aim-inside (begun (m .registers) target) (g .persisted) (omega (arith, waits .ahead)) in
+      goes (beginOutcome (m .work) (m .registers) target) (along-none N L (m .board) g)
+      (is-up
+      (subst (λ (n : ℕ). Up n L (record { board = m .board; work = m .work; registers = begun (m .registers) target }) g) lines
+      (up-of (begun-ok (up .ok) none target (waiting waits)) (begun (m .registers) target) refl refl refl (up .few) count-before)))
+      refl (farther refl (omega arith) (omega (arith, before, behind, waits .ahead, named)))
+
+  -- ---- scan
+
+  abbrev pub target : ℕ
+  target = scanTarget (m .registers) (v .control .persisted)
 
   abbrev pub visit : Outcome
   visit =
-      carriedAt 0 (stepped (m .registers)) (m .work) (m .registers .cursor)
-      (visiting u (m .work) (m .registers .cursor) (scanTarget (v .control .persisted)))
+      carriedAt 0 (stepped (begun (m .registers) target)) (m .work) (m .registers .cursor) (visiting u (m .work) (m .registers .cursor) target)
 
   abbrev pub persist : Outcome
-  persist =
-      carried (scanTarget (v .control .persisted)) (restarted (m .registers))
-      (persisting (m .board) u (m .work) (scanTarget (v .control .persisted)))
+  persist = carried target (ended (m .registers)) (persisting (m .board) u (m .work) target)
 
-  pub scan-goes : scanTarget (v .control .persisted) < m .registers .epoch
-      → Fares N L m g calls.scan (due (scanOutcome (m .board) (m .work) (m .registers) v))
-  unfolding scanOutcome viewOf
-  scan-goes waits = go (ltb (m .registers .cursor) (v .slots)) refl
+  -- the uncached machine aims at the same epoch
+  same-aim : scanTarget (m .registers) (g .persisted) ≡ target
+  same-aim = ap (scanTarget (m .registers)) (sym named)
+
+  -- inside a pass, or at the beginning of the one that the scan begins
+  in-pass : pass.Waits b target → Ok L b (aimed at target) (m .board) (m .work) u g
+  in-pass waits = go (up .ok .pass .runs)
     where
+      go : pass.Runs b at → Ok L b (aimed at target) (m .board) (m .work) u g
+      go (pass.outside none c) = begun-ok (up .ok) none target waits
+      go (pass.inside w) =
+          subst (λ (t : ℕ). Ok L b (aimed at t) (m .board) (m .work) u g)
+          (sym (aim-inside (m .registers) (v .control .persisted) (omega (arith, w .ahead)))) (up .ok)
+
+  pub scan-goes : Waits v (m .registers) target → Fares N L m g calls.scan (due (scanOutcome (m .board) (m .work) (m .registers) v))
+  unfolding scanOutcome scanAt viewOf
+  scan-goes aims = go (ltb (m .registers .cursor) (v .slots)) refl
+    where
+      waits : pass.Waits b target
+      waits = waiting aims
+
       go : (t : Bool) → ltb (m .registers .cursor) (v .slots) ≡ t → Fares N L m g calls.scan (due (cond t visit persist))
       go true e =
-          let target = scanTarget (v .control .persisted) in
           let below = ltb-true (m .registers .cursor) (v .slots) e in
-          slot-goes calls.scan (stepped (m .registers)) 0 (m .registers .cursor) below (visiting-keeps (up .ok) waits below)
+          let behind = aim-inside (begun (m .registers) target) (g .persisted) (omega (arith, aims .ahead)) in
+          slot-goes calls.scan (stepped (begun (m .registers) target)) 0 (m .registers .cursor) below (visiting-keeps (in-pass waits) waits below)
           (moved-visit (b .slots) (m .registers .cursor) (m .work) words u target) refl refl refl
-          (omega (arith, visiting-fewer u (m .work) (m .registers .cursor) target .buffered, up .few)) refl (omega arith)
+          (omega (arith, visiting-fewer u (m .work) (m .registers .cursor) target .buffered, up .few)) refl
+          (farther refl refl (omega (arith, same-aim, behind)))
       go false e =
-          let target = scanTarget (v .control .persisted) in
-          let some : eqb target 0 ≡ false = ne-eqb target 0 (omega arith) in
-          let done = persisting-ok (up .ok) waits (all e) in
+          let some : eqb target 0 ≡ false = ne-eqb target 0 (omega (arith, aims .ahead)) in
+          let done-ok = persisting-ok (in-pass waits) waits (all e) in
           let kept = moved-persist (b .slots) (b .slots) (m .work) words u (m .board) target in
-          goes persist (subst (λ (n : ℕ). Along n L (m .board) g (persist .stores)) lines (persisting-along (up .ok) waits))
+          goes persist (subst (λ (n : ℕ). Along n L (m .board) g (persist .stores)) lines (persisting-along (in-pass waits) waits))
           (rw some
           (is-up
           (subst (λ (n : ℕ). Up n L (carriedOut m persist) (persists g target)) lines
-          (up-of done (persist .registers) refl (persisting-none (m .board) (m .work) u target) refl (omega arith)
+          (up-of done-ok (persist .registers) refl (persisting-none (m .board) (m .work) u target) refl (omega arith)
           (count-before ∙ sym (dirty-kept (m .work) (persist .work) (b .slots) (kept .others)))))))
-          (done .slotted .words ∙ sym words)
-          (rw (some, next, all e) (round (g .persisted) (v .slots)))
+          (done-ok .slotted .words ∙ sym words)
+          (rw some (done (omega (arith, same-aim))))

@@ -3,6 +3,7 @@ use Prim.Native.Nat.{ℕ, _+_, _≤_, _<_}
 use mathlib.Core.Path.{_≡_, refl, sym, ap}
 use mathlib.Core.Bool.{Bool, true, false, not, cond}
 use mathlib.Core.List.{List, [], _++_}
+use mathlib.Core.Logic.{inl, inr}
 use native.Mathlib.Nat.{zero-add}
 use native.Mathlib.Omega.{arith}
 use borrow.Author.Tests.{eqb-true, le-ltb, lt-leb}
@@ -24,8 +25,7 @@ use Rattle.reference.specs.Machine.{Reference, nothing, does}
 use Rattle.history.specs.Machine.{recall}
 use Rattle.base.specs.Listed.{listed, listed-whole}
 use Rattle.refine.specs.State.{Off}
-use Rattle.crash.specs.Statement.{exportRecord, Machine, Result, Both, made, fed, after, persistedOn, lineOn}
-use Rattle.crash.specs.Statement.{Exporting, exported, short, past, held}
+use Rattle.crash.specs.Statement.{exportRecord, Machine, Result, Both, made, fed, after, persistedOn, lineOn, Among, exportAnswers}
 use Rattle.crash.specs.State.{Holds, holds-off}
 use Rattle.crash.specs.Power.{differ, shape-good}
 
@@ -65,11 +65,12 @@ module _ {N L : ℕ} {board : List ℕ} {g : Reference} (off : Off N L board g) 
 -- ---- the answers
 
 -- no export is cut
-pub exporting-whole : (s : Status) → Exporting s → s ≡ status.Cut → ⊥
-exporting-whole s exported e = differ cc
-exporting-whole s short e = differ cc
-exporting-whole s past e = differ cc
-exporting-whole s held e = differ cc
+pub exporting-whole : (s : Status) → Among exportAnswers s → s ≡ status.Cut → ⊥
+exporting-whole s (inl ok) e = differ cc
+exporting-whole s (inr (inl short)) e = differ cc
+exporting-whole s (inr (inr (inl past))) e = differ cc
+exporting-whole s (inr (inr (inr (inl held)))) e = differ cc
+exporting-whole s (inr (inr (inr (inr none)))) e = none
 
 module _ {N L : ℕ} {m : Machine} {g : Reference} (h : Holds N L m g) (text : List ℕ) (number : ℕ) where
   abbrev board : List ℕ
@@ -100,15 +101,15 @@ module _ {N L : ℕ} {m : Machine} {g : Reference} (h : Holds N L m g) (text : L
   unfolding exportChecked boardChecked viewOf
   board-passes = rw (shape-good (holds-off h .reads .sized) [])
 
-  pub export-answered : Exporting (made m (exportRecord text number) .status)
+  pub export-answered : Among exportAnswers (made m (exportRecord text number) .status)
   unfolding made exportReport
   export-answered = rw board-passes (go few beyond empty)
     where
-      go : (t u v : Bool) → Exporting (reportFor (judged t u v) (recordAt board number) .status)
-      go true u v = short
-      go false true v = past
-      go false false false = held
-      go false false true = exported
+      go : (t u v : Bool) → Among exportAnswers (reportFor (judged t u v) (recordAt board number) .status)
+      go true u v = inr (inl refl)
+      go false true v = inr (inr (inl refl))
+      go false false false = inr (inr (inr (inl refl)))
+      go false false true = inl refl
 
   pub exported-record : made m (exportRecord text number) .status ≡ status.Ok
       → (exportText board number text ≡ written ++ drop (length written) text) × (made m (exportRecord text number) .value ≡ length written)

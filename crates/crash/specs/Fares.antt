@@ -1,5 +1,5 @@
 -- What becomes of a call, refused, cut or accepted: from its verdict to what a run keeps.
-use Prim.Native.Nat.{ℕ, _+_, _*_}
+use Prim.Native.Nat.{ℕ}
 use mathlib.Core.Path.{_≡_, refl}
 use mathlib.Core.Bool.{Bool, true, false, not, cond, _&&_, _||_, false≢true}
 use mathlib.Core.List.{List, [], _∷_}
@@ -26,6 +26,7 @@ use Rattle.volatile.specs.Dirty.{dirty-zeros}
 use Rattle.refine.specs.Along.{Along}
 use Rattle.crash.specs.Statement.{call, Machine, Result, answered, seenCall, fed, countScan, dirtyIn}
 use Rattle.crash.specs.State.{Holds, is-down, holds-ended}
+use Rattle.crash.specs.Reached.{reached, Onward, onward-none}
 
 -- ---- no check refuses as ok or as cut
 
@@ -66,10 +67,6 @@ then-refuses (Passed v) rows first n s e = tested-refuses (rows v) v (n v) s e
 
 -- ---- a verdict on a machine that holds the invariant
 
--- where the scan is: so many accepted scan calls since p and c were 0
-abbrev pub progress : (slots : ℕ) → Machine → Reference → ℕ
-progress slots m g = g .persisted * (slots + 1) + m .registers .cursor
-
 -- the machine once all stores of an outcome are made
 abbrev pub carriedOut : Machine → Outcome → Machine
 carriedOut m o = record { board = applied (m .board) (o .stores); work = o .work; registers = o .registers }
@@ -78,8 +75,7 @@ pub data Fares (N L : ℕ) (m : Machine) (g : Reference) (c : Call) : Verdict �
   refuses : (s : Status) (value : ℕ) → refusal s ≡ true → Fares N L m g c (refused s value)
   goes : (o : Outcome) → Along N L (m .board) g (o .stores) → Holds N L (carriedOut m o) (does g (seenCall c (o .value)))
       → length (o .work) ≡ length (m .work)
-      → progress (slotsOf (length (m .work))) (carriedOut m o) (does g (seenCall c (o .value)))
-      ≡ progress (slotsOf (length (m .work))) m g + countScan (seenCall c (o .value))
+      → Onward (countScan (seenCall c (o .value))) (reached (m .registers) g) (reached (o .registers) (does g (seenCall c (o .value))))
       → Fares N L m g c (due o)
 
 -- a cut leaves nothing in the cache, and a count of nothing
@@ -95,8 +91,7 @@ pub record Kept (N L : ℕ) (m : Machine) (g : Reference) (c : Call) (k : ℕ) (
   pub same-words : length (x .left .work) ≡ length (m .work)
   pub cut : x .status ≡ status.Cut → NoneDirty (x .left)
   pub moves : (x .status ≡ status.Cut → ⊥)
-      → progress (slotsOf (length (m .work))) (x .left) (does g (fed (call c k) x))
-      ≡ progress (slotsOf (length (m .work))) m g + countScan (fed (call c k) x)
+      → Onward (countScan (fed (call c k) x)) (reached (m .registers) g) (reached (x .left .registers) (does g (fed (call c k) x)))
 
 pub not-cut-ok : status.Ok ≡ status.Cut → ⊥
 not-cut-ok e = let z : _≡_ {A = ℕ} 0 1 = cc in omega arith
@@ -109,7 +104,7 @@ fares-kept h (refuses s value n) k =
       holds = rw (not-ok s n) h;
       same-words = refl;
       cut = λ same. absurd (not-cut s n same);
-      moves = λ whole. rw (not-ok s n) (omega arith);
+      moves = λ whole. rw (not-ok s n) (onward-none _);
     }
 fares-kept {N} {L} {m} {g} {c} h (goes o along kept words moves) k = go (leb (length (o .stores)) k) refl
   where

@@ -2,6 +2,7 @@
 pub mod Statement
 pub mod Witness
 pub mod State
+pub mod Reached
 pub mod Fares
 pub mod Calls
 pub mod Steps

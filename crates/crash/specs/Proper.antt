@@ -1,10 +1,11 @@
 -- A controller that is awake passes its tests: only what a call asks for can be refused.
-use Prim.Native.Nat.{ℕ, zero, suc, _+_, _-_, _%_, _<_}
+use Prim.Native.Nat.{ℕ, _+_, _-_, _%_, _<_}
 use mathlib.Core.Path.{_≡_, refl, sym, ap, _∙_}
-use mathlib.Core.Bool.{Bool, true, false, not, cond, _&&_, _||_}
-use mathlib.Core.List.{List, [], _∷_}
+use mathlib.Core.Bool.{Bool, true, false, not, cond, _&&_, _||_, or-true}
+use mathlib.Core.List.{List, [], _∷_, _++_}
+use mathlib.Core.Logic.{inl, inr}
 use native.Mathlib.Omega.{arith}
-use borrow.Author.Tests.{lt-ltb, le-leb, eq-eqb, ne-eqb, eqb-true, ltb-true}
+use borrow.Author.Tests.{lt-ltb, le-leb, eq-eqb, eqb-true, ltb-true}
 use lib.Dec.{ltb, leb, eqb}
 use lib.ListN.{length}
 use Rattle.base.specs.Every.{Every}
@@ -14,13 +15,15 @@ use Rattle.layout.specs.Limits.{lastEpoch, ways, mostSlots, bufferPlaces, mostA
 use Rattle.layout.specs.Memory.{bufferIn, slotsOf, workWords, controlIn, shapeIn}
 use Rattle.status.specs.declared.Status.{Status}
 use Rattle.status.specs.declared.Status.the-variants as status
+use Rattle.undo.specs.Filter.{bitsSet}
 use Rattle.slots.specs.Sets.{placesOf, properSet, spotOf}
 use Rattle.slots.specs.Slots.{dirtyAt, undoDue}
 use Rattle.checks.specs.declared.Checked.the-variants.{Refused, Passed}
 use Rattle.checks.specs.declared.Registers.{Registers}
 use Rattle.checks.specs.declared.View.{View}
-use Rattle.checks.specs.Refusals.{Row, then, roomRows, memoriesChecked, runningChecked, lineChecked, storeChecked, commitChecked, scanChecked}
-use Rattle.checks.specs.View.{viewOf, boundsOf, goodShape, goodSlots, goodWork, properEpoch, properCounts, properRegisters, miscounted, goodBuffer, goodFilter}
+use Rattle.checks.specs.Refusals.{Row, then, roomRows, memoriesChecked, runningChecked, lineChecked, storeChecked, commitChecked, beginChecked, scanChecked}
+use Rattle.checks.specs.Registers.{committed, begun}
+use Rattle.checks.specs.View.{viewOf, boundsOf, goodShape, goodSlots, goodWork, properEpoch, properCounts, properPass, properRegisters, waits, miscounted, goodBuffer, goodFilter}
 use Rattle.reference.specs.Machine.{Reference}
 use Rattle.history.specs.Lines.{entries-proper}
 use Rattle.volatile.specs.Buffer.{entries-buffer-proper}
@@ -31,24 +34,35 @@ use Rattle.picl.specs.Answers as picl
 use Rattle.board.specs.Verdict.{refused, due}
 use Rattle.picl.specs.Answers.{success, cutOff, answerOf}
 use Rattle.picl.specs.Calls as calls
-use Rattle.picl.specs.Calls.{Call, tallyVerdict, filterBitsVerdict, judged, loadOutcome, loadVerdict, storeOutcome, storeVerdict, evictOutcome, evictVerdict, commitOutcome, commitVerdict}
-use Rattle.picl.specs.Calls.{scanOutcome, scanVerdict}
-use Rattle.crash.specs.Statement.{call, Machine, Both, made, Awake, Expected, ok, address, room, waiting, last, none, cut}
-use Rattle.crash.specs.State.{Up, Holds, is-up, is-down}
+use Rattle.picl.specs.Calls.{Call, unstored, tallyVerdict, filterBitsVerdict, judged, loadOutcome, loadVerdict, storeOutcome, storeVerdict, evictOutcome, evictVerdict, commitOutcome, commitVerdict}
+use Rattle.picl.specs.Calls.{beginOutcome, beginVerdict, scanOutcome, scanVerdict}
+use Rattle.refine.specs.Pass.{Runs, outside, inside}
+use Rattle.crash.specs.Statement.{call, Machine, Both, made, persistedOn, Awake, answersTo, Among}
+use Rattle.crash.specs.State.{sweepOf, Up, Holds, is-up, is-down}
 use Rattle.crash.specs.Power.{shape-good}
 
--- a refusal answers its number, a call that goes through 0 or 12
-refusal-answered : (k : ℕ) (r : Registers) (s : Status) → Expected s → Expected (answerOf k r (refused s 0) .status)
+-- a refusal answers its number, a call that goes through 0 or 12, and one that owes no store 0
+refusal-answered : (k : ℕ) (r : Registers) (s : Status) → answerOf k r (refused s 0) .status ≡ s
 unfolding answerOf
-refusal-answered k r s x = x
+refusal-answered k r s = refl
 
-due-answered : (k : ℕ) (r : Registers) (o : picl.Outcome) → Expected (answerOf k r (due o) .status)
+due-answered : (k : ℕ) (r : Registers) (o : picl.Outcome) (between : List Status)
+    → Among (status.Ok ∷ between ++ (status.Cut ∷ [])) (answerOf k r (due o) .status)
 unfolding answerOf
-due-answered k r o = go (leb (length (o .stores)) k)
+due-answered k r o between = go (leb (length (o .stores)) k)
   where
-    go : (t : Bool) → Expected (cond t (success o) (cutOff k) .status)
-    go true = ok
-    go false = cut
+    at-end : (xs : List Status) → Among (xs ++ (status.Cut ∷ [])) status.Cut
+    at-end [] = inl refl
+    at-end (x ∷ xs) = inr (at-end xs)
+
+    go : (t : Bool) → Among (status.Ok ∷ between ++ (status.Cut ∷ [])) (cond t (success o) (cutOff k) .status)
+    go true = inl refl
+    go false = inr (at-end between)
+
+unstored-answered : (k : ℕ) (r : Registers) (value : ℕ) (r′ : Registers) (work : List ℕ)
+    → answerOf k r (due (unstored value r′ work)) .status ≡ status.Ok
+unfolding answerOf
+unstored-answered k r value r′ work = rw (le-leb 0 k (omega arith))
 
 refusal-not-room : (k : ℕ) (r : Registers) → answerOf k r (refused status.Address 0) .status ≡ status.Room → ⊥
 unfolding answerOf
@@ -93,30 +107,26 @@ module _ {N L : ℕ} {m : Machine} {g : Reference} (up : Up N L m g) where
       (le-leb (r .epoch) lastEpoch (up .ok .last)))
       (le-leb (r .epoch - v .control .persisted) mostAhead (omega (arith, up .ok .persisted, past .window)))
 
-  idle : (c : ℕ) → (0 < c → v .control .persisted + 1 < r .epoch) → not (eqb (r .epoch) (v .control .persisted + 1)) || eqb c 0 ≡ true
-  idle zero busy = go (eqb (r .epoch) (v .control .persisted + 1))
+  passes : properPass v r ≡ true
+  unfolding properPass waits
+  passes = and-true _ _ (le-leb (r .cursor) (v .slots) (up .ok .pass .within)) (go (up .ok .pass .runs))
     where
-      go : (t : Bool) → not t || true ≡ true
-      go true = refl
-      go false = refl
-  idle (suc c) busy =
-      let h : v .control .persisted + 1 < r .epoch = busy (omega arith) in
-      rw (ne-eqb (r .epoch) (v .control .persisted + 1) (omega arith))
+      go : Runs (boundsOf v r) (sweepOf r) → eqb (r .target) 0 && eqb (r .cursor) 0 || waits v r (r .target) ≡ true
+      go (outside t c) = rw (eq-eqb (r .target) 0 t, eq-eqb (r .cursor) 0 c)
+      go (inside w) =
+          rw (lt-ltb (v .control .persisted) (r .target) (w .ahead), lt-ltb (r .target) (r .epoch) (w .ended), or-true)
 
   counts : properCounts v r ≡ true
   unfolding properCounts viewOf
   counts =
       and-true _ _
-      (and-true _ _
-      (and-true _ _
-      (and-true _ _ (lt-ltb (r .buffered) bufferPlaces (up .few)) (le-leb (r .cursor) (slotsOf (length (m .work))) (up .ok .pass .within)))
+      (and-true _ _ (lt-ltb (r .buffered) bufferPlaces (up .few))
       (le-leb (r .dirty) (slotsOf (length (m .work))) (omega (arith, up .counted, dirty-most (m .work) (slotsOf (length (m .work)))))))
-      (idle (r .cursor) (up .ok .pass .waits)))
       (le-leb (controlIn (m .board) .length + r .buffered) (shapeIn (m .board) .entries) (omega (arith, up .ok .room, up .ok .ring)))
 
   proper : properRegisters v r ≡ true
   unfolding properRegisters
-  proper = and-true _ _ epochs counts
+  proper = and-true _ _ (and-true _ _ epochs passes) counts
 
   -- 6, and the count beside it, of the slots that a call visits
   module _ (visited : List ℕ) (within : Ascending (v .slots) 0 visited) where
@@ -177,13 +187,14 @@ module _ {N L : ℕ} {m : Machine} {g : Reference} (up : Up N L m g) where
 
   -- ---- the answers
 
-  line-answered : (a k : ℕ) (f : View → picl.Outcome) → Expected (answerOf k r (judged (lineChecked (m .board) (m .work) r a) f) .status)
+  line-answered : (a k : ℕ) (f : View → picl.Outcome)
+      → Among (answersTo (calls.load a)) (answerOf k r (judged (lineChecked (m .board) (m .work) r a) f) .status)
   unfolding lineChecked runningChecked memoriesChecked
   line-answered a k f = rw (shaped, worked, proper, line-proper a, line-counted a, buffered, filtered) (go (leb (v .shape .lines) a))
     where
-      go : (t : Bool) → Expected (answerOf k r (judged (cond t (Refused status.Address) (Passed v)) f) .status)
-      go true = refusal-answered k r status.Address address
-      go false = due-answered k r (f v)
+      go : (t : Bool) → Among (answersTo (calls.load a)) (answerOf k r (judged (cond t (Refused status.Address) (Passed v)) f) .status)
+      go true = inr (inl (refusal-answered k r status.Address))
+      go false = due-answered k r (f v) (status.Address ∷ [])
 
   abbrev roomFor : (a : ℕ) → View → List Row
   roomFor a w = roomRows w (m .work) r (spotOf (m .work) (w .slots) a)
@@ -191,36 +202,58 @@ module _ {N L : ℕ} {m : Machine} {g : Reference} (up : Up N L m g) where
   abbrev crowded : ℕ → Bool
   crowded a = undoDue (m .work) (spotOf (m .work) (v .slots) a) (r .epoch) && ltb (v .shape .entries) (v .control .length + r .buffered + 1)
 
-  store-answered : (a k : ℕ) (f : View → picl.Outcome) → Expected (answerOf k r (judged (storeChecked (m .board) (m .work) r a) f) .status)
+  store-answered : (a value k : ℕ) (f : View → picl.Outcome)
+      → Among (answersTo (calls.store a value)) (answerOf k r (judged (storeChecked (m .board) (m .work) r a) f) .status)
   unfolding storeChecked lineChecked runningChecked memoriesChecked
-  store-answered a k f = rw (shaped, worked, proper, line-proper a, line-counted a, buffered, filtered) (go (leb (v .shape .lines) a) (crowded a) refl)
+  store-answered a value k f =
+      rw (shaped, worked, proper, line-proper a, line-counted a, buffered, filtered) (go (leb (v .shape .lines) a) (crowded a) refl)
     where
       go : (t c : Bool) → crowded a ≡ c
-          → Expected (answerOf k r (judged (then (cond t (Refused status.Address) (Passed v)) (roomFor a)) f) .status)
-      go true c e = refusal-answered k r status.Address address
-      go false true e = rw e (refusal-answered k r status.Room room)
-      go false false e = rw e (due-answered k r (f v))
+          → Among (answersTo (calls.store a value)) (answerOf k r (judged (then (cond t (Refused status.Address) (Passed v)) (roomFor a)) f) .status)
+      go true c e = inr (inl (refusal-answered k r status.Address))
+      go false true e = rw e (inr (inr (inl (refusal-answered k r status.Room))))
+      go false false e = rw e (due-answered k r (f v) (status.Address ∷ status.Room ∷ []))
 
-  commit-answered : (k : ℕ) (f : View → picl.Outcome) → Expected (answerOf k r (judged (commitChecked (m .board) (m .work) r) f) .status)
-  unfolding commitChecked runningChecked memoriesChecked
-  commit-answered k f =
+  commit-answered : (k : ℕ) → Among (answersTo calls.commit) (answerOf k r (commitVerdict (m .board) (m .work) r) .status)
+  unfolding commitVerdict commitChecked runningChecked memoriesChecked commitOutcome
+  commit-answered k =
       rw (shaped, worked, proper, buffered, filtered) (go (eqb (r .epoch - v .control .persisted) mostAhead) (eqb (r .epoch) lastEpoch))
     where
       go : (t c : Bool)
-          → Expected (answerOf k r (judged (cond t (Refused status.Waiting) (cond c (Refused status.Last) (Passed v))) f) .status)
-      go true c = refusal-answered k r status.Waiting waiting
-      go false true = refusal-answered k r status.Last last
-      go false false = due-answered k r (f v)
+          → Among (answersTo calls.commit)
+          (answerOf k r (judged (cond t (Refused status.Waiting) (cond c (Refused status.Last) (Passed v))) (λ w. commitOutcome (m .work) r)) .status)
+      go true c = inr (inl (refusal-answered k r status.Waiting))
+      go false true = inr (inr (inl (refusal-answered k r status.Last)))
+      go false false = inl (unstored-answered k r 0 (committed r) (m .work))
 
-  scan-answered : (k : ℕ) (f : View → picl.Outcome) → Expected (answerOf k r (judged (scanChecked (m .board) (m .work) r) f) .status)
+  begin-answered : (target k : ℕ) → Among (answersTo (calls.begin target)) (answerOf k r (beginVerdict (m .board) (m .work) r target) .status)
+  unfolding beginVerdict beginChecked runningChecked memoriesChecked beginOutcome
+  begin-answered target k =
+      rw (shaped, worked, proper, buffered, filtered) (go (not (eqb (r .target) 0) || not (waits v r target)))
+    where
+      go : (t : Bool)
+          → Among (answersTo (calls.begin target))
+          (answerOf k r (judged (cond t (Refused status.Target) (Passed v)) (λ w. beginOutcome (m .work) r target)) .status)
+      go true = inr (inl (refusal-answered k r status.Target))
+      go false = inl (unstored-answered k r 0 (begun r target) (m .work))
+
+  -- outside a pass, with a target that waits
+  begin-passed : (target k : ℕ) → r .target ≡ 0 → waits v r target ≡ true
+      → answerOf k r (beginVerdict (m .board) (m .work) r target) .status ≡ status.Ok
+  unfolding beginVerdict beginChecked runningChecked memoriesChecked beginOutcome
+  begin-passed target k none waiting =
+      rw (shaped, worked, proper, buffered, filtered, eq-eqb (r .target) 0 none, waiting) (unstored-answered k r 0 (begun r target) (m .work))
+
+  scan-answered : (k : ℕ) (f : View → picl.Outcome)
+      → Among (answersTo calls.scan) (answerOf k r (judged (scanChecked (m .board) (m .work) r) f) .status)
   unfolding scanChecked runningChecked memoriesChecked
   scan-answered k f =
       rw (shaped, worked, proper, visited-proper atCursor within-cursor, visited-counted atCursor within-cursor, buffered, filtered)
       (go (eqb (r .epoch) (v .control .persisted + 1)))
     where
-      go : (t : Bool) → Expected (answerOf k r (judged (cond t (Refused status.None) (Passed v)) f) .status)
-      go true = refusal-answered k r status.None none
-      go false = due-answered k r (f v)
+      go : (t : Bool) → Among (answersTo calls.scan) (answerOf k r (judged (cond t (Refused status.None) (Passed v)) f) .status)
+      go true = inr (inl (refusal-answered k r status.None))
+      go false = due-answered k r (f v) (status.None ∷ [])
 
   -- "8 room" says that the log is full
   store-full : (a k : ℕ) (f : View → picl.Outcome) → answerOf k r (judged (storeChecked (m .board) (m .work) r a) f) .status ≡ status.Room
@@ -240,23 +273,30 @@ module _ {N L : ℕ} {m : Machine} {g : Reference} (up : Up N L m g) where
       go true false e = λ same. absurd (refusal-not-room k r same)
       go false false e = rw e (λ same. absurd (due-not-room k r (f v) same))
 
-  tally-answered : (k : ℕ) → Expected (answerOf k r (tallyVerdict (m .board) (m .work) r) .status)
+  tally-answered : (k : ℕ) → answerOf k r (tallyVerdict (m .board) (m .work) r) .status ≡ status.Ok
   unfolding tallyVerdict runningChecked memoriesChecked
-  tally-answered k = rw (shaped, worked, proper) (due-answered k r _)
+  tally-answered k = rw (shaped, worked, proper) (unstored-answered k r (r .dirty) r (m .work))
 
-  filter-bits-answered : (k : ℕ) → Expected (answerOf k r (filterBitsVerdict (m .work) r) .status)
+  filter-bits-answered : (k : ℕ) → answerOf k r (filterBitsVerdict (m .work) r) .status ≡ status.Ok
   unfolding filterBitsVerdict
-  filter-bits-answered k = rw worked (due-answered k r _)
+  filter-bits-answered k = rw worked (unstored-answered k r (bitsSet (bufferIn (m .work))) r (m .work))
 
-  pub call-expected : (c : Call) (k : ℕ) → Expected (made m (call c k) .status)
-  unfolding made loadVerdict storeVerdict evictVerdict commitVerdict scanVerdict
-  call-expected (calls.load a) k = line-answered a k (loadOutcome (m .board) (m .work) r a)
-  call-expected (calls.store a w) k = store-answered a k (storeOutcome (m .board) (m .work) r a w)
-  call-expected (calls.evict a) k = line-answered a k (evictOutcome (m .work) r a)
-  call-expected calls.commit k = commit-answered k (λ w. commitOutcome (m .work) r)
-  call-expected calls.scan k = scan-answered k (scanOutcome (m .board) (m .work) r)
-  call-expected calls.tally k = tally-answered k
-  call-expected calls.filterBits k = filter-bits-answered k
+  pub call-answered : (c : Call) (k : ℕ) → Among (answersTo c) (made m (call c k) .status)
+  unfolding made loadVerdict storeVerdict evictVerdict scanVerdict
+  call-answered (calls.load a) k = line-answered a k (loadOutcome (m .board) (m .work) r a)
+  call-answered (calls.store a w) k = store-answered a w k (storeOutcome (m .board) (m .work) r a w)
+  call-answered (calls.evict a) k = line-answered a k (evictOutcome (m .work) r a)
+  call-answered calls.commit k = commit-answered k
+  call-answered (calls.begin target) k = begin-answered target k
+  call-answered calls.scan k = scan-answered k (scanOutcome (m .board) (m .work) r)
+  call-answered calls.tally k = inl (tally-answered k)
+  call-answered calls.filterBits k = inl (filter-bits-answered k)
+
+  pub begin-accepted : (target k : ℕ) → r .target ≡ 0 → persistedOn (m .board) < target → target < r .epoch
+      → made m (call (calls.begin target) k) .status ≡ status.Ok
+  unfolding made waits viewOf
+  begin-accepted target k none ahead ended =
+      begin-passed target k none (and-true _ _ (lt-ltb (persistedOn (m .board)) target ahead) (lt-ltb target (r .epoch) ended))
 
   -- the filter is exactly the bits of the buffered entries
   pub filter-exact : Exact (bufferIn (m .work)) (r .buffered)

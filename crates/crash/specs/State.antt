@@ -17,14 +17,19 @@ use Rattle.checks.specs.Registers.{zero}
 use Rattle.checks.specs.View.{viewOf, boundsOf, undoOf}
 use Rattle.reference.specs.Machine.{Reference}
 use Rattle.durable.specs.Reads.{reads-persisted}
+use Rattle.refine.specs.Pass.{Sweep}
 use Rattle.refine.specs.State.{Off, Ok}
 use Rattle.refine.specs.Flush.{ok-off}
 use Rattle.crash.specs.Statement.{Machine, dirtyIn}
 
+-- where the registers say that the pass is
+abbrev pub sweepOf : Registers → Sweep
+sweepOf r = record { cursor = r .cursor; target = r .target }
+
 pub record Up (N L : ℕ) (m : Machine) (g : Reference) : Type 0 where
   pub lines : shapeIn (m .board) .lines ≡ N
   pub ok :
-      Ok L (boundsOf (viewOf (m .board) (m .work)) (m .registers)) (m .registers .cursor) (m .board) (m .work)
+      Ok L (boundsOf (viewOf (m .board) (m .work)) (m .registers)) (sweepOf (m .registers)) (m .board) (m .work)
       (undoOf (viewOf (m .board) (m .work)) (m .registers)) g
   pub few : m .registers .buffered < bufferPlaces
   -- request 5/13
@@ -43,11 +48,11 @@ slots-same : (slots words : ℕ) → words ≡ workWords slots → slots ≡ slo
 slots-same slots words e = omega arith
 
 -- a controller at work, by the words that it has
-pub up-of : {L : ℕ} {b : Bounds} {c : ℕ} {board work : List ℕ} {u : LogState} {g : Reference} → Ok L b c board work u g → (r : Registers)
-    → r .epoch ≡ b .epoch → r .buffered ≡ u .buffered → r .cursor ≡ c → u .buffered < bufferPlaces → r .dirty ≡ dirtySlots work (b .slots)
+pub up-of : {L : ℕ} {b : Bounds} {at : Sweep} {board work : List ℕ} {u : LogState} {g : Reference} → Ok L b at board work u g → (r : Registers)
+    → r .epoch ≡ b .epoch → r .buffered ≡ u .buffered → sweepOf r ≡ at → u .buffered < bufferPlaces → r .dirty ≡ dirtySlots work (b .slots)
     → Up (b .lines) L (record { board = board; work = work; registers = r }) g
 unfolding viewOf
-up-of {L} {b} {c} {board} {work} {u} {g} o r e n k few count =
+up-of {L} {b} {at} {board} {work} {u} {g} o r e n k few count =
     let shape = o .reads .sized .shape in
     let lines : b .lines ≡ shapeIn board .lines = sym (ap (λ (s : Shape). s .lines) shape) in
     let entries : u .entries ≡ shapeIn board .entries = o .ring ∙ sym (ap (λ (s : Shape). s .entries) shape) in
@@ -61,9 +66,9 @@ up-of {L} {b} {c} {board} {work} {u} {g} o r e n k few count =
     record {
       lines = sym lines;
       ok =
-          subst (λ (x : LogState). Ok L (boundsOf (viewOf board work) r) (r .cursor) board work x g) numbers
-          (subst (λ (x : ℕ). Ok L (boundsOf (viewOf board work) r) x board work u g) (sym k)
-          (subst (λ (x : Bounds). Ok L x c board work u g) bounds o));
+          subst (λ (x : LogState). Ok L (boundsOf (viewOf board work) r) (sweepOf r) board work x g) numbers
+          (subst (λ (x : Sweep). Ok L (boundsOf (viewOf board work) r) x board work u g) (sym k)
+          (subst (λ (x : Bounds). Ok L x at board work u g) bounds o));
       few = omega (arith, n);
       counted = rw slots at count;
     }

@@ -2,6 +2,7 @@
 -- list; and what has to hold after every list. A step is made of the definitions that the public contracts cite.
 use Prim.Native.Nat.{ℕ, _+_, _≤_, _<_}
 use mathlib.Core.Path.{_≡_}
+use mathlib.Core.Logic.{_⊎_}
 use mathlib.Core.Bool.{true, cond}
 use mathlib.Core.List.{List, [], _∷_, _++_}
 use lib.Dec.{eqb}
@@ -30,8 +31,8 @@ use Rattle.reference.specs.Machine.{Reference, resting, Event, stored, committe
 -- ---- the calls of a list
 
 -- "every list of loads, stores, evictions, commits, scan calls, tallies and power-ups", and "A call on the board that document 02 adds joins
--- the list, unless it formats": the status question of 3/13 and the export of 7/13. The allowance is the cut point, and may be any number; "A
--- power-up may be lent any work memory", and an export any text.
+-- the list, unless it formats": the status question of 3/13, the export of 7/13 and the begin call of 8/13. The allowance is the cut point, and
+-- may be any number; "A power-up may be lent any work memory", and an export any text.
 pub data Step : Type 0 where
   call : Call → (allowance : ℕ) → Step
   powerUp : (lent : List ℕ) (allowance : ℕ) → Step
@@ -74,6 +75,7 @@ seenCall (calls.load a) value = nothing
 seenCall (calls.store a v) value = stored a v
 seenCall (calls.evict a) value = nothing
 seenCall calls.commit value = committed
+seenCall (calls.begin target) value = nothing
 seenCall calls.scan value = scanned value
 seenCall calls.tally value = nothing
 seenCall calls.filterBits value = nothing
@@ -169,21 +171,36 @@ Persists s =
     → (s .reference .persisted + 1 ≤ run s xs .reference .persisted)
     × (persistedOn (s .machine .board) + 1 ≤ persistedOn (run s xs .machine .board))
 
+-- request 8/13: "The S + 1 count holds for the scan calls after the begin call, the whole target then being persisted, and the crash rule
+-- includes such passes"
+abbrev pub PersistsTarget : Both → Type 0
+PersistsTarget s =
+    (target k : ℕ) → made (s .machine) (call (calls.begin target) k) .status ≡ status.Ok
+    → let begun = after s (call (calls.begin target) k) in
+    (xs : List Step) → Stretch begun xs → slotsOf (length (begun .machine .work)) + 1 ≤ scans begun xs
+    → (target ≤ run begun xs .reference .persisted) × (target ≤ persistedOn (run begun xs .machine .board))
+
 -- ---- beyond the demand
 
 -- "registers are all zero": a cut, or a power-up that was refused or cut, leaves them so
 abbrev pub Awake : Both → Type 0
 Awake s = s .machine .registers .epoch ≡ 0 → ⊥
 
--- the answers of a controller that is awake: shape, work, registers, slots, buffer and filter are never at fault
-pub data Expected : Status → Type 0 where
-  ok : Expected status.Ok
-  address : Expected status.Address
-  room : Expected status.Room
-  waiting : Expected status.Waiting
-  last : Expected status.Last
-  none : Expected status.None
-  cut : Expected status.Cut
+-- what an awake controller is answered: shape, work, registers, slots, buffer and filter are never at fault, and a call without stores is not cut
+abbrev pub answersTo : Call → List Status
+answersTo (calls.load a) = status.Ok ∷ status.Address ∷ status.Cut ∷ []
+answersTo (calls.store a v) = status.Ok ∷ status.Address ∷ status.Room ∷ status.Cut ∷ []
+answersTo (calls.evict a) = status.Ok ∷ status.Address ∷ status.Cut ∷ []
+answersTo calls.commit = status.Ok ∷ status.Waiting ∷ status.Last ∷ []
+answersTo (calls.begin target) = status.Ok ∷ status.Target ∷ []
+answersTo calls.scan = status.Ok ∷ status.None ∷ status.Cut ∷ []
+answersTo calls.tally = status.Ok ∷ []
+answersTo calls.filterBits = status.Ok ∷ []
+
+-- one of them
+abbrev pub Among : List Status → Status → Type 0
+Among [] s = ⊥
+Among (x ∷ xs) s = (s ≡ x) ⊎ Among xs s
 
 -- the old tally: the number of dirty slots of a work memory
 abbrev pub dirtyIn : List ℕ → ℕ
@@ -200,11 +217,8 @@ abbrev pub persistedRecords : (N : ℕ) → Both → List (List ℕ)
 persistedRecords N s = recordsOf (listed (persistedLines s) 0 N)
 
 -- "16 short ..; 17 past ..; 18 logheld ..; all after 1, .. and it refuses by no other": its answers on a board that passes 1
-pub data Exporting : Status → Type 0 where
-  exported : Exporting status.Ok
-  short : Exporting status.Short
-  past : Exporting status.Past
-  held : Exporting status.LogHeld
+abbrev pub exportAnswers : List Status
+exportAnswers = status.Ok ∷ status.Short ∷ status.Past ∷ status.LogHeld ∷ []
 
 -- ---- what holds after every list
 
@@ -235,11 +249,16 @@ pub record Consistent (N L : ℕ) (s : Both) : Type 0 where
       → made (s .machine) (call (calls.load a) k) .value ≡ s .reference .lines a
   -- the last sentence of the demand
   pub persists : Persists s
+  -- and request 8/13's of a pass that a begin call begins
+  pub persists-target : PersistsTarget s
   -- beyond it: an awake controller is refused only what it asks for ..
-  pub answers : Awake s → (c : Call) (k : ℕ) → Expected (made (s .machine) (call c k) .status)
+  pub answers : Awake s → (c : Call) (k : ℕ) → Among (answersTo c) (made (s .machine) (call c k) .status)
   -- .. and "8 room" only where the log and what is buffered for it fill all L entries
   pub full : Awake s → (a v k : ℕ) → made (s .machine) (call (calls.store a v) k) .status ≡ status.Room
       → controlIn (s .machine .board) .length + s .machine .registers .buffered ≡ L
+  -- .. and "A begin call takes a target from P + 1 to s − 1" outside a pass
+  pub begins-all : Awake s → (target k : ℕ) → s .machine .registers .target ≡ 0 → persistedOn (s .machine .board) < target
+      → target < s .machine .registers .epoch → made (s .machine) (call (calls.begin target) k) .status ≡ status.Ok
   -- and, of request 3/13, the filter is exactly the bits of the buffered entries
   pub filter-exact : Awake s → (i : ℕ) → i < filterSize
       → isSet (bufferIn (s .machine .work)) i ≡ isBitBuffered (bufferIn (s .machine .work)) (s .machine .registers .buffered) i
@@ -259,7 +278,7 @@ pub record Consistent (N L : ℕ) (s : Both) : Type 0 where
       (exportText (s .machine .board) number text ≡ written ++ drop (length written) text)
       × (made (s .machine) (exportRecord text number) .value ≡ length written)
   -- awake or not, no export answers 1 ..
-  pub export-answers : (text : List ℕ) (number : ℕ) → Exporting (made (s .machine) (exportRecord text number) .status)
+  pub export-answers : (text : List ℕ) (number : ℕ) → Among exportAnswers (made (s .machine) (exportRecord text number) .status)
   -- .. and it answers 0 with an empty log, 44 text bytes and the number of a record
   pub exports-all : (text : List ℕ) (number : ℕ) → controlIn (s .machine .board) .length ≡ 0 → mostText ≤ length text
       → number < length (persistedRecords N s) → made (s .machine) (exportRecord text number) .status ≡ status.Ok

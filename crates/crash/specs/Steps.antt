@@ -1,5 +1,5 @@
 -- One call of a list keeps the invariant of a run, whatever it is and wherever it is cut.
-use Prim.Native.Nat.{ℕ}
+use Prim.Native.Nat.{ℕ, _<_}
 use mathlib.Core.Path.{_≡_, refl, sym}
 use mathlib.Core.Bool.{Bool, true, false, cond, false≢true}
 use mathlib.Core.List.{List, _++_}
@@ -16,21 +16,23 @@ use Rattle.checks.specs.declared.Checked.{Checked}
 use Rattle.checks.specs.declared.Checked.the-variants.{Refused, Passed}
 use Rattle.checks.specs.declared.Registers.{Registers}
 use Rattle.checks.specs.Laws.{running, line-running, line-named, store-line, store-room}
-use Rattle.checks.specs.Laws.{commit-running, commit-window, commit-early, scan-running, scan-waiting}
-use Rattle.checks.specs.Refusals.{boardRows, workRows, registerRows, lineRows, roomRows, bufferRows, epochRows, cursorRows, waitingRows}
-use Rattle.checks.specs.Refusals.{memoriesChecked, runningChecked, lineChecked, storeChecked, commitChecked, scanChecked}
+use Rattle.checks.specs.Laws.{commit-running, commit-window, commit-early, begin-running, begin-outside, begin-waits, scan-running, scan-aims}
+use Rattle.checks.specs.Refusals.{boardRows, workRows, registerRows, lineRows, roomRows, bufferRows, epochRows, targetRows, cursorRows, waitingRows}
+use Rattle.checks.specs.Refusals.{memoriesChecked, runningChecked, lineChecked, storeChecked, commitChecked, beginChecked, scanChecked}
+use Rattle.checks.specs.Registers.{begun, scanTarget}
 use Rattle.checks.specs.View.{viewOf, goodWork}
 use Rattle.picl.specs.Answers.{answerOf, success, cutOff}
 use Rattle.picl.specs.Calls as calls
 use Rattle.picl.specs.Calls.{Call, verdictOf, judged, unstored, tallyVerdict, filterBitsVerdict}
 use Rattle.picl.specs.Calls.{loadOutcome, loadVerdict, storeOutcome, storeVerdict, evictOutcome, evictVerdict, commitOutcome, commitVerdict}
-use Rattle.picl.specs.Calls.{scanOutcome, scanVerdict}
+use Rattle.picl.specs.Calls.{beginOutcome, beginVerdict, scanOutcome, scanVerdict}
 use Rattle.reference.specs.Machine.{Reference, nothing}
 use Rattle.refine.specs.Along.{along-none}
 use Rattle.crash.specs.Statement.{call, Machine, answered, made, seenCall, dirtyIn}
 use Rattle.crash.specs.State.{Holds, is-up, is-down}
+use Rattle.crash.specs.Reached.{aim-inside, onward-none}
 use Rattle.crash.specs.Fares.{Refuses, tested-refuses, then-refuses, not-ok, not-cut-ok, Fares, refuses, goes, Kept, fares-kept}
-use Rattle.crash.specs.Calls.{down-stays, load-goes, load-up-value, store-goes, evict-goes, commit-goes, scan-goes}
+use Rattle.crash.specs.Calls.{down-stays, load-goes, load-up-value, store-goes, evict-goes, commit-goes, begin-goes, scan-goes}
 
 -- ---- no check refuses as 0
 
@@ -53,6 +55,11 @@ module _ (board work : List ℕ) (r : Registers) where
   commit-refuses : Refuses (commitChecked board work r)
   unfolding commitChecked
   commit-refuses = then-refuses (runningChecked board work r) (λ v. bufferRows v work r ++ epochRows v r) running-refuses (λ v. refl)
+
+  begin-refuses : (target : ℕ) → Refuses (beginChecked board work r target)
+  unfolding beginChecked
+  begin-refuses target =
+      then-refuses (runningChecked board work r) (λ v. bufferRows v work r ++ targetRows v r target) running-refuses (λ v. refl)
 
   scan-refuses : Refuses (scanChecked board work r)
   unfolding scanChecked
@@ -118,6 +125,18 @@ module _ {N L : ℕ} {m : Machine} {g : Reference} (h : Holds N L m g) where
           let same = commit-running board work r v (sym e) .shaped .is in
           commit-goes u (commit-early board work r v (sym e)) (rw same at (commit-window board work r v (sym e)))
 
+  begin-fares : (target : ℕ) → Fares N L m g (calls.begin target) (beginVerdict board work r target)
+  unfolding beginVerdict
+  begin-fares target = go (beginChecked board work r target) refl h
+    where
+      go : (x : Checked) → beginChecked board work r target ≡ x → Holds N L m g
+          → Fares N L m g (calls.begin target) (judged x (λ v. beginOutcome work r target))
+      go (Refused s) e h = refuses s 0 (begin-refuses board work r target s (sym e))
+      go (Passed v) e (is-down d) = absurd (down-stays d v (begin-running board work r target v (sym e)))
+      go (Passed v) e (is-up u) =
+          let same = begin-running board work r target v (sym e) .shaped .is in
+          begin-goes u target (begin-outside board work r target v (sym e)) (rw same at (begin-waits board work r target v (sym e)))
+
   scan-fares : Fares N L m g calls.scan (scanVerdict board work r)
   unfolding scanVerdict
   scan-fares = go (scanChecked board work r) refl h
@@ -127,12 +146,12 @@ module _ {N L : ℕ} {m : Machine} {g : Reference} (h : Holds N L m g) where
       go (Passed v) e (is-down d) = absurd (down-stays d v (scan-running board work r v (sym e)))
       go (Passed v) e (is-up u) =
           let same = scan-running board work r v (sym e) .shaped .is in
-          rw same (scan-goes u (rw same at (scan-waiting board work r v (sym e))))
+          rw same (scan-goes u (rw same at (scan-aims board work r v (sym e))))
 
   -- a question leaves all as it is, with the current on or off
   asked-goes : (c : Call) (value : ℕ) → seenCall c value ≡ nothing → Fares N L m g c (due (unstored value r work))
   unfolding applied
-  asked-goes c value unseen = goes (unstored value r work) (along-none N L board g) (rw unseen h) refl (rw unseen (omega arith))
+  asked-goes c value unseen = goes (unstored value r work) (along-none N L board g) (rw unseen h) refl (rw unseen (onward-none _))
 
   tally-fares : Fares N L m g calls.tally (tallyVerdict board work r)
   unfolding tallyVerdict
@@ -155,6 +174,7 @@ module _ {N L : ℕ} {m : Machine} {g : Reference} (h : Holds N L m g) where
   call-fares (calls.store a value) = store-fares a value
   call-fares (calls.evict a) = evict-fares a
   call-fares calls.commit = commit-fares
+  call-fares (calls.begin target) = begin-fares target
   call-fares calls.scan = scan-fares
   call-fares calls.tally = tally-fares
   call-fares calls.filterBits = filter-bits-fares
@@ -179,6 +199,23 @@ module _ {N L : ℕ} {m : Machine} {g : Reference} (h : Holds N L m g) where
       go (Refused s) e h = λ ok. absurd (false≢true (sym (rw ok at (not-ok s (running-refuses board work r s (sym e))))))
       go (Passed v) e (is-down d) = absurd (down-stays d v (running board work r v (sym e)))
       go (Passed v) e (is-up u) = told (leb 0 k) (u .counted)
+
+  -- after an accepted begin call the scan aims at its target
+  pub begin-aims : (target k persisted : ℕ) → made m (call (calls.begin target) k) .status ≡ status.Ok
+      → scanTarget (made m (call (calls.begin target) k) .left .registers) persisted ≡ target
+  unfolding made beginVerdict beginOutcome answerOf
+  begin-aims target k persisted = go (beginChecked board work r target) refl
+    where
+      told : (t : Bool) → 0 < target → cond t (success (beginOutcome work r target)) (cutOff k) .status ≡ status.Ok
+          → scanTarget (cond t (success (beginOutcome work r target)) (cutOff k) .registers) persisted ≡ target
+      told true some ok = aim-inside (begun r target) persisted some
+      told false some ok = absurd (not-cut-ok (sym ok))
+
+      go : (x : Checked) → beginChecked board work r target ≡ x
+          → answered k r board work (judged x (λ v. beginOutcome work r target)) .status ≡ status.Ok
+          → scanTarget (answered k r board work (judged x (λ v. beginOutcome work r target)) .left .registers) persisted ≡ target
+      go (Refused s) e = λ ok. absurd (false≢true (sym (rw ok at (not-ok s (begin-refuses board work r target s (sym e))))))
+      go (Passed v) e = told (leb 0 k) (omega (arith, begin-waits board work r target v (sym e) .ahead))
 
   -- an accepted load gives the uncached machine's line
   pub load-value : (a k : ℕ) → made m (call (calls.load a) k) .status ≡ status.Ok → made m (call (calls.load a) k) .value ≡ g .lines a

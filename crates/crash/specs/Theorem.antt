@@ -6,17 +6,18 @@ use Rattle.layout.specs.declared.Control.{Control}
 use Rattle.layout.specs.Limits.{mostLines, mostEntries}
 use Rattle.layout.specs.Memory.{formatted}
 use Rattle.status.specs.declared.Status.the-variants as status
+use Rattle.picl.specs.Calls as calls
 use Rattle.durable.specs.Reads.{reads-persisted}
-use Rattle.crash.specs.Statement.{Step, call, powerUp, exportRecord, made, Both, run, start, persistedOn, Consistent, Demand3}
+use Rattle.crash.specs.Statement.{Step, call, powerUp, exportRecord, made, Both, after, run, start, persistedOn, Consistent, Demand3}
 use Rattle.crash.specs.State.{Holds, holds-off, holds-ended}
 use Rattle.crash.specs.Fares.{NoneDirty}
 use Rattle.crash.specs.Steps.{load-value, tally-value, call-kept}
 use Rattle.crash.specs.Power.{power-up-kept, log-proper-of, power-up-lines-of, power-up-shape, power-up-entry, power-up-ok}
 use Rattle.crash.specs.Exports.{empty-log-lines, exporting-whole, export-answered, exported-record, export-accepted}
 use Rattle.crash.specs.Format.{formatted-rests}
-use Rattle.crash.specs.Runs.{run-holds, start-holds}
-use Rattle.crash.specs.Progress.{persisted-risen}
-use Rattle.crash.specs.Proper.{awake-up, call-expected, room-full, filter-exact}
+use Rattle.crash.specs.Runs.{after-holds, run-holds, start-holds}
+use Rattle.crash.specs.Progress.{oldest-persisted, target-persisted}
+use Rattle.crash.specs.Proper.{awake-up, call-answered, begin-accepted, room-full, filter-exact}
 
 same-epoch : {N L : ℕ} (s : Both) → Holds N L (s .machine) (s .reference) → persistedOn (s .machine .board) ≡ s .reference .persisted
 same-epoch s h =
@@ -43,10 +44,15 @@ consistent {N} {L} s h =
       wakes-up = λ lent k work enough. power-up-ok h lent k work enough;
       loads = λ a k ok. load-value h a k ok;
       persists = λ xs u many.
-          let p = persisted-risen s h xs u many in
+          let p = oldest-persisted s h xs u many in
           (p, rw (same-epoch s h, same-epoch (run s xs) (run-holds s h xs)) p);
-      answers = λ awake c k. call-expected (awake-up s h awake) c k;
+      persists-target = λ target k accepted xs u many.
+          let begun = after s (call (calls.begin target) k) in
+          let p = target-persisted s h target k accepted xs u many in
+          (p, rw (same-epoch (run begun xs) (run-holds begun (after-holds s h (call (calls.begin target) k)) xs)) p);
+      answers = λ awake c k. call-answered (awake-up s h awake) c k;
       full = λ awake a v k. room-full (awake-up s h awake) a v k;
+      begins-all = λ awake. begin-accepted (awake-up s h awake);
       filter-exact = λ awake. filter-exact (awake-up s h awake);
       count-true = λ awake. awake-up s h awake .counted;
       none-after-cut = cut-counts s h;

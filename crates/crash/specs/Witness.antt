@@ -1,6 +1,6 @@
--- The premises of demand 3 can be met: two lists of calls, computed. Document 01's listing (line 0 is stored 7 in epoch 1 and 9 in epoch 2,
+-- The premises of demand 3 can be met: three lists of calls, computed. Document 01's listing (line 0 is stored 7 in epoch 1 and 9 in epoch 2,
 -- and S + 1 scan calls persist epoch 1); then 9 is written in place, the current goes in mid-flush, power-up restores 7, and 7 is exported. The
--- other leaves a log entry that ends as late as one may.
+-- second leaves a log entry that ends as late as one may. In the third one pass persists three epochs, or is cut.
 use Prim.Native.Nat.{ℕ, _+_, _*_}
 use mathlib.Core.Bool.{true, false}
 use mathlib.Core.Path.{_≡_, refl}
@@ -8,6 +8,7 @@ use mathlib.Core.List.{List, [], _∷_, _++_}
 use native.Mathlib.Omega.{arith}
 use lib.ListN.{length, getD, replicate}
 use Rattle.base.specs.Cases.{update}
+use Rattle.base.specs.Listed.{listed}
 use Rattle.base.specs.Walk.{firstFrom}
 use Rattle.board.specs.Stores.{applied, each, shifted}
 use Rattle.board.specs.Verdict.{boardAfter, workAfter}
@@ -26,8 +27,8 @@ use Rattle.undo.specs.Log.{restoreStores, restoreTurn, recoverStores}
 use Rattle.slots.specs.Sets as sets
 use Rattle.slots.specs.Slots as slots
 use Rattle.steps.specs.Effects as steps
-use Rattle.checks.specs.View.{viewOf, goodSizes, goodControl, goodShape, goodSlots, goodWork, properEpoch, properCounts, properRegisters, miscounted, goodBuffer, goodFilter}
-use Rattle.checks.specs.Refusals.{boardChecked, memoriesChecked, runningChecked, lineChecked, storeChecked, commitChecked, scanChecked}
+use Rattle.checks.specs.View.{viewOf, goodSizes, goodControl, goodShape, goodSlots, goodWork, properEpoch, properCounts, waits, properPass, properRegisters, miscounted, goodBuffer, goodFilter}
+use Rattle.checks.specs.Refusals.{boardChecked, memoriesChecked, runningChecked, lineChecked, storeChecked, commitChecked, beginChecked, scanChecked}
 use Rattle.picl.specs.Answers.{answerOf}
 use Rattle.picl.specs.Calls as calls
 use Rattle.hex.specs.Records.{lineFeed, digit, digitsOf, textOf, sumOf, checkOf, checked, twoBytes, recordText, bankText, dataText, endText, recordsFrom}
@@ -90,6 +91,36 @@ fifteen = powerUp blank many ∷ replicate 15 (call calls.commit many) ++ call (
 abbrev pub far : Both
 far = run (start entries (formatted 4 entries)) fifteen
 
+-- a line is stored to in each of three epochs, which then wait, and another in the fourth, which runs
+abbrev pub woven : List Step
+woven =
+    powerUp blank many
+    ∷ call (calls.store 0 7) many
+    ∷ call calls.commit many
+    ∷ call (calls.store 1 8) many
+    ∷ call calls.commit many
+    ∷ call (calls.store 2 9) many
+    ∷ call calls.commit many
+    ∷ call (calls.store 3 6) many
+    ∷ []
+
+abbrev pub waiting : Both
+waiting = run (start entries (formatted 4 entries)) woven
+
+-- one pass for the three, with a commit in its middle
+abbrev pub aimed : Both
+aimed = after waiting (call (calls.begin 3) 0)
+
+abbrev pub sweep : List Step
+sweep = call calls.scan many ∷ call calls.scan many ∷ call calls.commit many ∷ replicate 3 (call calls.scan many)
+
+abbrev pub swept : Both
+swept = run aimed sweep
+
+-- or its second visit is cut: line 0 is written out, and epoch 0 is still the persisted one
+abbrev pub torn : Both
+torn = run aimed (call calls.scan many ∷ call calls.scan 0 ∷ [])
+
 pub record Met : Type 0 where
   -- the premises of `Persists`
   pub stretch : Stretch begun pass
@@ -124,6 +155,18 @@ pub record Met : Type 0 where
   pub log-held : made (cut .machine) (exportRecord text 1) .status ≡ status.LogHeld
   pub exported-woken : (made (woken .machine) (exportRecord text 1) .status ≡ status.Ok) × (controlIn (woken .machine .board) .length ≡ 0)
   pub text-woken : exportText (woken .machine .board) 1 text ≡ bytes ":1000000000000000000000070000000000000000E9" ++ (lineFeed ∷ [])
+  -- request 8/13: the premises of `begins-all` and `PersistsTarget`; the lines of the three epochs are written out, and the fourth's is not
+  pub outside-pass : (waiting .machine .registers .target ≡ 0) × (waiting .machine .registers .epoch ≡ 4)
+  pub begin-accepted : made (waiting .machine) (call (calls.begin 3) 0) .status ≡ status.Ok
+  pub begin-refused : (made (aimed .machine) (call (calls.begin 3) 0) .status ≡ status.Target)
+      × (made (waiting .machine) (call (calls.begin 4) 0) .status ≡ status.Target)
+  pub pass-stretch : Stretch aimed sweep
+  pub pass-accepted : slotsOf (length (aimed .machine .work)) + 1 ≡ scans aimed sweep
+  pub pass-persisted : (persistedOn (aimed .machine .board) ≡ 0) × (persistedOn (swept .machine .board) ≡ 3)
+  pub written-out : listed (lineOn entries (swept .machine .board)) 0 4 ≡ 7 ∷ 8 ∷ 9 ∷ 0 ∷ []
+  -- of the pass that is cut nothing remains
+  pub pass-cut : (torn .machine .registers .epoch ≡ 0) × (persistedOn (torn .machine .board) ≡ 0) × (lineOn entries (torn .machine .board) 0 ≡ 7)
+  pub taken-back : listed (lineOn entries (made (torn .machine) (powerUp blank many) .left .board)) 0 4 ≡ 0 ∷ 0 ∷ 0 ∷ 0 ∷ []
 
 differ : _≡_ {A = ℕ} 0 1 → ⊥
 differ e = omega arith
@@ -137,13 +180,13 @@ unfolding update firstFrom applied each shifted boardAfter workAfter width pack 
     slots.zeroed slots.filled slots.dirtied slots.cleaned slots.entryDue slots.undoDue
     steps.flushingIf steps.writingOut steps.writingBack steps.emptying steps.lineIn steps.bringing steps.entryFor steps.logged
     steps.storingHeld steps.loading steps.storing steps.evicting steps.cleaning steps.visiting steps.persisting
-    viewOf goodSizes goodControl goodShape goodSlots goodWork properEpoch properCounts properRegisters miscounted goodBuffer goodFilter
-    memoriesChecked runningChecked lineChecked storeChecked commitChecked scanChecked answerOf
+    viewOf goodSizes goodControl goodShape goodSlots goodWork properEpoch properCounts waits properPass properRegisters miscounted goodBuffer goodFilter
+    memoriesChecked runningChecked lineChecked storeChecked commitChecked beginChecked scanChecked answerOf
     calls.storeAt calls.storeOutcome calls.storeVerdict calls.evictAt calls.evictOutcome calls.evictVerdict calls.commitOutcome
-    calls.commitVerdict calls.scanOutcome calls.scanVerdict calls.tallyVerdict calls.wakeAt calls.wakeVerdict calls.powerUpVerdict
+    calls.commitVerdict calls.beginOutcome calls.beginVerdict calls.scanAt calls.scanOutcome calls.scanVerdict calls.tallyVerdict calls.wakeAt calls.wakeVerdict calls.powerUpVerdict
     boardChecked bytesOf digit digitsOf textOf sumOf checkOf checked twoBytes recordText bankText dataText endText recordsFrom
     recordAt exportChecked exportReport exportText
-    upTo made run scans
+    upTo listed made run scans
 met =
     record {
       stretch = (λ e. differ cc, (λ e. differ cc, (λ e. differ cc, (λ e. differ cc, (λ e. differ cc, (λ e. differ cc, tt))))));
@@ -170,4 +213,13 @@ met =
       log-held = refl;
       exported-woken = (refl, refl);
       text-woken = refl;
+      outside-pass = (refl, refl);
+      begin-accepted = refl;
+      begin-refused = (refl, refl);
+      pass-stretch = (λ e. differ cc, (λ e. differ cc, (λ e. differ cc, (λ e. differ cc, (λ e. differ cc, (λ e. differ cc, tt))))));
+      pass-accepted = refl;
+      pass-persisted = (refl, refl);
+      written-out = refl;
+      pass-cut = (refl, refl, refl);
+      taken-back = refl;
     }
