@@ -89,19 +89,19 @@ wake c log = powerUpVerdict (board c log 7) (work clean 7 [] unmarked)
 
 -- a store to line 3, as slot 1 holds it: the others are empty, so that slot 1 alone counts as dirty or not
 abbrev pub store : (persisted epoch : ℕ) → Slot → Verdict
-store persisted epoch held = storeVerdict (quiet persisted) (work held 7 [] unmarked) (given epoch 0 0 (bit (held .dirty))) 3 9
+store persisted epoch held = storeVerdict (quiet persisted) (work held 7 [] unmarked) (given epoch 0 0 (bit (held .dirty)) 0) 3 9
 
 -- an eviction of line 3, stored to in the running epoch 2, with one entry buffered
 abbrev pub evict : (places filter : List ℕ) → Verdict
-evict places filter = evictVerdict (quiet 0) (work (dirty 2) 9 places filter) (given 2 1 0 1) 3
+evict places filter = evictVerdict (quiet 0) (work (dirty 2) 9 places filter) (given 2 1 0 1 0) 3
 
 -- a commit
 abbrev pub commit : (persisted epoch : ℕ) → Verdict
-commit persisted epoch = commitVerdict (quiet persisted) (work clean 7 [] unmarked) (given epoch 0 0 0)
+commit persisted epoch = commitVerdict (quiet persisted) (work clean 7 [] unmarked) (given epoch 0 0 0 0)
 
 -- a scan's visit of slot 1, its target 1, with line 3 stored to in epoch 1 or 2 and its entry buffered
 abbrev pub scan : (tag : ℕ) → Verdict
-scan tag = scanVerdict (quiet 0) (work (dirty tag) 9 (undo 3 0 tag 7) marked3) (given 2 1 1 1)
+scan tag = scanVerdict (quiet 0) (work (dirty tag) 9 (undo 3 0 tag 7) marked3) (given 2 1 1 1 1)
 
 -- what calls come to: a verdict with no store due, an answer of number 0, and one of number 3
 abbrev pub still : Registers → (work : List ℕ) → Verdict

@@ -12,27 +12,27 @@ holding s = work s 9 [] unmarked
 
 -- calls with a count of dirty slots
 abbrev pub loading : Slot → (count address : ℕ) → Verdict
-loading s count address = loadVerdict (quiet 0) (holding s) (given 2 0 0 count) address
+loading s count address = loadVerdict (quiet 0) (holding s) (given 2 0 0 count 0) address
 
 abbrev pub storing : Slot → (count address : ℕ) → Verdict
-storing s count address = storeVerdict (quiet 0) (holding s) (given 2 0 0 count) address 5
+storing s count address = storeVerdict (quiet 0) (holding s) (given 2 0 0 count 0) address 5
 
 abbrev pub evicting : Slot → (count address : ℕ) → Verdict
-evicting s count address = evictVerdict (quiet 0) (holding s) (given 2 0 0 count) address
+evicting s count address = evictVerdict (quiet 0) (holding s) (given 2 0 0 count 0) address
 
 abbrev pub scanning : Slot → (count cursor : ℕ) → Verdict
-scanning s count cursor = scanVerdict (quiet 0) (holding s) (given 2 0 cursor count)
+scanning s count cursor = scanVerdict (quiet 0) (holding s) (given 2 0 cursor count 1)
 
 abbrev pub committing : Slot → (count : ℕ) → Verdict
-committing s count = commitVerdict (quiet 0) (holding s) (given 2 0 0 count)
+committing s count = commitVerdict (quiet 0) (holding s) (given 2 0 0 count 0)
 
 -- an entry that is not proper is buffered, and the count is wrong: 4 comes before 7
 abbrev pub badEntry : List ℕ
 badEntry = work (dirty 2) 9 (undo 3 2 2 7) unmarked
 
 abbrev pub before7 : Verdict
-before7 = evictVerdict (quiet 0) badEntry (given 2 1 0 0) 3
+before7 = evictVerdict (quiet 0) badEntry (given 2 1 0 0 0) 3
 
 -- no epoch waits, and the count is wrong: 4 comes before 11
 abbrev pub before11 : Verdict
-before11 = scanVerdict (quiet 1) (holding clean) (given 2 0 0 4)
+before11 = scanVerdict (quiet 1) (holding clean) (given 2 0 0 4 0)

@@ -17,7 +17,7 @@ use Rattle.slots.specs.Slots as slots
 use Rattle.slots.specs.Sets as sets
 use Rattle.steps.specs.Effects as steps
 use Rattle.checks.specs.Registers.{given}
-use Rattle.checks.specs.View.{viewOf, goodSizes, goodControl, goodShape, goodSlots, goodWork, properEpoch, properCounts, properRegisters, miscounted}
+use Rattle.checks.specs.View.{viewOf, goodSizes, goodControl, goodShape, goodSlots, goodWork, properEpoch, properCounts, waits, properPass, properRegisters, miscounted}
 use Rattle.checks.specs.View.{goodBuffer, goodFilter}
 use Rattle.checks.specs.Refusals.{memoriesChecked, runningChecked, lineChecked, storeChecked, scanChecked}
 use Rattle.picl.specs.Answers.{cutOff, answerOf}
@@ -51,11 +51,11 @@ pub record FourWays : Type 0 where
   pub equal-last : loading (allDirty 3 3 2 2) 4 ≡ leaves 103 (written 6) (four (dirty 4 3) (dirty 5 3) (clean 3) (dirty 7 2)) 3
   -- a store's newcomer is dirty in the slot that was chosen as the call found the set: the count stays
   pub over-dirty : storing (allDirty 2 3 1 2) 4 ≡ logs 0 103 (written 6) (four (dirty 4 2) (dirty 5 3) stored (dirty 7 2)) 4
-  pub over-dirty-ok : answerOf 1 (given 3 0 0 4) (storing (allDirty 2 3 1 2) 4) ≡ ok 0 1 (given 3 1 0 4)
+  pub over-dirty-ok : answerOf 1 (given 3 0 0 4 0) (storing (allDirty 2 3 1 2) 4) ≡ ok 0 1 (given 3 1 0 4 0)
   pub over-dirty-board : boardAfter 1 board (storing (allDirty 2 3 1 2) 4) ≡ boardOf 0 [] (set lines 6 206)
-  pub over-dirty-cut : answerOf 0 (given 3 0 0 4) (storing (allDirty 2 3 1 2) 4) ≡ cutOff 0
+  pub over-dirty-cut : answerOf 0 (given 3 0 0 4 0) (storing (allDirty 2 3 1 2) 4) ≡ cutOff 0
   -- the write-out flushes first where the line that goes has its entry buffered: three stores, and the line's
-  pub buffered-ok : answerOf 4 (given 3 1 0 4) loadBuffering ≡ ok 101 4 (given 3 0 0 3)
+  pub buffered-ok : answerOf 4 (given 3 1 0 4 0) loadBuffering ≡ ok 101 4 (given 3 0 0 3 0)
   pub buffered-board : boardAfter 4 board loadBuffering ≡ boardOf 1 (undo 3 0 2 103) (set lines 3 203)
   pub buffered-first : boardAfter 3 board loadBuffering ≡ boardOf 1 (undo 3 0 2 103) lines
   pub buffered-slots : workAfter 4 buffering loadBuffering ≡ holding (four (dirty 4 3) (clean 1) (dirty 5 3) (dirty 6 3))
@@ -180,10 +180,10 @@ unfolding width pack unpack encode decode firstFrom applied each shifted boardAf
     slots.zeroed slots.filled slots.dirtied slots.cleaned slots.entryDue slots.undoDue
     steps.flushingIf steps.writingOut steps.writingBack steps.emptying steps.lineIn steps.bringing steps.entryFor steps.logged steps.storingHeld
     steps.loading steps.storing steps.evicting steps.cleaning steps.visiting
-    viewOf goodSizes goodControl goodShape goodSlots goodWork properEpoch properCounts properRegisters miscounted goodBuffer goodFilter
+    viewOf goodSizes goodControl goodShape goodSlots goodWork properEpoch properCounts waits properPass properRegisters miscounted goodBuffer goodFilter
     memoriesChecked runningChecked lineChecked storeChecked scanChecked answerOf
     calls.loadAt calls.loadOutcome calls.loadVerdict calls.storeAt calls.storeOutcome calls.storeVerdict calls.evictAt calls.evictOutcome calls.evictVerdict
-    calls.scanOutcome calls.scanVerdict calls.powerUpVerdict calls.filterBitsVerdict calls.filterBitsReport
+    calls.scanAt calls.scanOutcome calls.scanVerdict calls.powerUpVerdict calls.filterBitsVerdict calls.filterBitsReport
 four-ways =
     record {
       empty-behind = refl;

@@ -5,4 +5,5 @@ pub mod Counted
 pub mod Sets
 pub mod FourWays
 pub mod Hex
+pub mod Passes
 pub mod Table

@@ -68,31 +68,31 @@ holding slots = workOf slots [] unmarked
 
 -- the calls, with a count of dirty slots
 abbrev pub loadingOf : (slots : List ℕ) → (count address : ℕ) → Verdict
-loadingOf slots count address = loadVerdict board (holding slots) (given 3 0 0 count) address
+loadingOf slots count address = loadVerdict board (holding slots) (given 3 0 0 count 0) address
 
 abbrev pub loading : (slots : List ℕ) → (count : ℕ) → Verdict
 loading slots count = loadingOf slots count 3
 
 abbrev pub storing : (slots : List ℕ) → (count : ℕ) → Verdict
-storing slots count = storeVerdict board (holding slots) (given 3 0 0 count) 3 9
+storing slots count = storeVerdict board (holding slots) (given 3 0 0 count 0) 3 9
 
 abbrev pub evicting : (slots : List ℕ) → (count : ℕ) → Verdict
-evicting slots count = evictVerdict board (holding slots) (given 3 0 0 count) 3
+evicting slots count = evictVerdict board (holding slots) (given 3 0 0 count 0) 3
 
--- a scan's target is 1
+-- a scan in the pass to epoch 1
 abbrev pub scanning : (slots : List ℕ) → (count cursor : ℕ) → Verdict
-scanning slots count cursor = scanVerdict board (holding slots) (given 3 0 cursor count)
+scanning slots count cursor = scanVerdict board (holding slots) (given 3 0 cursor count 1)
 
 -- a store with the log full
 abbrev pub fullLog : (slots : List ℕ) → (count : ℕ) → Verdict
-fullLog slots count = storeVerdict (boardOf 8 [] lines) (holding slots) (given 3 0 0 count) 3 9
+fullLog slots count = storeVerdict (boardOf 8 [] lines) (holding slots) (given 3 0 0 count 0) 3 9
 
 -- a load of line 1, for which line 3 has to go; its entry is buffered
 abbrev pub buffering : List ℕ
 buffering = workOf (four (dirty 4 3) (dirty 3 2) (dirty 5 3) (dirty 6 3)) (undo 3 0 2 103) marked3
 
 abbrev pub loadBuffering : Verdict
-loadBuffering = loadVerdict board buffering (given 3 1 0 4) 1
+loadBuffering = loadVerdict board buffering (given 3 1 0 4 0) 1
 
 -- work memories of S slots, all zero
 abbrev pub zeros : (slots : ℕ) → List ℕ
@@ -102,7 +102,7 @@ abbrev pub waking : (slots : ℕ) → Verdict
 waking slots = powerUpVerdict board (zeros slots)
 
 abbrev pub loadingFrom : (slots : ℕ) → Verdict
-loadingFrom slots = loadVerdict board (zeros slots) (given 3 0 0 0) 3
+loadingFrom slots = loadVerdict board (zeros slots) (given 3 0 0 0 0) 3
 
 abbrev pub bitsOf : (slots : ℕ) → Report
 bitsOf slots = filterBitsReport (zeros slots)
@@ -115,13 +115,13 @@ abbrev pub written : (address : ℕ) → List Store
 written address = one (18 + address) (200 + address)
 
 abbrev pub leaves : (value : ℕ) → List Store → (slots : List ℕ) → (count : ℕ) → Verdict
-leaves value stores slots count = due (record { value = value; registers = given 3 0 0 count; work = holding slots; stores = stores })
+leaves value stores slots count = due (record { value = value; registers = given 3 0 0 count 0; work = holding slots; stores = stores })
 
 -- of a store that makes an entry for line 3
 abbrev pub logs : (from old : ℕ) → List Store → (slots : List ℕ) → (count : ℕ) → Verdict
 logs from old stores slots count =
-    due (record { value = 0; registers = given 3 1 0 count; work = workOf slots (undo 3 from 3 old) marked3; stores = stores })
+    due (record { value = 0; registers = given 3 1 0 count 0; work = workOf slots (undo 3 from 3 old) marked3; stores = stores })
 
 -- of a scan's visit
 abbrev pub visits : List Store → (slots : List ℕ) → (count cursor : ℕ) → Verdict
-visits stores slots count cursor = due (record { value = 0; registers = given 3 0 cursor count; work = holding slots; stores = stores })
+visits stores slots count cursor = due (record { value = 0; registers = given 3 0 cursor count 1; work = holding slots; stores = stores })

@@ -24,13 +24,13 @@ use Rattle.slots.specs.Slots.{entryDue, undoDue}
 use Rattle.steps.specs.Effects as steps
 use Rattle.steps.specs.Effects.{bringing, cleaning, visiting, persisting}
 use Rattle.checks.specs.Registers.{zero, given}
-use Rattle.checks.specs.View.{viewOf, goodSizes, goodControl, goodShape, goodSlots, goodWork, properEpoch, properCounts, properRegisters, miscounted, goodBuffer, goodFilter}
+use Rattle.checks.specs.View.{viewOf, goodSizes, goodControl, goodShape, goodSlots, goodWork, properEpoch, properCounts, waits, properPass, properRegisters, miscounted, goodBuffer, goodFilter}
 use Rattle.checks.specs.Refusals.{memoriesChecked, runningChecked, lineChecked, storeChecked, commitChecked, scanChecked}
 use Rattle.picl.specs.Answers.{cutOff, answerOf}
 use Rattle.board.specs.Verdict.{refused, boardAfter, workAfter}
 use Rattle.picl.specs.Calls.{report, tallyVerdict, tallyReport, filterBitsVerdict, filterBitsReport, formatReport, formatAfter, loadAt, loadOutcome, loadVerdict}
 use Rattle.picl.specs.Calls.{storeAt, storeOutcome, storeVerdict, evictAt, evictOutcome, evictVerdict, commitOutcome, commitVerdict}
-use Rattle.picl.specs.Calls.{scanOutcome, scanVerdict, wakeAt, wakeVerdict, powerUpVerdict}
+use Rattle.picl.specs.Calls.{scanAt, scanOutcome, scanVerdict, wakeAt, wakeVerdict, powerUpVerdict}
 use Rattle.layout.specs.Bytes.{bytesOf, wordOf}
 use Rattle.status.specs.declared.Status.the-variants as status
 use Rattle.status.specs.Names.{bytes, rowOf, nameOf, withName}
@@ -47,6 +47,7 @@ use Rattle.worked.specs.Bench.{ending, endingLast, wake, store, evict, c
 use Rattle.worked.specs.Filtered.{buffer, full, store14, commit14, scan14, wide, evictShared}
 use Rattle.worked.specs.FourWays.{FourWays, four-ways}
 use Rattle.worked.specs.Hex.{Exported, exported}
+use Rattle.worked.specs.Passes.{Passes, passes}
 use Rattle.worked.specs.Counted.{holding, loading, storing, evicting, scanning, committing, badEntry, before7, before11}
 
 pub record Worked : Type 0 where
@@ -62,36 +63,36 @@ pub record Worked : Type 0 where
   pub w5-covers : (covers (entry 3 1 3) 1 ≡ true) × (covers (entry 3 1 3) 2 ≡ true)
   pub w5-not : (covers (entry 3 1 3) 0 ≡ false) × (covers (entry 3 1 3) 3 ≡ false)
   -- "W6 P = 1 and, oldest first, 0, 2 data 4 and 0, 2 data 6 for one line: it wakes as 4."
-  pub w6-ok : answerOf 3 zero (wake (control 1 0 2) twice) ≡ ok 0 3 (given 2 0 0 0)
+  pub w6-ok : answerOf 3 zero (wake (control 1 0 2) twice) ≡ ok 0 3 (given 2 0 0 0 0)
   pub w6-board : boardAfter 3 (board (control 1 0 2) twice 7) (wake (control 1 0 2) twice) ≡ board (control 1 0 0) twice 4
   -- "W7 clean store at P 0, s 2 gives 0, 2."
-  pub w7 : store 0 2 clean ≡ still (given 2 1 0 1) (work (dirty 2) 9 (undo 3 0 2 7) marked3)
+  pub w7 : store 0 2 clean ≡ still (given 2 1 0 1 0) (work (dirty 2) 9 (undo 3 0 2 7) marked3)
   -- "W8 tag 1 at s 3 gives 1, 3."
-  pub w8 : store 0 3 (dirty 1) ≡ still (given 3 1 0 1) (work (dirty 3) 9 (undo 3 1 3 7) marked3)
+  pub w8 : store 0 3 (dirty 1) ≡ still (given 3 1 0 1 0) (work (dirty 3) 9 (undo 3 1 3 7) marked3)
   -- "W9 tag 3 at s 3: none."
-  pub w9 : store 0 3 (dirty 3) ≡ still (given 3 0 0 1) (work (dirty 3) 9 [] unmarked)
+  pub w9 : store 0 3 (dirty 3) ≡ still (given 3 0 0 1 0) (work (dirty 3) 9 [] unmarked)
   -- "W10 eviction of a dirty line with b = 1 and its own entry buffered: 4 stores; allowance 4 ok."
-  pub w10-ok : answerOf 4 (given 2 1 0 1) (evict (undo 3 0 2 7) marked3) ≡ ok 1 4 (given 2 0 0 0)
+  pub w10-ok : answerOf 4 (given 2 1 0 1 0) (evict (undo 3 0 2 7) marked3) ≡ ok 1 4 (given 2 0 0 0 0)
   pub w10-board : boardAfter 4 (quiet 0) (evict (undo 3 0 2 7) marked3) ≡ board (control 0 0 1) (undo 3 0 2 7) 9
   -- "W11 allowance 3: cut, log length up by one, line unchanged."
-  pub w11-cut : answerOf 3 (given 2 1 0 1) (evict (undo 3 0 2 7) marked3) ≡ cutOff 3
+  pub w11-cut : answerOf 3 (given 2 1 0 1 0) (evict (undo 3 0 2 7) marked3) ≡ cutOff 3
   pub w11-board : boardAfter 3 (quiet 0) (evict (undo 3 0 2 7) marked3) ≡ board (control 0 0 1) (undo 3 0 2 7) 7
   -- "W12 s − P = 15 commits; 16 answers 9."
-  pub w12-ok : commit 1 16 ≡ still (given 17 0 0 0) (work clean 7 [] unmarked)
-  pub w12-waits : numberOf (answerOf 0 (given 17 0 0 0) (commit 1 17) .status) ≡ 9
+  pub w12-ok : commit 1 16 ≡ still (given 17 0 0 0 0) (work clean 7 [] unmarked)
+  pub w12-waits : numberOf (answerOf 0 (given 17 0 0 0 0) (commit 1 17) .status) ≡ 9
   -- "A scan's write-out is an in-place store too: it must flush a matching buffer first."
-  pub scan-flushes : answerOf 4 (given 2 1 1 1) (scan 1) ≡ ok 0 4 (given 2 0 2 0)
+  pub scan-flushes : answerOf 4 (given 2 1 1 1 1) (scan 1) ≡ ok 0 4 (given 2 0 2 0 1)
   pub scan-flushes-first : boardAfter 3 (quiet 0) (scan 1) ≡ board (control 0 0 1) (undo 3 0 1 7) 7
   -- "The control word stored before the entries it counts."
   pub entries-first : boardAfter 2 (quiet 0) (evict (undo 3 0 2 7) marked3) ≡ board (control 0 0 0) (undo 3 0 2 7) 7
   -- "Clearing the log before the last line is restored, or not at all"
   pub lines-first : boardAfter 2 (board (control 1 0 2) twice 7) (wake (control 1 0 2) twice) ≡ board (control 1 0 2) twice 4
   -- "ValidFrom 0 for a clean line instead of P."
-  pub valid-from : store 1 2 clean ≡ still (given 2 1 0 1) (work (dirty 2) 9 (undo 3 1 2 7) marked3)
+  pub valid-from : store 1 2 clean ≡ still (given 2 1 0 1 0) (work (dirty 2) 9 (undo 3 1 2 7) marked3)
   -- "Then the control word: same P, start 0, length 0, always stored."
-  pub always-stored : answerOf 1 zero (wake (control 1 0 0) []) ≡ ok 0 1 (given 2 0 0 0)
+  pub always-stored : answerOf 1 zero (wake (control 1 0 0) []) ≡ ok 0 1 (given 2 0 0 0 0)
   -- "if dirty and tagged with the target": a line of another tag is left alone
-  pub other-tag : scan 2 ≡ still (given 2 1 2 1) (work (dirty 2) 9 (undo 3 0 2 7) marked3)
+  pub other-tag : scan 2 ≡ still (given 2 1 2 1 1) (work (dirty 2) 9 (undo 3 0 2 7) marked3)
   -- 3/13: "bit a mod 4,096 and bit (a × 40503 mod 65,536) divided by 16, rounded down": 4,095 × 40503 = 2,530 × 65,536 + 53,705, and
   -- 65,535 × 40503 = 40,502 × 65,536 + 25,033
   pub bits-3 : (firstBit 3 ≡ 3) × (secondBit 3 ≡ 3498)
@@ -107,23 +108,23 @@ pub record Worked : Type 0 where
   pub corner-4095 : withBit (buffer 0 0) 4095 ≡ buffer 63 1
   pub corner-read : (isSet (buffer 63 1) 4095 ≡ true) × (isSet (buffer 63 1) 4094 ≡ false)
   -- "A write-out flushes exactly when b > 0 and both bits of its address are set": not where line 1 alone is buffered ..
-  pub no-flush : answerOf 1 (given 2 1 0 1) (evict (undo 1 0 2 7) marked1) ≡ ok 1 1 (given 2 1 0 0)
+  pub no-flush : answerOf 1 (given 2 1 0 1 0) (evict (undo 1 0 2 7) marked1) ≡ ok 1 1 (given 2 1 0 0 0)
   -- .. nor with one bit, nor where b is 0 ..
-  pub one-bit : answerOf 1 (given 2 1 0 1) (evict (undo 1 0 2 7) (set marked13 54 0)) ≡ ok 1 1 (given 2 1 0 0)
-  pub none-buffered : answerOf 1 (given 2 0 0 1) (evictVerdict (quiet 0) (work (dirty 2) 9 [] full) (given 2 0 0 1) 3) ≡ ok 1 1 (given 2 0 0 0)
+  pub one-bit : answerOf 1 (given 2 1 0 1 0) (evict (undo 1 0 2 7) (set marked13 54 0)) ≡ ok 1 1 (given 2 1 0 0 0)
+  pub none-buffered : answerOf 1 (given 2 0 0 1 0) (evictVerdict (quiet 0) (work (dirty 2) 9 [] full) (given 2 0 0 1 0) 3) ≡ ok 1 1 (given 2 0 0 0 0)
   -- .. but also where other lines have set them: a false hit
-  pub false-hit : answerOf 4 (given 2 1 0 1) (evict (undo 1 0 2 7) marked13) ≡ ok 1 4 (given 2 0 0 0)
+  pub false-hit : answerOf 4 (given 2 1 0 1 0) (evict (undo 1 0 2 7) marked13) ≡ ok 1 4 (given 2 0 0 0 0)
   pub false-hit-board : boardAfter 4 (quiet 0) (evict (undo 1 0 2 7) marked13) ≡ board (control 0 0 1) (undo 1 0 2 7) 9
   pub false-hit-shared : boardAfter 4 (wide 0 [] 7) evictShared ≡ wide 1 (undo 233 0 2 5) 9
   -- "The filter is cleared at each flush with b > 0."
   pub flush-clears : workAfter 4 (work (dirty 2) 9 (undo 3 0 2 7) marked3) (evict (undo 3 0 2 7) marked3) ≡ replicate (2 * 4 + 128) 0
-  pub flush-keeps : workAfter 1 (work (dirty 2) 9 [] full) (evictVerdict (quiet 0) (work (dirty 2) 9 [] full) (given 2 0 0 1) 3)
+  pub flush-keeps : workAfter 1 (work (dirty 2) 9 [] full) (evictVerdict (quiet 0) (work (dirty 2) 9 [] full) (given 2 0 0 1 0) 3)
       ≡ replicate (2 * 4 + 64) 0 ++ full
   -- "14 filter, a buffered entry with either bit unset"
   pub lacks-first : evict (undo 3 0 2 7) (filter 54 0x200000) ≡ refused status.Filter 0
   pub lacks-second : evict (undo 3 0 2 7) (filter 0 0x1000000000000000) ≡ refused status.Filter 0
   -- "tested right after 7": all of 7 precedes any of 14; and 14 precedes 8, 9, 10 and 11
-  pub seven-first : evictVerdict (quiet 0) (work (dirty 2) 9 (undo 3 0 2 7 ++ undo 3 2 2 7) unmarked) (given 2 2 0 1) 3 ≡ refused status.Buffer 0
+  pub seven-first : evictVerdict (quiet 0) (work (dirty 2) 9 (undo 3 0 2 7 ++ undo 3 2 2 7) unmarked) (given 2 2 0 1 0) 3 ≡ refused status.Buffer 0
   pub before-room : store14 ≡ refused status.Filter 0
   pub before-waiting : commit14 0 16 ≡ refused status.Filter 0
   pub before-last : commit14 (lastEpoch - 1) lastEpoch ≡ refused status.Filter 0
@@ -135,7 +136,7 @@ pub record Worked : Type 0 where
   -- a work memory of 2S + 64 words, made for 36 slots before, is one of 4
   pub bits-of-old : filterBitsReport (replicate (2 * 36 + 64) 0) ≡ report status.Ok 0
   -- 2/13: "A log entry is now proper only if ValidTill ≤ P + 16 as well." P is 1: 17 is taken, and the line wakes as the oldest has it ..
-  pub till-16 : answerOf 3 zero (wake (control 1 0 2) (ending 2 17)) ≡ ok 0 3 (given 2 0 0 0)
+  pub till-16 : answerOf 3 zero (wake (control 1 0 2) (ending 2 17)) ≡ ok 0 3 (given 2 0 0 0 0)
   pub till-16-board : boardAfter 3 (board (control 1 0 2) (ending 2 17) 7) (wake (control 1 0 2) (ending 2 17)) ≡ board (control 1 0 0) (ending 2 17) 4
   -- .. 18 is refused as 3, with its place as value, and so is "a ValidTill 4,000 above P"
   pub till-17 : answerOf 3 zero (wake (control 1 0 2) (ending 2 18)) ≡ improper 1
@@ -144,8 +145,8 @@ pub record Worked : Type 0 where
   -- the bound is P's, and not the next older entry's: 18 is 1 above that one's 17, and 17 above P
   pub till-older : answerOf 3 zero (wake (control 1 0 2) (ending 17 18)) ≡ improper 1
   -- near the last epoch: where P + 16 is no epoch, and where it is the last, nothing that has a place in the field is refused
-  pub till-last : answerOf 2 zero (wake (control (lastEpoch - 1) 0 1) endingLast) ≡ ok 0 2 (given lastEpoch 0 0 0)
-  pub till-last-16 : answerOf 2 zero (wake (control (lastEpoch - 16) 0 1) endingLast) ≡ ok 0 2 (given (lastEpoch - 15) 0 0 0)
+  pub till-last : answerOf 2 zero (wake (control (lastEpoch - 1) 0 1) endingLast) ≡ ok 0 2 (given lastEpoch 0 0 0 0)
+  pub till-last-16 : answerOf 2 zero (wake (control (lastEpoch - 16) 0 1) endingLast) ≡ ok 0 2 (given (lastEpoch - 15) 0 0 0 0)
   pub till-last-17 : answerOf 2 zero (wake (control (lastEpoch - 17) 0 1) endingLast) ≡ improper 0
   -- Recorded traces: "two words, most significant byte first: kind 3 bits .., address 16, zero 45; then the value"
   pub record-store : written storeKind 5 9 ≡ wrote (0x20 ∷ 0x00 ∷ 0xA0 ∷ zeros 12 ++ (9 ∷ []))
@@ -177,11 +178,12 @@ pub record Worked : Type 0 where
   pub named-9 : nameOf 9 ≡ bytes "waiting"
   pub named-12 : nameOf 12 ≡ bytes "cut"
   pub named-14 : nameOf 14 ≡ bytes "filter"
+  pub named-15 : (nameOf 15 ≡ bytes "target") × (numberOf status.Target ≡ 15)
   pub named-16 : (nameOf 16 ≡ bytes "short") × (numberOf status.Short ≡ 16)
   pub named-17 : (nameOf 17 ≡ bytes "past") × (numberOf status.Past ≡ 17)
   pub named-18 : (nameOf 18 ≡ bytes "logheld") × (numberOf status.LogHeld ≡ 18)
-  -- any other, 15 until its request lands, the first behind the last, the number of an array too short, and the largest
-  pub unnamed : (nameOf 15 ≡ []) × (nameOf 19 ≡ []) × (nameOf 255 ≡ []) × (nameOf (2 ^ 64 - 1) ≡ [])
+  -- any other, the first behind the last, the number of an array too short, and the largest
+  pub unnamed : (nameOf 19 ≡ []) × (nameOf 255 ≡ []) × (nameOf (2 ^ 64 - 1) ≡ [])
   -- a text of four bytes, of three and of two for the three letters of `cut`; none are needed for no name
   pub text-behind : withName (nameOf 12) (1 ∷ 2 ∷ 3 ∷ 4 ∷ []) ≡ bytes "cut" ++ (4 ∷ [])
   pub text-filled : withName (nameOf 12) (1 ∷ 2 ∷ 3 ∷ []) ≡ bytes "cut"
@@ -189,7 +191,7 @@ pub record Worked : Type 0 where
   pub text-unnamed : (withName (nameOf 15) [] ≡ []) × (withName (nameOf 15) (1 ∷ []) ≡ 1 ∷ [])
   -- 5/13: "Registers are also improper when the count exceeds S": 5 does, 4 does not
   pub count-beyond : committing clean 5 ≡ refused status.Regs 0
-  pub count-all : committing clean 4 ≡ still (given 3 0 0 4) (holding clean)
+  pub count-all : committing clean 4 ≡ still (given 3 0 0 4 0) (holding clean)
   -- "a count of 0 with the visited slot dirty", in each call that has 6
   pub none-load : loading (dirty 2) 0 3 ≡ refused status.Regs 0
   pub none-store : storing (dirty 2) 0 3 ≡ refused status.Regs 0
@@ -207,20 +209,22 @@ pub record Worked : Type 0 where
   pub six-first : (loading (dirty 3) 0 3 ≡ refused status.Slot 0) × (scanning (dirty 3) 0 1 ≡ refused status.Slot 0)
   pub four-first : (before7 ≡ refused status.Regs 0) × (before11 ≡ refused status.Regs 0)
   -- a scan's last step visits no slot, and commit none
-  pub no-visit : answerOf 1 (given 2 0 4 0) (scanning (dirty 2) 0 4) ≡ ok 1 1 (given 2 0 0 0)
-  pub no-visit-commit : committing (dirty 2) 0 ≡ still (given 3 0 0 0) (holding (dirty 2))
+  pub no-visit : answerOf 1 (given 2 0 4 0 1) (scanning (dirty 2) 0 4) ≡ ok 1 1 (given 2 0 0 0 0)
+  pub no-visit-commit : committing (dirty 2) 0 ≡ still (given 3 0 0 0 0) (holding (dirty 2))
   -- a wrong count goes on as wrong; what a fill makes of the count stands with 6/13
-  pub wrong-on : answerOf 1 (given 2 0 0 2) (evicting (dirty 2) 2 3) ≡ ok 1 1 (given 2 0 0 1)
+  pub wrong-on : answerOf 1 (given 2 0 0 2 0) (evicting (dirty 2) 2 3) ≡ ok 1 1 (given 2 0 0 1 0)
   -- "The tally is then read from the registers", and "refuses as commit does up to 4", so not by 7
-  pub tally-told : (tallyReport (quiet 0) (holding (dirty 2)) (given 2 0 0 1) ≡ report status.Ok 1) × (tallyReport (quiet 0) badEntry (given 2 1 0 1) ≡ report status.Ok 1)
-  pub tally-wrong : tallyReport (quiet 0) (holding (dirty 2)) (given 2 0 0 2) ≡ report status.Ok 2
+  pub tally-told : (tallyReport (quiet 0) (holding (dirty 2)) (given 2 0 0 1 0) ≡ report status.Ok 1) × (tallyReport (quiet 0) badEntry (given 2 1 0 1 0) ≡ report status.Ok 1)
+  pub tally-wrong : tallyReport (quiet 0) (holding (dirty 2)) (given 2 0 0 2 0) ≡ report status.Ok 2
   pub tally-1 : tallyReport [] (replicate 137 0) zero ≡ report status.Shape 0
   pub tally-2 : tallyReport (quiet 0) (replicate 137 0) zero ≡ report status.Work 0
-  pub tally-4 : (tallyReport (quiet 0) (holding clean) zero ≡ report status.Regs 0) × (tallyReport (quiet 0) (holding clean) (given 2 0 0 5) ≡ report status.Regs 0)
+  pub tally-4 : (tallyReport (quiet 0) (holding clean) zero ≡ report status.Regs 0) × (tallyReport (quiet 0) (holding clean) (given 2 0 0 5 0) ≡ report status.Regs 0)
   -- 6/13: sets of four slots
   pub in-sets : FourWays
   -- 7/13: the lines as Intel HEX
   pub in-hex : Exported
+  -- 8/13: passes of several epochs
+  pub in-passes : Passes
 
 -- a filter of which every word has all its bits
 all-counted : (word : ℕ) → ones word ≡ 64 → filterBitsReport (work clean 7 [] (replicate 64 word)) ≡ report status.Ok 4096
@@ -234,8 +238,8 @@ unfolding width pack unpack encode decode
     slots.setOf slots.properTag slots.properFull slots.properSlot slots.properAt slots.holds sets.placesOf sets.properSet sets.takenOf sets.spotOf slots.zeroed
     slots.dirtied slots.cleaned withBuffer flushingIf writingOut writingBack emptying slots.entryDue slots.undoDue entryFor logged storingHeld
     steps.loading steps.storing steps.evicting steps.lineIn cleaning visiting viewOf goodSizes goodControl goodShape goodSlots goodWork properEpoch properCounts
-    properRegisters miscounted goodBuffer goodFilter memoriesChecked runningChecked lineChecked storeChecked commitChecked scanChecked answerOf boardAfter
-    storeAt storeOutcome storeVerdict evictAt evictOutcome evictVerdict commitOutcome commitVerdict scanOutcome scanVerdict
+    waits properPass properRegisters miscounted goodBuffer goodFilter memoriesChecked runningChecked lineChecked storeChecked commitChecked scanChecked answerOf boardAfter
+    storeAt storeOutcome storeVerdict evictAt evictOutcome evictVerdict commitOutcome commitVerdict scanAt scanOutcome scanVerdict
     wakeAt wakeVerdict powerUpVerdict
     bytesOf wordOf hasPlace callOf firstWord written wordsReading reading
     tallyVerdict tallyReport filterBitsVerdict filterBitsReport formatReport formatAfter loadAt loadOutcome loadVerdict workAfter bringing slots.filled persisting expired dropped advanceStores
@@ -326,10 +330,11 @@ worked =
       named-9 = refl;
       named-12 = refl;
       named-14 = refl;
+      named-15 = (refl, refl);
       named-16 = (refl, refl);
       named-17 = (refl, refl);
       named-18 = (refl, refl);
-      unnamed = (refl, refl, refl, refl);
+      unnamed = (refl, refl, refl);
       text-behind = refl;
       text-filled = refl;
       text-too-short = refl;
@@ -358,4 +363,5 @@ worked =
       tally-4 = (refl, refl);
       in-sets = four-ways;
       in-hex = exported;
+      in-passes = passes;
     }
