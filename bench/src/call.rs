@@ -14,6 +14,7 @@ pub enum Call {
     Store { address: u64, data: u64, allowance: u32 },
     Evict { address: u64, allowance: u32 },
     Commit { allowance: u32 },
+    Begin { target: u64 },
     Scan { allowance: u32 },
     Tally,
     FilterBits,
@@ -27,19 +28,21 @@ pub enum Kind {
     Store,
     Evict,
     Commit,
+    Begin,
     Scan,
     Tally,
     FilterBits,
 }
 
 impl Kind {
-    pub const ALL: [Kind; 9] = [
+    pub const ALL: [Kind; 10] = [
         Kind::Format,
         Kind::PowerUp,
         Kind::Load,
         Kind::Store,
         Kind::Evict,
         Kind::Commit,
+        Kind::Begin,
         Kind::Scan,
         Kind::Tally,
         Kind::FilterBits,
@@ -53,6 +56,7 @@ impl Kind {
             Kind::Store => "store",
             Kind::Evict => "evict",
             Kind::Commit => "commit",
+            Kind::Begin => "begin",
             Kind::Scan => "scan",
             Kind::Tally => "tally",
             Kind::FilterBits => "filter-bits",
@@ -98,6 +102,7 @@ impl Call {
             Call::Store { .. } => Kind::Store,
             Call::Evict { .. } => Kind::Evict,
             Call::Commit { .. } => Kind::Commit,
+            Call::Begin { .. } => Kind::Begin,
             Call::Scan { .. } => Kind::Scan,
             Call::Tally => Kind::Tally,
             Call::FilterBits => Kind::FilterBits,
@@ -122,6 +127,7 @@ impl Call {
             } => C::store(board, work, registers, address, data, allowance),
             Call::Evict { address, allowance } => C::evict(board, work, registers, address, allowance),
             Call::Commit { allowance } => C::commit(board, work, registers, allowance),
+            Call::Begin { target } => C::begin(board, work, registers, target),
             Call::Scan { allowance } => C::scan(board, work, registers, allowance),
             Call::Tally => C::tally(board, work, registers),
             Call::FilterBits => C::filter_bits(work),
@@ -145,6 +151,7 @@ impl fmt::Display for Call {
                 data,
                 allowance,
             } => write!(out, ", address {address}, data {data:#018x}, allowance {allowance}"),
+            Call::Begin { target } => write!(out, ", target {target}"),
             Call::Tally | Call::FilterBits => Ok(()),
         }
     }

@@ -1,4 +1,4 @@
-//! What both sides have in common: the nine calls, the export, the writer of records and the names, as one loop can have them
+//! What both sides have in common: the ten calls, the export, the writer of records and the names, as one loop can have them
 //! on either side.
 
 /// What a call answers: the paper's number, the value and the board stores made.
@@ -29,6 +29,8 @@ pub const CUT: u64 = 12;
 pub const TRACE: u64 = 13;
 /// A buffered entry has a bit in the filter that is not set.
 pub const FILTER: u64 = 14;
+/// A pass is begun inside another, or with a target that is no epoch that waits.
+pub const TARGET: u64 = 15;
 /// A text has too few bytes for a record of the export.
 pub const SHORT: u64 = 16;
 /// The export has no record of that number.
@@ -39,7 +41,7 @@ pub const LOG_HELD: u64 = 18;
 /// The words of the registers as they stand in an array, and their names.
 pub type RegisterWords = [u64; REGISTER_WORDS];
 pub const REGISTER_WORDS: usize = REGISTER_NAMES.len();
-pub const REGISTER_NAMES: [&str; 4] = ["s", "b", "c", "d"];
+pub const REGISTER_NAMES: [&str; 5] = ["s", "b", "c", "d", "target"];
 pub const NO_REGISTERS: RegisterWords = [0; REGISTER_WORDS];
 
 /// The words of an answer as they stand in an array: value, stores.
@@ -50,7 +52,7 @@ pub const ANSWER_WORDS: usize = 2;
 pub type RecordBytes = [u8; RECORD_BYTES];
 pub const RECORD_BYTES: usize = size_of::<u128>();
 
-/// One implementation of the nine calls, of the export, of the writer of records and of the names.
+/// One implementation of the ten calls, of the export, of the writer of records and of the names.
 ///
 /// The registers have a type for each side, so that each is called as it wants to be: the library with an array of
 /// words, the hand-written Rust with a struct.
@@ -87,6 +89,9 @@ pub trait CacheLog {
     ) -> Answer;
 
     fn commit(board: &[u64], work: &[u64], registers: &mut Self::Registers, allowance: u32) -> Answer;
+
+    /// Begins a pass that persists all epochs up to a target.
+    fn begin(board: &[u64], work: &[u64], registers: &mut Self::Registers, target: u64) -> Answer;
 
     fn scan(board: &mut [u64], work: &mut [u64], registers: &mut Self::Registers, allowance: u32) -> Answer;
 

@@ -28,7 +28,7 @@ picl-bench rows
 picl-bench hex FOLDER
     write what each side exports of some boards, and the bytes of their lines; prints the names of the files, by pairs
 picl-bench loom
-    what the loom's work asks of a board
+    what the loom's work asks of a board, and what it takes to persist fifteen epochs of it
 picl-bench scripts
     replay every script of the repository over the hand-written Rust and compare with its expected output
 picl-bench expected SCRIPT

@@ -6,6 +6,7 @@
 //! that the same call makes under the allowances 0, 1, 2 and so on.
 
 use crate::call::{Call, NO_CUT};
+use crate::handwritten::Registers;
 use crate::interface::{Answer, RegisterWords, NO_REGISTERS};
 use crate::library::Library;
 use crate::random::Random;
@@ -50,9 +51,11 @@ impl State {
     }
 }
 
-/// Any call but format, which is not protected against a cut, and those that store nothing: tally and the status question.
-fn any_call(random: &mut Random, allowance: u32) -> Call {
+/// Any call but format, which is not protected against a cut, and those that store nothing and change nothing: tally and the status
+/// question. Outside a pass every second scan call gives way to a begin call for all epochs that wait.
+fn any_call(random: &mut Random, state: &State, allowance: u32) -> Call {
     let address = random.below(SIZES.lines);
+    let Registers { epoch, target, .. } = state.registers.into();
     match random.below(40) {
         0..=19 => Call::Store {
             address,
@@ -62,6 +65,7 @@ fn any_call(random: &mut Random, allowance: u32) -> Call {
         20..=23 => Call::Load { address, allowance },
         24..=26 => Call::Evict { address, allowance },
         27..=28 => Call::Commit { allowance },
+        29..=38 if target == 0 && random.one_in(2) => Call::Begin { target: epoch - 1 },
         29..=38 => Call::Scan { allowance },
         _ => Call::PowerUp { allowance },
     }
@@ -106,7 +110,7 @@ pub fn play() {
     let random = &mut Random::new(SEED);
     println!("{} {}", state.board.as_ptr() as u64, MARK.as_ptr() as u64);
     for _ in 0..CALLS {
-        let call = any_call(random, NO_CUT);
+        let call = any_call(random, &state, NO_CUT);
         MARK.store(1, Ordering::SeqCst);
         state.make(call);
         MARK.store(0, Ordering::SeqCst);
@@ -123,7 +127,7 @@ pub fn check(places: &str, record: &str) -> Result<(), String> {
     let random = &mut Random::new(SEED);
     let mut stores = 0;
     for (index, made) in recorded.iter().enumerate() {
-        let call = any_call(random, NO_CUT);
+        let call = any_call(random, &state, NO_CUT);
         let due = due(&state, call);
         let same = due.len() == made.len()
             && due

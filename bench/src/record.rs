@@ -28,7 +28,9 @@ impl Record {
             Call::Commit { .. } => (COMMIT, 0, 0),
             Call::Scan { .. } => (SCAN, 0, 0),
             Call::Evict { address, .. } => (EVICT, address, 0),
-            Call::Format { .. } | Call::PowerUp { .. } | Call::Tally | Call::FilterBits => return None,
+            Call::Format { .. } | Call::PowerUp { .. } | Call::Begin { .. } | Call::Tally | Call::FilterBits => {
+                return None
+            }
         };
         Some(Record { kind, address, value })
     }

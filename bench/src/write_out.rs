@@ -1,7 +1,9 @@
 //! The write-out of a call, as the memories before the call show it, and whether the filter alone had it flush.
 
 use crate::call::Call;
-use crate::handwritten::layout::{buffer_and_filter_of, head_of, slot_count, slots_of, Range, SlotWord, ENTRY_WORDS};
+use crate::handwritten::layout::{
+    buffer_and_filter_of, head_of, slot_count, slots_of, Control, Range, SlotWord, ENTRY_WORDS,
+};
 use crate::handwritten::Registers;
 use crate::placement::Placement;
 
@@ -14,6 +16,14 @@ pub struct WriteOut {
     pub buffered: u64,
     /// One of them has the line's address.
     pub has_entry: bool,
+}
+
+/// The target of the pass that a scan call is a step of: the one that it is inside of, or the one that it begins.
+pub fn scan_target(control: Control, registers: Registers) -> u64 {
+    match registers.target {
+        0 => control.persisted + 1,
+        target => target,
+    }
 }
 
 impl WriteOut {
@@ -29,7 +39,7 @@ impl WriteOut {
         let word = match call {
             Call::Load { address, .. } | Call::Store { address, .. } => word_for(address, false),
             Call::Evict { address, .. } => word_for(address, true),
-            Call::Scan { .. } => word_of(registers.cursor).filter(|word| word.tag() == control.persisted + 1),
+            Call::Scan { .. } => word_of(registers.cursor).filter(|word| word.tag() <= scan_target(control, registers)),
             _ => None,
         }?;
         if !word.is_dirty() {

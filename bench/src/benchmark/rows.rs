@@ -95,7 +95,7 @@ const fn row(name: &'static str, about: &'static str, only: Option<Kind>, build:
     }
 }
 
-pub static ROWS: [Row; 19] = [
+pub static ROWS: [Row; 21] = [
     row(
         "loom-64",
         "a loom's epoch, S = 64: 2,600 stores, 2,600 loads, 65 scans, 1 commit",
@@ -155,6 +155,18 @@ pub static ROWS: [Row; 19] = [
     row("commit", "15 commits in a row, 16 entries buffered", None, || {
         traces::commits(256)
     }),
+    row(
+        "begin",
+        "15 begin calls, one for each pass, 16 entries buffered",
+        Some(Kind::Begin),
+        || traces::begins(256),
+    ),
+    row(
+        "pass-15",
+        "15 epochs in one pass, S = 256: 1 begin, 257 scans, 255 lines written out, 17 of each epoch",
+        None,
+        || traces::pass_over_most(256),
+    ),
     Row {
         name: "hex-out",
         about: "a whole export of 65,536 lines: 32,777 records",

@@ -4,7 +4,8 @@ use super::region::{Memories, Start};
 use crate::call::Call;
 use crate::export;
 use crate::handwritten::layout::{
-    entry_place, Control, Range, BUFFER_ENTRIES, CONTROL_PLACE, MOST_AHEAD, MOST_ENTRIES, MOST_LINES, WAYS,
+    entry_place, Control, Range, BUFFER_ENTRIES, CONTROL_PLACE, ENTRY_WORDS, MOST_AHEAD, MOST_ENTRIES, MOST_LINES,
+    MOST_WAITING, WAYS,
 };
 use crate::handwritten::HandWritten;
 use crate::interface::{Answer, NO_REGISTERS, OK};
@@ -122,11 +123,69 @@ pub fn write_outs(slots: usize) -> (Start, Vec<Call>) {
     (start, evictions)
 }
 
+/// The entries of a half full buffer.
+const HALF_BUFFERED: u64 = BUFFER_ENTRIES as u64 / 2;
+
 /// As many commits as may wait, with a half full buffer.
 pub fn commits(slots: usize) -> (Start, Vec<Call>) {
-    let stores: Vec<Call> = (0..16).map(|address| Call::store(address, address)).collect();
+    let stores: Vec<Call> = (0..HALF_BUFFERED)
+        .map(|address| Call::store(address, address))
+        .collect();
     let start = after(fresh_board(slots), &stores);
-    (start, vec![Call::COMMIT; MOST_AHEAD as usize - 1])
+    (start, vec![Call::COMMIT; MOST_WAITING as usize])
+}
+
+/// As many passes as epochs may wait, each for one of them and begun with a half full buffer: between two passes the running epoch
+/// stores to lines that it has not stored to before. No visit writes one out, so the entries stay until the last step.
+pub fn begins(slots: usize) -> (Start, Vec<Call>) {
+    let start = after(fresh_board(slots), &vec![Call::COMMIT; MOST_WAITING as usize]);
+    let pass = |target: u64| {
+        let lines = HALF_BUFFERED * target..HALF_BUFFERED * (target + 1);
+        let stores = lines.map(|line| Call::store(line, line));
+        let scans = vec![Call::SCAN; slots + 1];
+        stores.chain([Call::Begin { target }]).chain(scans)
+    };
+    let calls: Vec<Call> = (1..=MOST_WAITING).flat_map(pass).collect();
+    assert_eq!(
+        stores_of(&start, &calls),
+        MOST_WAITING * (flush_stores(HALF_BUFFERED) + 1)
+    );
+    (start, calls)
+}
+
+/// One pass over as many epochs as may wait. Each has stored to as many lines; the entries of the latest are buffered, and flushed
+/// before the first of their lines. Every line is written out, and then the control word is stored.
+pub fn pass_over_most(slots: usize) -> (Start, Vec<Call>) {
+    let lines_of_epoch = slots as u64 / MOST_WAITING;
+    let epoch = |number: u64| {
+        let lines = lines_of_epoch * number..lines_of_epoch * (number + 1);
+        let stores = lines.map(|line| Call::store(line, line));
+        stores.chain([Call::COMMIT])
+    };
+    let before: Vec<Call> = (0..MOST_WAITING).flat_map(epoch).collect();
+    let start = after(fresh_board(slots), &before);
+    let begin = Call::Begin { target: MOST_WAITING };
+    let calls = [vec![begin], vec![Call::SCAN; slots + 1]].concat();
+    let lines = lines_of_epoch * MOST_WAITING;
+    let buffered = lines % BUFFER_ENTRIES as u64;
+    assert_eq!(stores_of(&start, &calls), lines + flush_stores(buffered) + 1);
+    (start, calls)
+}
+
+/// The board stores of calls that all have to be accepted.
+fn stores_of(start: &Start, calls: &[Call]) -> u64 {
+    let mut memories = Memories::<HandWritten>::new(start);
+    let stores = |&call: &Call| {
+        let Answer { number, stores, .. } = memories.make(call);
+        assert_eq!(number, OK, "{call}");
+        stores
+    };
+    calls.iter().map(stores).sum()
+}
+
+/// The board stores of a flush: the entries and the control word.
+fn flush_stores(buffered: u64) -> u64 {
+    ENTRY_WORDS as u64 * buffered + 1
 }
 
 pub fn tallies(slots: usize) -> (Start, Vec<Call>) {

@@ -15,11 +15,12 @@ type List = turn_lists::List<Seen>;
 /// The calls that visit the set of an address, those that visit a set or a slot, and those that test the registers.
 const WITH_ADDRESS: &[Kind] = &[Kind::Load, Kind::Store, Kind::Evict];
 const VISITING: &[Kind] = &[Kind::Load, Kind::Store, Kind::Evict, Kind::Scan];
-const TESTING: &[Kind] = &[
+pub const TESTING: &[Kind] = &[
     Kind::Load,
     Kind::Store,
     Kind::Evict,
     Kind::Commit,
+    Kind::Begin,
     Kind::Scan,
     Kind::Tally,
 ];
@@ -31,6 +32,7 @@ const TAKING: &[Kind] = &[
     Kind::Store,
     Kind::Evict,
     Kind::Commit,
+    Kind::Begin,
     Kind::Scan,
     Kind::Tally,
 ];
@@ -66,7 +68,7 @@ static LISTS: [List; 8] = [
         turns: &OF_A_SCAN,
     },
     List {
-        kinds: &[Kind::Commit, Kind::Tally],
+        kinds: &[Kind::Commit, Kind::Begin, Kind::Tally],
         turns: &WITHOUT_THE_TEST,
     },
     List {

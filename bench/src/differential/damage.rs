@@ -1,5 +1,6 @@
 //! Damage to the memories and registers of a history.
 
+use super::passes::damage_pass;
 use super::sides::Lent;
 use crate::handwritten::layout::{
     slot_place, FilterBit, Range, Shape, SlotWord, BUFFER_ENTRIES, ENTRY_WORDS, FILTER_BITS, LAST_ADDRESS, LAST_EPOCH,
@@ -10,7 +11,7 @@ use crate::random::Random;
 
 /// Does one thing to a state with a board of at least two words.
 pub fn damage(random: &mut Random, state: &mut Lent) {
-    let kinds: [fn(&mut Random, &mut Lent); 15] = [
+    let kinds: [fn(&mut Random, &mut Lent); 17] = [
         flip_a_bit,
         damage_control,
         damage_shape,
@@ -25,6 +26,8 @@ pub fn damage(random: &mut Random, state: &mut Lent) {
         damage_registers,
         damage_count,
         damage_count,
+        damage_pass,
+        damage_pass,
         change_length,
     ];
     random.pick(&kinds)(random, state);

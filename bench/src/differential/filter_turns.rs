@@ -44,7 +44,7 @@ const CORNERS: [usize; 4] = [0, 63, 64, FILTER_BITS - 1];
 
 pub type Turn = fn(&Seen) -> bool;
 
-pub const TURNS: [(&str, Turn); 43] = [
+pub const TURNS: [(&str, Turn); 45] = [
     ("a load's write-out flushes for a false hit", |seen| {
         seen.is_false_hit(Kind::Load)
     }),
@@ -114,6 +114,9 @@ pub const TURNS: [(&str, Turn); 43] = [
     ("a commit beside a filter whose every bit is set", |seen| {
         seen.is_beside_full(Kind::Commit)
     }),
+    ("a begin call beside a filter whose every bit is set", |seen| {
+        seen.is_beside_full(Kind::Begin)
+    }),
     ("a scan beside a filter whose every bit is set", |seen| {
         seen.is_beside_full(Kind::Scan)
     }),
@@ -141,6 +144,9 @@ pub const TURNS: [(&str, Turn); 43] = [
     }),
     ("filter before last", |seen| seen.number == FILTER && seen.would_be.last),
     ("filter before none", |seen| seen.number == FILTER && seen.would_be.none),
+    ("filter before target", |seen| {
+        seen.number == FILTER && seen.would_be.target
+    }),
     ("filter before a cut", |seen| seen.number == FILTER && seen.would_be.cut),
     ("buffer for an entry behind one with an unset bit", |seen| {
         seen.number == BUFFER && seen.unset.before_improper
@@ -155,7 +161,7 @@ impl Seen {
     pub fn new(call: Call, number: u64, before: &Lent, after: &Lent) -> Option<Self> {
         let kind = call.kind();
         let looks = match kind {
-            Kind::Load | Kind::Store | Kind::Evict | Kind::Commit | Kind::Scan => {
+            Kind::Load | Kind::Store | Kind::Evict | Kind::Commit | Kind::Begin | Kind::Scan => {
                 [OK, ADDRESS, SLOT, BUFFER, FILTER].contains(&number)
             }
             Kind::FilterBits => number == OK,

@@ -1,9 +1,11 @@
 //! How a history chooses its calls.
 
 use super::difference::Difference;
+use super::passes::draw_target;
 use super::player::{Outcome, Player};
+use super::sides::Lent;
 use crate::call::{Call, NO_CUT};
-use crate::handwritten::layout::{FilterBit, ENTRY_WORDS, FILTER_BITS, MOST_LINES, WAYS};
+use crate::handwritten::layout::{FilterBit, ENTRY_WORDS, FILTER_BITS, MOST_AHEAD, MOST_LINES, WAYS};
 use crate::interface::{NONE, ROOM, WAITING};
 use crate::random::Random;
 use crate::sizes::Sizes;
@@ -12,15 +14,18 @@ use crate::sizes::Sizes;
 const MOST_STORES: u64 = 66;
 
 /// How often each call is made, in parts of their sum: load, store, evict, commit, scan, tally, power-up, format, the status
-/// question.
-type Weights = [u64; 9];
+/// question, begin.
+type Weights = [u64; 10];
 
-const BALANCED: Weights = [200, 400, 50, 30, 300, 10, 9, 1, 20];
-const STORES: Weights = [60, 800, 10, 12, 100, 5, 3, 0, 10];
-const EPOCHS: Weights = [50, 300, 40, 250, 350, 5, 5, 0, 10];
-const SCANS: Weights = [100, 250, 30, 60, 550, 5, 5, 0, 10];
-const COMMITS: Weights = [50, 500, 30, 300, 100, 5, 15, 0, 10];
-const READS: Weights = [700, 200, 50, 10, 30, 10, 0, 0, 20];
+const BALANCED: Weights = [200, 400, 50, 30, 300, 10, 9, 1, 20, 10];
+const STORES: Weights = [60, 800, 10, 12, 100, 5, 3, 0, 10, 5];
+const EPOCHS: Weights = [50, 300, 40, 250, 350, 5, 5, 0, 10, 20];
+const SCANS: Weights = [100, 250, 30, 60, 550, 5, 5, 0, 10, 20];
+const COMMITS: Weights = [50, 500, 30, 300, 100, 5, 15, 0, 10, 20];
+const READS: Weights = [700, 200, 50, 10, 30, 10, 0, 0, 20, 5];
+
+/// Outside a pass, with several epochs waiting, one call in so many begins one for them.
+const SEVERAL_BEGUN_ONE_IN: u64 = 6;
 
 pub struct Habit {
     sizes: Sizes,
@@ -52,7 +57,8 @@ impl Habit {
         }
     }
 
-    pub fn call(&self, random: &mut Random) -> Call {
+    /// Any call; the target of a begin call is about what this state has.
+    pub fn call(&self, random: &mut Random, state: &Lent) -> Call {
         let allowance = self.allowance(random);
         let address = self.address(random);
         match self.draw_kind(random) {
@@ -68,7 +74,10 @@ impl Habit {
             5 => Call::Tally,
             6 => Call::PowerUp { allowance },
             7 => self.draw_format(random),
-            _ => Call::FilterBits,
+            8 => Call::FilterBits,
+            _ => Call::Begin {
+                target: draw_target(random, state),
+            },
         }
     }
 
@@ -174,7 +183,7 @@ pub fn others_with(bit: FilterBit, address: u64, lines: u64) -> Vec<u64> {
 }
 
 /// Lends a board and a work memory of any words, formats the board and powers up. From then on the count of dirty slots is true.
-pub fn begin(player: &mut Player, sizes: Sizes) -> Outcome {
+pub fn wake(player: &mut Player, sizes: Sizes) -> Outcome {
     player.state.board = player.random.words(sizes.board_words());
     player.state.work = player.random.words(sizes.work_words());
     player.make(sizes.format())?;
@@ -183,13 +192,13 @@ pub fn begin(player: &mut Player, sizes: Sizes) -> Outcome {
 }
 
 /// The same with sizes that are small mostly, and the habit of what follows.
-pub fn begin_mostly_small(player: &mut Player) -> Result<Habit, Box<Difference>> {
+pub fn wake_mostly_small(player: &mut Player) -> Result<Habit, Box<Difference>> {
     let sizes = if player.random.one_in(4) {
         Sizes::draw(&mut player.random)
     } else {
         Sizes::draw_small(&mut player.random)
     };
-    begin(player, sizes)?;
+    wake(player, sizes)?;
     Ok(Habit::draw(&mut player.random, sizes))
 }
 
@@ -206,7 +215,7 @@ pub fn go_on(player: &mut Player, habit: &Habit, calls: u64) -> Outcome {
 pub fn next_call(player: &mut Player, habit: &Habit) -> Call {
     let call = match call_for(player, habit) {
         Some(call) => call,
-        None => habit.call(&mut player.random),
+        None => habit.call(&mut player.random, &player.state),
     };
     if matches!(call, Call::PowerUp { .. }) && player.random.one_in(2) {
         player.state.work = player.random.words(player.state.work.len());
@@ -216,7 +225,7 @@ pub fn next_call(player: &mut Player, habit: &Habit) -> Call {
 }
 
 /// What helps after the last answer, most times: power-up after a cut, scans for room or for an epoch that waits, a
-/// commit where there is nothing to scan for.
+/// commit where there is nothing to scan for. Where several epochs wait outside a pass, one for them is begun now and then.
 fn call_for(player: &mut Player, habit: &Habit) -> Option<Call> {
     let random = &mut player.random;
     if random.one_in(4) {
@@ -228,6 +237,16 @@ fn call_for(player: &mut Player, habit: &Habit) -> Option<Call> {
         _ if is_cut => Some(Call::PowerUp { allowance }),
         ROOM | WAITING => Some(Call::Scan { allowance }),
         NONE => Some(Call::Commit { allowance }),
+        _ if several_wait(&player.state) && random.one_in(SEVERAL_BEGUN_ONE_IN) => Some(Call::Begin {
+            target: draw_target(random, &player.state),
+        }),
         _ => None,
     }
+}
+
+/// Several epochs wait, and there is no pass.
+fn several_wait(state: &Lent) -> bool {
+    let registers = state.registers();
+    let ahead = registers.epoch.wrapping_sub(state.control().persisted);
+    registers.target == 0 && (3..=MOST_AHEAD).contains(&ahead)
 }

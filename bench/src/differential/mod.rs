@@ -11,6 +11,8 @@ mod habit;
 mod hex_turns;
 mod name_turns;
 mod occurrences;
+mod pass_turns;
+mod passes;
 mod player;
 mod power_up_turns;
 mod record_turns;

@@ -34,7 +34,9 @@ const OTHERS: [(&str, Turn); 17] = [
     ("a number without a name, and a text with bytes", |seen| {
         seen.is_nameless() && seen.text_bytes > 0
     }),
-    ("15 has no name", |seen| seen.is_nameless() && seen.asked == 15),
+    ("the number behind the last that has a name has none", |seen| {
+        seen.is_nameless() && seen.asked == NAMES.len() as u64
+    }),
     ("255 has no name", |seen| seen.is_nameless() && seen.asked == TOO_SHORT),
     ("2^64 - 1 has no name", |seen| {
         seen.is_nameless() && seen.asked == u64::MAX

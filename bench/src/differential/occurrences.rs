@@ -3,11 +3,11 @@
 use super::asked::{Asked, Function};
 use super::sides::Lent;
 use super::turn_lists::Counts;
-use super::{count_turns, filter_turns, hex_turns, name_turns, power_up_turns, record_turns, set_turns};
+use super::{count_turns, filter_turns, hex_turns, name_turns, pass_turns, power_up_turns, record_turns, set_turns};
 use crate::call::{Call, Kind};
 use crate::handwritten::layout::Control;
 use crate::handwritten::names::{name_of, NAMES};
-use crate::interface::{FILTER, LOG_HELD, OK, PAST, SHORT};
+use crate::interface::{FILTER, LOG_HELD, OK, PAST, SHORT, TARGET};
 use crate::library::TOO_SHORT;
 use crate::record::Record;
 
@@ -36,6 +36,7 @@ fn possible(function: Function) -> &'static [u64] {
         Function::Call(Kind::Load | Kind::Evict) => &[0, 1, 2, 4, 5, 6, 7, 12, FILTER, TOO_SHORT],
         Function::Call(Kind::Store) => &[0, 1, 2, 4, 5, 6, 7, 8, 12, FILTER, TOO_SHORT],
         Function::Call(Kind::Commit) => &[0, 1, 2, 4, 7, 9, 10, FILTER, TOO_SHORT],
+        Function::Call(Kind::Begin) => &[0, 1, 2, 4, 7, FILTER, TARGET, TOO_SHORT],
         Function::Call(Kind::Scan) => &[0, 1, 2, 4, 6, 7, 11, 12, FILTER, TOO_SHORT],
         Function::Call(Kind::Tally) => &[0, 1, 2, 4, TOO_SHORT],
         Function::Call(Kind::FilterBits) => &[0, 2, TOO_SHORT],
@@ -99,6 +100,7 @@ pub struct Occurrences {
     filter_turns: [u64; filter_turns::TURNS.len()],
     count_turns: Counts<count_turns::Seen>,
     set_turns: Counts<set_turns::Seen>,
+    pass_turns: Counts<pass_turns::Seen>,
     hex_turns: hex_turns::Counts,
     record_turns: [u64; record_turns::TURNS.len()],
     name_turns: name_turns::Counts,
@@ -113,6 +115,7 @@ impl Default for Occurrences {
             filter_turns: [0; filter_turns::TURNS.len()],
             count_turns: Counts::new(&count_turns::ALL),
             set_turns: Counts::new(&set_turns::ALL),
+            pass_turns: Counts::new(&pass_turns::ALL),
             hex_turns: hex_turns::Counts::default(),
             record_turns: [0; record_turns::TURNS.len()],
             name_turns: name_turns::Counts::default(),
@@ -141,7 +144,12 @@ impl Occurrences {
 
     fn count_call_turns(&mut self, call: Call, number: u64, before: &Lent, after: &Lent) {
         let kind = call.kind();
-        if number == OK && !matches!(kind, Kind::Format | Kind::Commit | Kind::Tally | Kind::FilterBits) {
+        if number == OK
+            && !matches!(
+                kind,
+                Kind::Format | Kind::Commit | Kind::Begin | Kind::Tally | Kind::FilterBits
+            )
+        {
             self.count_accepted_turns(kind, before, after);
         }
         if kind == Kind::PowerUp {
@@ -158,6 +166,9 @@ impl Occurrences {
         }
         if let Some(seen) = set_turns::Seen::new(call, number, before, after) {
             self.set_turns.count(kind, &seen);
+        }
+        if let Some(seen) = pass_turns::Seen::new(call, number, before, after) {
+            self.pass_turns.count(kind, &seen);
         }
     }
 
@@ -199,13 +210,15 @@ impl Occurrences {
         let more = more.chain(&other.turns).chain(&other.power_up_turns);
         let more = more.chain(&other.filter_turns).chain(&other.record_turns);
         let more = more.chain(other.count_turns.iter()).chain(other.set_turns.iter());
+        let more = more.chain(other.pass_turns.iter());
         let more = more.chain(other.hex_turns.iter()).chain(other.name_turns.iter());
         let counts = self.numbers.iter_mut().flatten();
         let counts = counts.chain(&mut self.turns).chain(&mut self.power_up_turns);
         let counts = counts.chain(&mut self.filter_turns).chain(&mut self.record_turns);
         let counts = counts
             .chain(self.count_turns.iter_mut())
-            .chain(self.set_turns.iter_mut());
+            .chain(self.set_turns.iter_mut())
+            .chain(self.pass_turns.iter_mut());
         let counts = counts
             .chain(self.hex_turns.iter_mut())
             .chain(self.name_turns.iter_mut());
@@ -224,6 +237,7 @@ impl Occurrences {
         let of_slots = self.count_turns.named().chain(self.set_turns.named());
         of_memories
             .chain(of_slots)
+            .chain(self.pass_turns.named())
             .chain(self.hex_turns.named())
             .chain(of_records)
             .chain(self.name_turns.named())

@@ -44,6 +44,7 @@ const LENT_WORK: &[Kind] = &[
     Kind::Store,
     Kind::Evict,
     Kind::Commit,
+    Kind::Begin,
     Kind::Scan,
     Kind::Tally,
     Kind::FilterBits,

@@ -61,6 +61,7 @@ fn make_on_library(call: Call, lent: &mut Lent) -> u64 {
         } => library::store(board, work, registers, address, data, allowance, answer),
         Call::Evict { address, allowance } => library::evict(board, work, registers, address, allowance, answer),
         Call::Commit { allowance } => library::commit(board, work, registers, allowance, answer),
+        Call::Begin { target } => library::begin(board, work, registers, target, answer),
         Call::Scan { allowance } => library::scan(board, work, registers, allowance, answer),
         Call::Tally => library::tally(board, work, registers, answer),
         Call::FilterBits => library::filter_bits(work, answer),
@@ -215,7 +216,7 @@ mod tests {
     fn is_true(call: Call, number: u64, count: u64, value: u64) -> bool {
         let mut lent = Lent {
             work: vec![0; work_words(4)],
-            registers: vec![1, 0, 0, count],
+            registers: vec![1, 0, 0, count, 0],
             answer: vec![value, 0],
             ..Lent::default()
         };

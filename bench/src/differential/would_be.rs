@@ -3,7 +3,7 @@
 use super::sides::Lent;
 use crate::call::{Call, Kind, NO_CUT};
 use crate::handwritten::layout::{SlotWord, LAST_EPOCH, MOST_AHEAD};
-use crate::interface::{BUFFER, CUT, FILTER, LAST, NONE, OK, ROOM, WAITING};
+use crate::interface::{BUFFER, CUT, FILTER, LAST, NONE, OK, ROOM, TARGET, WAITING};
 use crate::placement::Placement;
 use crate::write_out::WriteOut;
 
@@ -16,6 +16,7 @@ pub struct WouldBe {
     pub waiting: bool,
     pub last: bool,
     pub none: bool,
+    pub target: bool,
     pub cut: bool,
 }
 
@@ -38,6 +39,7 @@ impl WouldBe {
             waiting: kind == Kind::Commit && ahead == MOST_AHEAD,
             last: kind == Kind::Commit && registers.epoch == LAST_EPOCH,
             none,
+            target: has_refused_target(call, lent),
             cut: allowance(call) == 0 && write_out.is_some() && !none,
         }
     }
@@ -51,6 +53,7 @@ impl WouldBe {
             (self.waiting, WAITING),
             (self.last, LAST),
             (self.none, NONE),
+            (self.target, TARGET),
             (self.cut, CUT),
         ];
         let first = in_order.iter().find(|(holds, _)| *holds);
@@ -64,6 +67,16 @@ fn owes_entry(call: Call, lent: &Lent) -> bool {
     };
     let is_newest = |word: SlotWord| word.is_dirty() && word.tag() == lent.registers().epoch;
     !Placement::of(&lent.work, address).is_some_and(|place| place.is_held && is_newest(place.word))
+}
+
+/// Whether it is a begin call inside a pass, or for an epoch that does not wait, going by a board's first word and any registers.
+pub fn has_refused_target(call: Call, lent: &Lent) -> bool {
+    let Call::Begin { target } = call else {
+        return false;
+    };
+    let registers = lent.registers();
+    let waits = lent.control().persisted < target && target < registers.epoch;
+    registers.target != 0 || !waits
 }
 
 /// The allowance of a call that may write a line out.

@@ -19,6 +19,7 @@ pub enum Refusal {
     Last = 10,
     None = 11,
     Filter = 14,
+    Target = 15,
     Short = 16,
     Past = 17,
     LogHeld = 18,
@@ -67,15 +68,22 @@ fn registers_are_proper(registers: &Registers, control: Control, shape: Shape, s
         buffered,
         cursor,
         dirty,
+        target,
     } = *registers;
     let ahead = epoch.wrapping_sub(control.persisted);
     (1..=MOST_AHEAD).contains(&ahead)
         && epoch <= LAST_EPOCH
         && buffered < BUFFER_ENTRIES as u64
         && cursor <= slots
-        && (cursor == 0 || ahead > 1)
+        && (target | cursor == 0 || may_be_persisted(target, control.persisted, epoch))
         && control.length as u64 + buffered <= shape.entries
         && dirty <= slots
+}
+
+/// Whether an epoch waits to be persisted, so that a pass may have it as its target.
+#[inline]
+pub fn may_be_persisted(target: u64, persisted: u64, epoch: u64) -> bool {
+    persisted < target && target < epoch
 }
 
 /// What slot words are held to, as numbers with which one comparison each is enough.

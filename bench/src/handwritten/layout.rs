@@ -9,6 +9,8 @@ pub const LAST_ADDRESS: u64 = ones(ADDRESS_BITS);
 pub const LAST_EPOCH: u64 = ones(EPOCH_BITS);
 /// The most by which the running epoch, or the ValidTill of a log entry, is ahead of the persisted epoch.
 pub const MOST_AHEAD: u64 = 16;
+/// The most committed epochs that wait to be persisted.
+pub const MOST_WAITING: u64 = MOST_AHEAD - 1;
 
 pub const EPOCH_BITS: u32 = 24;
 pub const COUNT_BITS: u32 = 20;

@@ -1,4 +1,4 @@
-//! The nine calls and the export in ordinary Rust, written from the paper alone: the yardstick for what the library answers
+//! The ten calls and the export in ordinary Rust, written from the paper alone: the yardstick for what the library answers
 //! and for how fast it does so.
 
 mod checks;
@@ -154,11 +154,8 @@ pub fn commit(board: &[u64], work: &[u64], registers: &mut Registers, _allowance
 
 #[inline]
 fn next_epoch(board: &[u64], work: &[u64], registers: &Registers) -> Result<u64, Refusal> {
-    let (control, shape, slot_count) = checks::opening(board, work, registers)?;
-    let (buffer, filter) = buffer_and_filter_of(work, slot_count).ok_or(Refusal::Work)?;
-    let buffered = &buffer[..registers.buffered as usize];
-    checks::buffer(buffered, filter, shape.lines, registers.epoch)?;
-    if registers.epoch - control.persisted == MOST_AHEAD {
+    let persisted = persisted_epoch(board, work, registers)?;
+    if registers.epoch - persisted == MOST_AHEAD {
         return Err(Refusal::Waiting);
     }
     if registers.epoch == LAST_EPOCH {
@@ -167,14 +164,51 @@ fn next_epoch(board: &[u64], work: &[u64], registers: &Registers) -> Result<u64,
     Ok(registers.epoch + 1)
 }
 
+/// The persisted epoch, once all is tested that commit and begin have in common: they visit no slot.
+#[inline(always)]
+fn persisted_epoch(board: &[u64], work: &[u64], registers: &Registers) -> Result<u64, Refusal> {
+    let (control, shape, slot_count) = checks::opening(board, work, registers)?;
+    let (buffer, filter) = buffer_and_filter_of(work, slot_count).ok_or(Refusal::Work)?;
+    let buffered = &buffer[..registers.buffered as usize];
+    checks::buffer(buffered, filter, shape.lines, registers.epoch)?;
+    Ok(control.persisted)
+}
+
+/// Begins a pass. Its first slot is visited by the first scan call of it.
+#[inline(never)]
+pub fn begin(board: &[u64], work: &[u64], registers: &mut Registers, target: u64) -> Answer {
+    match check_target(board, work, registers, target) {
+        Ok(()) => {
+            registers.target = target;
+            accepted(0, 0)
+        }
+        Err(refusal) => refused(refusal, 0),
+    }
+}
+
+#[inline]
+fn check_target(board: &[u64], work: &[u64], registers: &Registers, target: u64) -> Result<(), Refusal> {
+    let persisted = persisted_epoch(board, work, registers)?;
+    if registers.target == 0 && checks::may_be_persisted(target, persisted, registers.epoch) {
+        Ok(())
+    } else {
+        Err(Refusal::Target)
+    }
+}
+
+/// One step of a pass. Outside one it begins the pass that persists one epoch.
 #[inline(never)]
 pub fn scan(board: &mut [u64], work: &mut [u64], registers: &mut Registers, allowance: u32) -> Answer {
     with_machine(board, work, registers, allowance, |machine| {
+        let target = match machine.registers.target {
+            0 => machine.control.persisted + 1,
+            target => target,
+        };
         let place = machine.registers.cursor as usize;
         let at_end = place == machine.slots.len();
         let visited = if at_end { None } else { Some(machine.visit(place)?) };
         machine.check_buffer()?;
-        let target = machine.control.persisted + 1;
+        // A pass has a target below the running epoch.
         if machine.registers.epoch == target {
             return Err(Stop::Refused(Refusal::None));
         }
@@ -183,16 +217,17 @@ pub fn scan(board: &mut [u64], work: &mut [u64], registers: &mut Registers, allo
             return Ok(target);
         };
         let word = visited.word;
-        if word.is_dirty() && word.tag() == target {
+        if word.is_dirty() && word.tag() <= target {
             machine.write_out(visited)?;
             machine.slots[place][0] = SlotWord::clean(word.address()).0;
         }
+        machine.registers.target = target;
         machine.registers.cursor += 1;
         Ok(0)
     })
 }
 
-/// Makes `target` the persisted epoch and drops the entries that are needed no longer, in one store.
+/// The last step of a pass: makes `target` the persisted epoch and drops the entries that are needed no longer, in one store.
 #[inline]
 fn persist(machine: &mut Machine, target: u64) -> Result<(), Stop> {
     machine.flush()?;
@@ -208,6 +243,7 @@ fn persist(machine: &mut Machine, target: u64) -> Result<(), Stop> {
     };
     machine.mains.store(machine.control_word, control.pack())?;
     machine.registers.cursor = 0;
+    machine.registers.target = 0;
     Ok(())
 }
 

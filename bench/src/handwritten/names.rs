@@ -1,9 +1,9 @@
 //! The names of the paper's numbers, and a name put into a text.
 
-use crate::interface::{Answer, ENTRY, FILTER, LOG_HELD, OK, PAST, SHAPE, SHORT, TRACE};
+use crate::interface::{Answer, ENTRY, FILTER, LOG_HELD, OK, PAST, SHAPE, SHORT, TARGET, TRACE};
 
 /// The numbers that have a name, in their order.
-pub const NAMES: [(u64, &str); 18] = [
+pub const NAMES: [(u64, &str); 19] = [
     (OK, "ok"),
     (SHAPE, "shape"),
     (2, "work"),
@@ -19,6 +19,7 @@ pub const NAMES: [(u64, &str); 18] = [
     (12, "cut"),
     (TRACE, "trace"),
     (FILTER, "filter"),
+    (TARGET, "target"),
     (SHORT, "short"),
     (PAST, "past"),
     (LOG_HELD, "logheld"),

@@ -12,16 +12,19 @@ pub struct Registers {
     pub cursor: u64,
     /// Dirty slots, d.
     pub dirty: u64,
+    /// The epoch up to which a pass persists; 0 outside a pass.
+    pub target: u64,
 }
 
 impl From<RegisterWords> for Registers {
     #[inline]
-    fn from([epoch, buffered, cursor, dirty]: RegisterWords) -> Self {
+    fn from([epoch, buffered, cursor, dirty, target]: RegisterWords) -> Self {
         Registers {
             epoch,
             buffered,
             cursor,
             dirty,
+            target,
         }
     }
 }
@@ -29,6 +32,13 @@ impl From<RegisterWords> for Registers {
 impl From<Registers> for RegisterWords {
     #[inline]
     fn from(registers: Registers) -> Self {
-        [registers.epoch, registers.buffered, registers.cursor, registers.dirty]
+        let Registers {
+            epoch,
+            buffered,
+            cursor,
+            dirty,
+            target,
+        } = registers;
+        [epoch, buffered, cursor, dirty, target]
     }
 }

@@ -46,6 +46,11 @@ impl CacheLog for HandWritten {
     }
 
     #[inline]
+    fn begin(board: &[u64], work: &[u64], registers: &mut Registers, target: u64) -> Answer {
+        super::begin(board, work, registers, target)
+    }
+
+    #[inline]
     fn scan(board: &mut [u64], work: &mut [u64], registers: &mut Registers, allowance: u32) -> Answer {
         super::scan(board, work, registers, allowance)
     }

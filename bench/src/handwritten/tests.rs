@@ -1,10 +1,12 @@
 //! The paper's own examples: W1 to W12, its replay, its traps, and the latest log entry that is proper. filter.rs has those of
-//! the filter, count.rs the count of dirty slots, sets.rs the sets of four slots, names.rs the names, hex.rs the export.
+//! the filter, count.rs the count of dirty slots, sets.rs the sets of four slots, names.rs the names, hex.rs the export, pass.rs
+//! passes over several epochs.
 
 mod count;
 mod filter;
 mod hex;
 mod names;
+mod pass;
 mod sets;
 
 use super::layout::{buffer_place, entry_place, Control, Range, Shape, SlotWord, CONTROL_PLACE, LAST_EPOCH};
@@ -87,6 +89,16 @@ impl Loom {
 
     fn scan(&mut self) -> Answer {
         self.make(Call::Scan { allowance: NO_CUT })
+    }
+
+    fn begin(&mut self, target: u64) -> Answer {
+        self.make(Call::Begin { target })
+    }
+
+    /// Makes the registers those of a pass for the oldest epoch that waits, with the cursor at this slot.
+    fn put_cursor(&mut self, cursor: u64) {
+        self.registers.target = self.control().persisted + 1;
+        self.registers.cursor = cursor;
     }
 
     fn control(&self) -> Control {
@@ -247,7 +259,8 @@ fn scan_flushes_before_it_writes_out() {
 fn clean_line_is_undone_from_the_persisted_epoch() {
     let mut loom = Loom::new(4, 8, 4);
     loom.commit();
-    while loom.scan().value == 0 {}
+    let values = [(); 5].map(|()| loom.scan().value);
+    assert_eq!(values, [0, 0, 0, 0, 1]);
     loom.store(2, 5);
     assert_eq!(loom.buffered(0), range(2, 1, 2));
 }

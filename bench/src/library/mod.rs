@@ -76,6 +76,17 @@ mod c {
             answer: *mut u64,
             answer_words: usize,
         ) -> u64;
+        pub fn picl_begin(
+            board: *const u64,
+            board_words: usize,
+            work: *const u64,
+            work_words: usize,
+            registers: *mut u64,
+            register_words: usize,
+            target: u64,
+            answer: *mut u64,
+            answer_words: usize,
+        ) -> u64;
         pub fn picl_scan(
             board: *mut u64,
             board_words: usize,
@@ -242,6 +253,23 @@ pub fn commit(board: &[u64], work: &[u64], registers: &mut [u64], allowance: u32
             registers.as_mut_ptr(),
             registers.len(),
             allowance,
+            answer.as_mut_ptr(),
+            answer.len(),
+        )
+    }
+}
+
+#[inline]
+pub fn begin(board: &[u64], work: &[u64], registers: &mut [u64], target: u64, answer: &mut [u64]) -> u64 {
+    unsafe {
+        c::picl_begin(
+            board.as_ptr(),
+            board.len(),
+            work.as_ptr(),
+            work.len(),
+            registers.as_mut_ptr(),
+            registers.len(),
+            target,
             answer.as_mut_ptr(),
             answer.len(),
         )

@@ -67,6 +67,11 @@ impl CacheLog for Library {
     }
 
     #[inline]
+    fn begin(board: &[u64], work: &[u64], registers: &mut RegisterWords, target: u64) -> Answer {
+        answered(|answer| super::begin(board, work, registers, target, answer))
+    }
+
+    #[inline]
     fn scan(board: &mut [u64], work: &mut [u64], registers: &mut RegisterWords, allowance: u32) -> Answer {
         answered(|answer| super::scan(board, work, registers, allowance, answer))
     }

@@ -10,10 +10,10 @@ use crate::random::Random;
 use crate::sizes::Sizes;
 use crate::write_out::WriteOut;
 
-const SEED: u64 = 2_600_400;
+pub const SEED: u64 = 2_600_400;
 
 /// Epochs before anything is counted, so that cache and log are as in the midst of work.
-const EPOCHS_BEFORE: usize = 5;
+pub const EPOCHS_BEFORE: usize = 5;
 pub const EPOCHS_COUNTED: usize = 100;
 
 #[derive(Clone, Copy, Debug)]
@@ -23,6 +23,18 @@ pub struct Plan {
     /// The log's size, L.
     pub entries: u64,
     pub scans_per_epoch: usize,
+}
+
+impl Plan {
+    /// The epochs of it, on these lines of the loom.
+    pub fn work(self, lines: &[u64]) -> Work<'_> {
+        Work {
+            order: self.order,
+            lines,
+            access: Call::load,
+            scans_per_epoch: self.scans_per_epoch,
+        }
+    }
 }
 
 /// What the counted epochs took.
@@ -42,13 +54,20 @@ pub struct Figures {
     pub refused_for_room: u64,
 }
 
-struct Controller {
+impl Figures {
+    pub fn stores(&self) -> u64 {
+        self.entry_stores + self.control_stores + self.line_stores
+    }
+}
+
+#[derive(Clone)]
+pub struct Controller {
     board: Vec<u64>,
     work: Vec<u64>,
     registers: RegisterWords,
     /// The log's size, L.
     entries: u64,
-    figures: Figures,
+    pub figures: Figures,
     entries_in_epoch: u64,
 }
 
@@ -56,12 +75,7 @@ struct Controller {
 pub fn work_through(plan: Plan) -> Result<Figures, String> {
     let random = &mut Random::new(SEED);
     let lines = plan.order.lines(random, MOST_LINES);
-    let work = Work {
-        order: plan.order,
-        lines: &lines,
-        access: Call::load,
-        scans_per_epoch: plan.scans_per_epoch,
-    };
+    let work = plan.work(&lines);
     let mut controller = Controller::start(plan)?;
     for epoch in 0..EPOCHS_BEFORE + EPOCHS_COUNTED {
         if epoch == EPOCHS_BEFORE {
@@ -73,7 +87,7 @@ pub fn work_through(plan: Plan) -> Result<Figures, String> {
 }
 
 impl Controller {
-    fn start(plan: Plan) -> Result<Self, String> {
+    pub fn start(plan: Plan) -> Result<Self, String> {
         let sizes = Sizes {
             lines: MOST_LINES,
             entries: plan.entries,
@@ -92,12 +106,14 @@ impl Controller {
         Ok(controller)
     }
 
-    fn epoch(&mut self, calls: &[Call]) -> Result<(), String> {
+    pub fn epoch(&mut self, calls: &[Call]) -> Result<(), String> {
         self.entries_in_epoch = 0;
         for &call in calls {
             match call.kind() {
                 Kind::Store => self.store(call)?,
-                Kind::Scan => self.scan(call)?,
+                Kind::Scan => {
+                    self.scan(call)?;
+                }
                 _ => {
                     self.counted(call)?;
                 }
@@ -115,13 +131,15 @@ impl Controller {
         Ok(())
     }
 
-    fn scan(&mut self, call: Call) -> Result<(), String> {
-        if self.counted(call)?.value != 0 {
+    /// Makes a scan call and gives the epoch that it has persisted, or 0.
+    pub fn scan(&mut self, call: Call) -> Result<u64, String> {
+        let persisted = self.counted(call)?.value;
+        if persisted != 0 {
             // The control word with the new persisted epoch; one for a flush before it is counted as that of any flush.
             self.figures.control_stores += 1;
             self.figures.line_stores -= 1;
         }
-        Ok(())
+        Ok(persisted)
     }
 
     /// Makes a call and counts its board stores: two words for each entry that left the buffer and a control word for
@@ -146,7 +164,7 @@ impl Controller {
     }
 
     /// Makes a call. A refusal that the plan may meet is an answer like any other.
-    fn make(&mut self, call: Call) -> Result<Answer, String> {
+    pub fn make(&mut self, call: Call) -> Result<Answer, String> {
         let answer = call.make::<Library>(&mut self.board, &mut self.work, &mut self.registers);
         match answer.number {
             OK | NONE => {}
@@ -156,11 +174,15 @@ impl Controller {
         Ok(answer)
     }
 
-    fn control(&self) -> Control {
+    pub fn board(&self) -> &[u64] {
+        &self.board
+    }
+
+    pub fn control(&self) -> Control {
         Control::unpack(self.board[CONTROL_PLACE])
     }
 
-    fn registers(&self) -> Registers {
+    pub fn registers(&self) -> Registers {
         self.registers.into()
     }
 
@@ -171,12 +193,17 @@ impl Controller {
     }
 
     fn note_state(&mut self) {
-        let waiting = self.registers().epoch - self.control().persisted - 1;
+        let waiting = self.waiting();
         let at_once = self.entries_at_once();
         let figures = &mut self.figures;
         figures.most_waiting = figures.most_waiting.max(waiting);
         figures.most_entries_at_once = figures.most_entries_at_once.max(at_once);
         figures.most_entries_in_an_epoch = figures.most_entries_in_an_epoch.max(self.entries_in_epoch);
+    }
+
+    /// The committed epochs that are not persisted.
+    pub fn waiting(&self) -> u64 {
+        self.registers().epoch - self.control().persisted - 1
     }
 
     fn entries_at_once(&self) -> u64 {

@@ -1,21 +1,26 @@
 //! What the loom's work asks of a board: undo entries, waiting epochs, board stores and the filter's false hits, counted by
-//! replaying it on the library, and the log's size that follows, tried out. Each plan is a line of one table.
+//! replaying it on the library, and the log's size that follows, tried out. Each plan is a line of one table. A second table has what
+//! it takes to persist as many epochs as may wait, one by one and in one pass.
 
+mod backlog;
 mod controller;
 pub mod workload;
 
+use backlog::{persist_both_ways, Cost};
 use controller::{work_through, Figures, Plan, EPOCHS_COUNTED};
 use workload::{Order, LINES_OF_A_LOOM, PAIRS, STORES_PER_EPOCH};
 
-use crate::handwritten::layout::MOST_ENTRIES;
+use crate::handwritten::layout::{MOST_ENTRIES, MOST_WAITING};
 
 const SLOTS: [usize; 3] = [64, 128, 256];
 
 /// Scan calls an epoch, as multiples of the S + 1 that persist one.
 const SCAN_RATES: [usize; 2] = [1, 2];
 
-/// What each column has, in two lines, and how wide it is; the first is the order of the work.
-const COLUMNS: [(&str, &str, usize); 12] = [
+/// What each column has, in two lines, and how wide it is; before the first comes the order of the work.
+type Column = (&'static str, &'static str, usize);
+
+const COLUMNS: [Column; 12] = [
     ("S", "", 4),
     ("scans", "/epoch", 7),
     ("entries", "/epoch", 9),
@@ -30,46 +35,98 @@ const COLUMNS: [(&str, &str, usize); 12] = [
     ("refused", "below", 9),
 ];
 
+/// One by one, and in one pass.
+const BACKLOG_COLUMNS: [Column; 9] = [
+    ("S", "", 4),
+    ("1 by 1:", "scans", 9),
+    ("", "stores", 8),
+    ("control", "words", 9),
+    ("line", "words", 7),
+    ("1 pass:", "scans", 10),
+    ("", "stores", 8),
+    ("control", "words", 9),
+    ("line", "words", 7),
+];
+
 pub fn print_figures() -> Result<(), String> {
     println!(
         "The loom: {STORES_PER_EPOCH} stores and as many loads an epoch, to {LINES_OF_A_LOOM} lines (jacquard: to {PAIRS} pairs); \
          {EPOCHS_COUNTED} epochs counted.\n\
          log needed: the most entries at once, in log and buffer; with a log of one less, so many stores are refused for room.\n"
     );
-    print_line("order", COLUMNS.map(|(heading, ..)| heading.to_string()));
-    print_line("", COLUMNS.map(|(_, below, _)| below.to_string()));
+    print_header(&COLUMNS);
     for order in Order::ALL {
         for slots in SLOTS {
             for rate in SCAN_RATES {
-                print_row(order, slots, rate * (slots + 1))?;
+                print_row(plan(order, slots, rate))?;
             }
+        }
+    }
+    print_backlog_figures()
+}
+
+/// What it takes to persist as many epochs as may wait.
+fn print_backlog_figures() -> Result<(), String> {
+    println!(
+        "\n{MOST_WAITING} epochs wait, the running one being empty: all of them persisted one by one, by {MOST_WAITING} passes of scan calls, and, \
+         from the same state,\nin one pass after a begin call. Both boards wake with the same lines.\n"
+    );
+    print_header(&BACKLOG_COLUMNS);
+    for order in Order::ALL {
+        for slots in SLOTS {
+            let costs = persist_both_ways(plan(order, slots, 1))?;
+            let cells = [costs.one_by_one, costs.in_one_pass].map(cost_cells).concat();
+            print_line(
+                &BACKLOG_COLUMNS,
+                order.name(),
+                &[vec![slots.to_string()], cells].concat(),
+            );
         }
     }
     Ok(())
 }
 
-fn print_line(order: &str, cells: [String; COLUMNS.len()]) {
-    let cells = COLUMNS
+fn cost_cells(cost: Cost) -> Vec<String> {
+    let Cost { scans, figures } = cost;
+    let counts = [scans, figures.stores(), figures.control_stores, figures.line_stores];
+    counts.map(|count| count.to_string()).to_vec()
+}
+
+/// The loom's work with as many scan calls an epoch as persist so many, and more log than it needs.
+fn plan(order: Order, slots: usize, rate: usize) -> Plan {
+    Plan {
+        order,
+        slots,
+        entries: MOST_ENTRIES,
+        scans_per_epoch: rate * (slots + 1),
+    }
+}
+
+fn print_header(columns: &[Column]) {
+    let [headings, below]: [Vec<String>; 2] = [
+        columns.iter().map(|(heading, ..)| heading.to_string()).collect(),
+        columns.iter().map(|(_, below, _)| below.to_string()).collect(),
+    ];
+    print_line(columns, "order", &headings);
+    print_line(columns, "", &below);
+}
+
+fn print_line(columns: &[Column], order: &str, cells: &[String]) {
+    let cells = columns
         .iter()
         .zip(cells)
         .map(|(&(.., width), cell)| format!("{cell:>width$}"));
     println!("{order:<15}{}", cells.collect::<String>());
 }
 
-fn print_row(order: Order, slots: usize, scans_per_epoch: usize) -> Result<(), String> {
-    let plan = Plan {
-        order,
-        slots,
-        entries: MOST_ENTRIES,
-        scans_per_epoch,
-    };
+fn print_row(plan: Plan) -> Result<(), String> {
     let figures = work_through(plan)?;
     let [entry_words, control_words, line_words] =
         [figures.entry_stores, figures.control_stores, figures.line_stores].map(per_epoch);
     let false_hits = format!("{:.2}", figures.false_hits as f64 / EPOCHS_COUNTED as f64);
     let cells = [
-        slots.to_string(),
-        scans_per_epoch.to_string(),
+        plan.slots.to_string(),
+        plan.scans_per_epoch.to_string(),
         figures.most_entries_in_an_epoch.to_string(),
         figures.most_waiting.to_string(),
         figures.most_entries_at_once.to_string(),
@@ -81,7 +138,7 @@ fn print_row(order: Order, slots: usize, scans_per_epoch: usize) -> Result<(), S
         false_hits,
         refused_below(plan, figures)?.to_string(),
     ];
-    print_line(order.name(), cells);
+    print_line(&COLUMNS, plan.order.name(), &cells);
     Ok(())
 }
 

@@ -51,7 +51,7 @@ pub fn line_of(call: Call) -> Option<String> {
         Call::Commit { .. } => Some("c".to_string()),
         Call::Scan { .. } => Some("a".to_string()),
         Call::PowerUp { .. } => Some("p".to_string()),
-        Call::Format { .. } | Call::Tally | Call::FilterBits => None,
+        Call::Format { .. } | Call::Begin { .. } | Call::Tally | Call::FilterBits => None,
     }
 }
 

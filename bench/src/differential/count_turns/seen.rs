@@ -8,6 +8,7 @@ use crate::handwritten::Registers;
 use crate::interface::{ADDRESS, ANSWER_WORDS, CUT, OK, REGISTER_WORDS, REGS, SHAPE, SLOT, WORK};
 use crate::library::TOO_SHORT;
 use crate::placement::{set_of, Placement};
+use crate::write_out::scan_target;
 
 /// A call on a board and a work memory of right sizes; or one that is lent too short an array, of which nothing else is noted.
 pub struct Seen {
@@ -16,7 +17,7 @@ pub struct Seen {
     register_words: usize,
     answer_words: usize,
     slots: u64,
-    /// The epoch that a scan persists, P + 1, and the running one.
+    /// The epoch up to which a scan's pass persists, and the running one.
     target: u64,
     epoch: u64,
     value: u64,
@@ -82,7 +83,7 @@ impl Seen {
         let registers = before.registers();
         let mut words = (0..before.slots()).map(|place| before.slot(place));
         self.slots = before.slots() as u64;
-        self.target = before.control().persisted + 1;
+        self.target = scan_target(before.control(), registers);
         self.epoch = registers.epoch;
         self.value = after.answer[0];
         self.before = registers.dirty;
@@ -254,9 +255,9 @@ impl Seen {
         self.visits_dirty() && self.visits(|word| word.tag() == self.epoch)
     }
 
-    /// A dirty line of the epoch that the scan persists.
+    /// A dirty line that the scan's pass persists.
     pub fn visits_target(&self) -> bool {
-        self.visits_dirty() && self.visits(|word| word.tag() == self.target)
+        self.visits_dirty() && self.visits(|word| word.tag() <= self.target)
     }
 
     pub fn is_held(&self) -> bool {
@@ -320,10 +321,12 @@ fn are_proper_but_for_the_count(lent: &Lent) -> bool {
         epoch,
         buffered,
         cursor,
+        target,
         ..
     } = lent.registers();
     let epoch_is_proper = persisted < epoch && epoch <= LAST_EPOCH.min(persisted + MOST_AHEAD);
-    let cursor_is_proper = cursor <= lent.slots() as u64 && (cursor == 0 || epoch > persisted + 1);
+    let is_outside = target == 0 && cursor == 0;
+    let is_inside = persisted < target && target < epoch && cursor <= lent.slots() as u64;
     let has_room = buffered < BUFFER_ENTRIES as u64 && length as u64 + buffered <= lent.shape().entries;
-    epoch_is_proper && cursor_is_proper && has_room
+    epoch_is_proper && (is_outside || is_inside) && has_room
 }

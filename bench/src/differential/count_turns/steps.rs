@@ -24,7 +24,7 @@ pub static LISTS: [List; 9] = [
         turns: &OF_A_SCAN,
     },
     List {
-        kinds: &[Kind::Commit],
+        kinds: &[Kind::Commit, Kind::Begin],
         turns: &[("keeps a count that is not 0", |seen| seen.keeps() && !seen.counts(0))],
     },
     List {
@@ -118,7 +118,7 @@ const OF_AN_EVICTION: [(&str, Turn); 4] = [
 ];
 
 const OF_A_SCAN: [(&str, Turn); 5] = [
-    ("lowers a true count for a line of its target", |seen| {
+    ("lowers a true count for a line that its pass persists", |seen| {
         seen.is_true() && seen.lowers() && seen.visits_target()
     }),
     ("keeps a true count for a dirty line of a later epoch", |seen| {

@@ -1,16 +1,16 @@
 //! Arrays for registers and answer that are too short, or longer than they must be.
 
-use crate::differential::habit::{begin, next_call, Habit};
+use crate::differential::habit::{next_call, wake, Habit};
 use crate::differential::player::{Outcome, Player};
 use crate::interface::{ANSWER_WORDS, REGISTER_WORDS};
 use crate::random::Random;
 use crate::sizes::Sizes;
 
-const MOST_WORDS: usize = 6;
+const MOST_WORDS: usize = REGISTER_WORDS + 2;
 
 pub fn history(player: &mut Player) -> Outcome {
     let sizes = Sizes::draw_small(&mut player.random);
-    begin(player, sizes)?;
+    wake(player, sizes)?;
     let habit = Habit::draw(&mut player.random, sizes);
     for _ in 0..200 {
         let call = next_call(player, &habit);

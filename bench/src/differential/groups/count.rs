@@ -1,8 +1,10 @@
 //! States in which the count of dirty slots decides: slots of every kind, and a count that is true, one beside that, none, all
 //! or too many; with something else that is not proper, now and then, which another test would refuse.
 
+use super::play_states;
 use crate::call::{Call, NO_CUT};
 use crate::differential::damage::{damage_count, damage_filter};
+use crate::differential::passes::{draw_epoch_about_pass, draw_target, put_pass};
 use crate::differential::player::{Outcome, Player};
 use crate::differential::sides::Lent;
 use crate::handwritten::layout::{Control, Range, SlotWord, BUFFER_ENTRIES, LAST_EPOCH, MOST_AHEAD, MOST_LINES, WAYS};
@@ -13,16 +15,21 @@ use crate::sizes::Sizes;
 /// One state in so many has an improper slot, and as many an improper buffered entry, or a damaged filter.
 const DISTURBED_ONE_IN: u64 = 5;
 
+/// The persisted epochs: early and late ones, and such as have a carry into bit 8, 16 or 23 a few epochs on.
+const PERSISTED: [u64; 8] = [
+    0,
+    7,
+    1_000,
+    (1 << 8) - 6,
+    (1 << 16) - 6,
+    (1 << 23) - 6,
+    LAST_EPOCH - MOST_AHEAD,
+    LAST_EPOCH - 1,
+];
+
 pub fn history(player: &mut Player) -> Outcome {
     let sizes = draw_sizes(&mut player.random);
-    for _ in 0..16 {
-        lend(player, sizes);
-        for _ in 0..player.random.between(1, 3) {
-            let call = draw_call(&mut player.random, sizes, &player.state);
-            player.make(call)?;
-        }
-    }
-    Ok(())
+    play_states(player, sizes, lend, draw_call)
 }
 
 /// Few slots, most times: the more there are, the less often none or all of them are dirty.
@@ -39,6 +46,17 @@ fn draw_sizes(random: &mut Random) -> Sizes {
 fn lend(player: &mut Player, sizes: Sizes) {
     let random = &mut player.random;
     let state = &mut player.state;
+    lend_proper(random, state, sizes);
+    if !random.one_in(4) {
+        damage_count(random, state);
+    }
+    if random.one_in(DISTURBED_ONE_IN) {
+        make_a_slot_improper(random, state);
+    }
+}
+
+/// A board whose lines and log are any words, proper registers and a proper work memory.
+pub fn lend_proper(random: &mut Random, state: &mut Lent, sizes: Sizes) {
     state.board = random.words(sizes.board_words());
     state.work = random.words(sizes.work_words());
     state.set_shape(sizes.shape());
@@ -46,12 +64,6 @@ fn lend(player: &mut Player, sizes: Sizes) {
     lend_slots(random, state, sizes);
     lend_buffer(random, state, sizes);
     state.set_count(state.dirty_slots());
-    if !random.one_in(4) {
-        damage_count(random, state);
-    }
-    if random.one_in(DISTURBED_ONE_IN) {
-        make_a_slot_improper(random, state);
-    }
 }
 
 /// The control word and the registers but for the count.
@@ -61,25 +73,19 @@ pub fn lend_registers(random: &mut Random, state: &mut Lent, sizes: Sizes) {
     let room = sizes.entries - buffered;
     let some_of_room = random.between(0, room);
     let control = Control {
-        persisted: random.pick(&[0, 7, 1_000, LAST_EPOCH - MOST_AHEAD, LAST_EPOCH - 1]),
+        persisted: random.pick(&PERSISTED),
         start: random.below(sizes.entries) as usize,
         length: random.pick(&[0, room, some_of_room]) as usize,
     };
-    let ahead = random.pick(&[1, 2, 3, MOST_AHEAD]);
-    let epoch = LAST_EPOCH.min(control.persisted + ahead);
-    let any_cursor = random.between(0, sizes.slots);
-    let cursor = if epoch == control.persisted + 1 {
-        0
-    } else {
-        random.pick(&[sizes.slots, any_cursor, any_cursor])
-    };
+    let ahead = random.pick(&[1, 2, 3, 5, MOST_AHEAD]);
     state.set_control(control);
     state.set_registers(Registers {
-        epoch,
+        epoch: LAST_EPOCH.min(control.persisted + ahead),
         buffered,
-        cursor,
         ..Registers::default()
     });
+    let any_cursor = random.between(0, sizes.slots);
+    put_pass(random, state, &[sizes.slots, sizes.slots - 1, any_cursor, any_cursor]);
 }
 
 /// All of one kind, or of any: empty, clean, dirty.
@@ -87,12 +93,9 @@ fn lend_slots(random: &mut Random, state: &mut Lent, sizes: Sizes) {
     const KINDS: u64 = 3;
     let of_all = random.below(KINDS);
     let is_mixed = random.one_in(2);
-    let target = state.control().persisted + 1;
-    let epoch = state.registers().epoch;
     for set in 0..sizes.sets() {
         for (way, line) in sizes.draw_lines_of_set(random, set).into_iter().enumerate() {
-            let any_tag = random.between(target, epoch);
-            let tag = random.pick(&[target, epoch, any_tag]);
+            let tag = draw_epoch_about_pass(random, state);
             let kind = if is_mixed { random.below(KINDS) } else { of_all };
             let word = match (kind, line) {
                 (1, Some(address)) => SlotWord::clean(address),
@@ -129,7 +132,7 @@ pub fn lend_buffer(random: &mut Random, state: &mut Lent, sizes: Sizes) {
 }
 
 /// The slot under the scan's cursor, or any: not valid, with a tag that is too late, or with zero bits that are not zero.
-fn make_a_slot_improper(random: &mut Random, state: &mut Lent) {
+pub fn make_a_slot_improper(random: &mut Random, state: &mut Lent) {
     let slots = state.slots() as u64;
     let cursor = state.registers().cursor;
     let any = random.below(slots);
@@ -152,7 +155,7 @@ fn draw_call(random: &mut Random, sizes: Sizes, state: &Lent) -> Call {
     let beyond = random.pick(&[sizes.lines, sizes.lines + 1, MOST_LINES + slot, u64::MAX - slot]);
     let address = random.pick(&[held, held, of_the_set, of_the_set, of_the_set, beyond]);
     let allowance = random.pick(&[NO_CUT, NO_CUT, 0, 1]);
-    match random.below(16) {
+    match random.below(17) {
         0..4 => Call::Load { address, allowance },
         4..8 => Call::Store {
             address,
@@ -162,6 +165,9 @@ fn draw_call(random: &mut Random, sizes: Sizes, state: &Lent) -> Call {
         8..11 => Call::Evict { address, allowance },
         11 => Call::Commit { allowance },
         12..15 => Call::Scan { allowance },
+        15 => Call::Begin {
+            target: draw_target(random, state),
+        },
         _ => Call::Tally,
     }
 }

@@ -4,6 +4,7 @@
 use crate::call::{Call, NO_CUT};
 use crate::differential::damage::damage_filter;
 use crate::differential::habit::others_with;
+use crate::differential::passes::{draw_epoch_about_pass, draw_target, put_pass};
 use crate::differential::player::{Outcome, Player};
 use crate::differential::sides::Lent;
 use crate::handwritten::layout::{
@@ -24,7 +25,7 @@ pub fn history(player: &mut Player) -> Outcome {
     for _ in 0..16 {
         let line = lend(player, sizes);
         for _ in 0..player.random.between(1, 3) {
-            let call = draw_call(&mut player.random, sizes, line);
+            let call = draw_call(&mut player.random, sizes, &player.state, line);
             player.make(call)?;
         }
     }
@@ -75,20 +76,14 @@ fn lend_registers(random: &mut Random, state: &mut Lent, sizes: Sizes, slot: u64
     };
     let any_ahead = random.between(1, MOST_AHEAD);
     let ahead = random.pick(&[1, 2, 3, MOST_AHEAD, any_ahead]);
-    let epoch = LAST_EPOCH.min(control.persisted + ahead);
-    let any_cursor = random.between(0, sizes.slots);
-    let cursor = if epoch == control.persisted + 1 {
-        0
-    } else {
-        random.pick(&[slot, slot, slot, sizes.slots, any_cursor])
-    };
     state.set_control(control);
     state.set_registers(Registers {
-        epoch,
+        epoch: LAST_EPOCH.min(control.persisted + ahead),
         buffered,
-        cursor,
         ..Registers::default()
     });
+    let any_cursor = random.between(0, sizes.slots);
+    put_pass(random, state, &[slot, slot, slot, sizes.slots, any_cursor]);
 }
 
 /// The line alone, or in a set that is full of dirty lines of which it is the one to go, most times.
@@ -96,9 +91,9 @@ fn lend_slots(random: &mut Random, state: &mut Lent, sizes: Sizes, line: u64, sl
     for place in 0..sizes.slots as usize {
         state.set_slot(place, SlotWord::EMPTY);
     }
-    let (target, epoch) = (state.control().persisted + 1, state.registers().epoch);
-    let any_tag = random.between(target, epoch);
-    let tag = random.pick(&[target, target, epoch, any_tag]);
+    let (oldest, epoch) = (state.control().persisted + 1, state.registers().epoch);
+    let tag_about_pass = draw_epoch_about_pass(random, state);
+    let tag = random.pick(&[oldest, tag_about_pass]);
     let set = line % sizes.sets();
     if !random.one_in(3) {
         for (way, other) in sizes.draw_lines_of_set(random, set).into_iter().enumerate() {
@@ -115,9 +110,9 @@ fn lend_slots(random: &mut Random, state: &mut Lent, sizes: Sizes, line: u64, sl
 
 /// The buffered entries, one of them not proper now and then, and the filter.
 fn lend_buffer(random: &mut Random, state: &mut Lent, sizes: Sizes, addresses: &[u64]) {
-    let (target, epoch) = (state.control().persisted + 1, state.registers().epoch);
+    let (oldest, epoch) = (state.control().persisted + 1, state.registers().epoch);
     for (place, &address) in addresses.iter().enumerate() {
-        state.set_buffered(place, draw_range(random, address, target, epoch));
+        state.set_buffered(place, draw_range(random, address, oldest, epoch));
     }
     if !addresses.is_empty() && random.one_in(12) {
         let place = random.below(addresses.len() as u64) as usize;
@@ -157,8 +152,8 @@ fn draw_addresses(random: &mut Random, sizes: Sizes, line: u64) -> Vec<u64> {
     addresses
 }
 
-fn draw_range(random: &mut Random, address: u64, target: u64, epoch: u64) -> Range {
-    let valid_till = random.between(target, epoch);
+fn draw_range(random: &mut Random, address: u64, oldest: u64, epoch: u64) -> Range {
+    let valid_till = random.between(oldest, epoch);
     Range {
         address,
         valid_from: random.between(valid_till.saturating_sub(MOST_AHEAD), valid_till - 1),
@@ -176,14 +171,14 @@ fn improper(random: &mut Random, mut range: Range, lines: u64, epoch: u64) -> Ra
     range
 }
 
-fn draw_call(random: &mut Random, sizes: Sizes, line: u64) -> Call {
+fn draw_call(random: &mut Random, sizes: Sizes, state: &Lent, line: u64) -> Call {
     let set = line % sizes.sets();
     let of_the_same_set = set + sizes.sets() * random.below(sizes.lines_of_set(set));
     let any = draw_line(random, sizes.lines);
     let address = random.pick(&[line, of_the_same_set, of_the_same_set, any]);
     let some = random.below(70) as u32;
     let allowance = random.pick(&[NO_CUT, NO_CUT, NO_CUT, NO_CUT, 0, 1, some]);
-    match random.below(17) {
+    match random.below(19) {
         0..3 => Call::Load { address, allowance },
         3..8 => Call::Store {
             address,
@@ -196,6 +191,9 @@ fn draw_call(random: &mut Random, sizes: Sizes, line: u64) -> Call {
         },
         11..13 => Call::Commit { allowance },
         13..16 => Call::Scan { allowance },
+        16..18 => Call::Begin {
+            target: draw_target(random, state),
+        },
         _ => Call::FilterBits,
     }
 }

@@ -2,6 +2,7 @@
 
 use crate::call::{Call, NO_CUT};
 use crate::differential::habit::{go_on, Habit};
+use crate::differential::passes::put_pass;
 use crate::differential::player::{Outcome, Player};
 use crate::handwritten::layout::{Control, Range, EPOCH_BITS, LAST_EPOCH, MOST_AHEAD};
 use crate::handwritten::Registers;
@@ -16,7 +17,8 @@ pub fn history(player: &mut Player) -> Outcome {
     for _ in 0..8 {
         let control = lend_log(player, sizes);
         if player.random.one_in(3) {
-            scan_at_the_end(player, sizes, control)?;
+            let ahead = player.random.between(2, MOST_AHEAD);
+            scan_at_the_end(player, sizes, ahead)?;
         }
         power_up(player, control)?;
     }
@@ -124,17 +126,17 @@ fn power_up(player: &mut Player, control: Control) -> Outcome {
     player.make(Call::PowerUp { allowance })
 }
 
-/// A scan with its cursor at the end, on an empty cache and buffer: it drops the oldest run. Then the board before it
-/// again.
-fn scan_at_the_end(player: &mut Player, sizes: Sizes, control: Control) -> Outcome {
+/// A scan with its cursor at the end, most times, on an empty cache and buffer, the running epoch being so far ahead: it drops
+/// the oldest run. Then the board before it again.
+pub fn scan_at_the_end(player: &mut Player, sizes: Sizes, ahead: u64) -> Outcome {
     let board = player.state.board.clone();
-    let epoch = (control.persisted + player.random.between(2, MOST_AHEAD)).min(LAST_EPOCH);
+    let persisted = player.state.control().persisted;
     player.state.work.fill(0);
     player.state.set_registers(Registers {
-        epoch,
-        cursor: sizes.slots,
+        epoch: LAST_EPOCH.min(persisted + ahead),
         ..Registers::default()
     });
+    put_pass(&mut player.random, &mut player.state, &[sizes.slots]);
     let allowance = player.random.pick(&[NO_CUT, NO_CUT, 1, 0]);
     player.make(Call::Scan { allowance })?;
     player.state.board = board;

@@ -10,11 +10,16 @@ mod large;
 mod last_epochs;
 mod log_edges;
 mod names;
+mod pass;
 mod random_words;
 mod records;
 mod sets;
 
 use super::player::{Outcome, Player};
+use super::sides::Lent;
+use crate::call::Call;
+use crate::random::Random;
+use crate::sizes::Sizes;
 
 pub struct Group {
     pub name: &'static str,
@@ -23,20 +28,20 @@ pub struct Group {
     pub history: fn(&mut Player) -> Outcome,
 }
 
-pub const GROUPS: [Group; 13] = [
+pub const GROUPS: [Group; 14] = [
     Group {
         name: "histories",
-        share: 250,
+        share: 220,
         history: histories::history,
     },
     Group {
         name: "damaged",
-        share: 179,
+        share: 159,
         history: damaged::history,
     },
     Group {
         name: "random-words",
-        share: 120,
+        share: 110,
         history: random_words::history,
     },
     Group {
@@ -58,6 +63,11 @@ pub const GROUPS: [Group; 13] = [
         name: "sets",
         share: 60,
         history: sets::history,
+    },
+    Group {
+        name: "pass",
+        share: 60,
+        history: pass::history,
     },
     Group {
         name: "last-epochs",
@@ -90,3 +100,23 @@ pub const GROUPS: [Group; 13] = [
         history: large::history,
     },
 ];
+
+/// How many states a history of single states has.
+const STATES: u64 = 16;
+
+/// States that are lent one after the other, and some calls on each.
+fn play_states(
+    player: &mut Player,
+    sizes: Sizes,
+    lend: fn(&mut Player, Sizes),
+    draw_call: fn(&mut Random, Sizes, &Lent) -> Call,
+) -> Outcome {
+    for _ in 0..STATES {
+        lend(player, sizes);
+        for _ in 0..player.random.between(1, 3) {
+            let call = draw_call(&mut player.random, sizes, &player.state);
+            player.make(call)?;
+        }
+    }
+    Ok(())
+}

@@ -2,6 +2,7 @@
 
 use crate::call::{Call, NO_CUT};
 use crate::differential::damage::{damage_count, damage_filter};
+use crate::differential::passes::{damage_pass, draw_target, put_pass};
 use crate::differential::player::{Outcome, Player};
 use crate::differential::sides::Lent;
 use crate::handwritten::layout::{
@@ -38,7 +39,7 @@ fn wild_memories(player: &mut Player) -> Outcome {
     player.state.work = random.words(work_words);
     player.state.registers = (0..REGISTER_WORDS).map(|_| random.any_width()).collect();
     for _ in 0..4 {
-        let call = any_call(&mut player.random, board_words);
+        let call = any_call(&mut player.random, &player.state, board_words);
         player.make(call)?;
     }
     Ok(())
@@ -131,12 +132,16 @@ fn right_shape_wild_words(player: &mut Player) -> Outcome {
     player.state.set_registers(Registers {
         epoch: control.persisted + random.between(1, MOST_AHEAD),
         buffered: random.below(BUFFER_ENTRIES as u64 + 1).min(room),
-        cursor: random.between(0, slots),
         ..Registers::default()
     });
+    let cursor = random.between(0, slots);
+    put_pass(random, &mut player.state, &[cursor]);
+    if random.one_in(8) {
+        damage_pass(random, &mut player.state);
+    }
     lend_wild_words(random, &mut player.state, sizes);
     for _ in 0..player.random.between(1, 8) {
-        let call = any_call(&mut player.random, lines + 1);
+        let call = any_call(&mut player.random, &player.state, lines + 1);
         player.make(call)?;
     }
     Ok(())
@@ -214,7 +219,7 @@ fn wild_slot(random: &mut Random, sizes: Sizes, place: u64, control: Control, ep
     }
 }
 
-fn any_call(random: &mut Random, lines: u64) -> Call {
+fn any_call(random: &mut Random, state: &Lent, lines: u64) -> Call {
     let address = if random.one_in(8) {
         random.any_width()
     } else {
@@ -225,7 +230,7 @@ fn any_call(random: &mut Random, lines: u64) -> Call {
         2 => random.word() as u32,
         _ => NO_CUT,
     };
-    match random.below(17) {
+    match random.below(18) {
         0 => Call::PowerUp { allowance },
         1..=3 => Call::Load { address, allowance },
         4..=7 => Call::Store {
@@ -237,6 +242,9 @@ fn any_call(random: &mut Random, lines: u64) -> Call {
         11 => Call::Commit { allowance },
         12..=14 => Call::Scan { allowance },
         15 => Call::FilterBits,
+        16 => Call::Begin {
+            target: draw_target(random, state),
+        },
         _ => Call::Tally,
     }
 }

@@ -4,10 +4,10 @@
 use super::count::{lend_buffer, lend_registers};
 use crate::call::{Call, NO_CUT};
 use crate::differential::damage::damage_count;
+use crate::differential::passes::{draw_target, put_pass};
 use crate::differential::player::{Outcome, Player};
 use crate::differential::sides::Lent;
 use crate::handwritten::layout::{work_words, SlotWord, LAST_ADDRESS, LAST_EPOCH, MOST_SLOTS, WAYS};
-use crate::handwritten::Registers;
 use crate::random::Random;
 use crate::sizes::Sizes;
 
@@ -21,7 +21,7 @@ pub fn history(player: &mut Player) -> Outcome {
         }
         if player.random.one_in(4) {
             lend_other_slots(player);
-            let call = draw_any_call(&mut player.random, sizes);
+            let call = draw_any_call(&mut player.random, sizes, &player.state);
             player.make(call)?;
         }
     }
@@ -38,14 +38,16 @@ fn lend_other_slots(player: &mut Player) {
 }
 
 /// Each call that is lent a work memory.
-fn draw_any_call(random: &mut Random, sizes: Sizes) -> Call {
+fn draw_any_call(random: &mut Random, sizes: Sizes, state: &Lent) -> Call {
     let address = random.below(sizes.lines);
+    let target = draw_target(random, state);
     random.pick(&[
         Call::POWER_UP,
         Call::load(address),
         Call::store(address, 7),
         Call::evict(address),
         Call::COMMIT,
+        Call::Begin { target },
         Call::SCAN,
         Call::Tally,
         Call::FilterBits,
@@ -71,7 +73,8 @@ fn lend(player: &mut Player, sizes: Sizes) -> u64 {
     state.set_shape(sizes.shape());
     lend_registers(random, state, sizes);
     let set = random.below(sizes.sets());
-    put_cursor(random, state, set);
+    let cursor = WAYS as u64 * set + random.below(WAYS as u64);
+    put_pass(random, state, &[cursor]);
     // The other sets are empty, or of any words.
     if !random.one_in(8) {
         for place in 0..sizes.slots as usize {
@@ -92,15 +95,6 @@ fn lend(player: &mut Player, sizes: Sizes) -> u64 {
     set
 }
 
-/// At a slot of the set, where an epoch waits.
-fn put_cursor(random: &mut Random, state: &mut Lent, set: u64) {
-    let registers = state.registers();
-    if registers.epoch > state.control().persisted + 1 {
-        let cursor = WAYS as u64 * set + random.below(WAYS as u64);
-        state.set_registers(Registers { cursor, ..registers });
-    }
-}
-
 #[derive(Clone, Copy)]
 enum Holds {
     Nothing,
@@ -117,8 +111,8 @@ fn lend_set(random: &mut Random, state: &mut Lent, sizes: Sizes, set: u64) {
         3 => &[Clean, Clean, Nothing],
         _ => &[Dirty, Clean, Nothing],
     };
-    let (target, epoch) = (state.control().persisted + 1, state.registers().epoch);
-    let latest = random.pick(&[target, epoch, epoch, epoch.min(target + 1)]);
+    let (oldest, epoch) = (state.control().persisted + 1, state.registers().epoch);
+    let latest = random.pick(&[oldest, epoch, epoch, epoch.min(oldest + 1)]);
     let other = random.below(2 * WAYS as u64) as usize;
     for (way, line) in sizes.draw_lines_of_set(random, set).into_iter().enumerate() {
         let kind = match way == other {
@@ -127,7 +121,7 @@ fn lend_set(random: &mut Random, state: &mut Lent, sizes: Sizes, set: u64) {
         };
         let word = match (kind, line) {
             (Clean, Some(address)) => SlotWord::clean(address),
-            (Dirty, Some(address)) => SlotWord::dirty(address, random.between(target, latest)),
+            (Dirty, Some(address)) => SlotWord::dirty(address, random.between(oldest, latest)),
             _ => SlotWord::EMPTY,
         };
         state.set_slot(WAYS * set as usize + way, word);

@@ -35,10 +35,11 @@ fn the_count_is_the_fourth_register() {
         buffered: 6,
         cursor: 7,
         dirty: 8,
+        target: 9,
     };
-    assert_eq!(RegisterWords::from(registers), [5, 6, 7, 8]);
-    assert_eq!(Registers::from([5, 6, 7, 8]), registers);
-    assert_eq!(REGISTER_NAMES, ["s", "b", "c", "d"]);
+    assert_eq!(RegisterWords::from(registers), [5, 6, 7, 8, 9]);
+    assert_eq!(Registers::from([5, 6, 7, 8, 9]), registers);
+    assert_eq!(REGISTER_NAMES[..4], ["s", "b", "c", "d"]);
 }
 
 #[test]
@@ -128,9 +129,9 @@ fn power_up_leaves_none() {
     assert_eq!(loom.count_after(Call::POWER_UP), 0);
     // Whatever registers and work memory it is lent.
     loom.work.fill(u64::MAX);
-    loom.registers = Registers::from([u64::MAX; 4]);
+    loom.registers = Registers::from([u64::MAX; 5]);
     assert_eq!(loom.count_after(Call::POWER_UP), 0);
-    assert_eq!(loom.registers, Registers::from([1, 0, 0, 0]));
+    assert_eq!(loom.registers, Registers::from([1, 0, 0, 0, 0]));
 }
 
 #[test]
@@ -272,7 +273,7 @@ fn a_wrong_count_that_no_test_refuses_is_carried_on() {
     assert_eq!(low.store(3, 7), answer(0, 0, 0));
     assert_eq!(low.registers.dirty, 1);
     low.commit();
-    low.registers.cursor = 1;
+    low.put_cursor(1);
     assert_eq!(low.scan().number, 0);
     assert_eq!(low.work[2], SlotWord::clean(2).0);
     assert_eq!(low.registers.dirty, 0);

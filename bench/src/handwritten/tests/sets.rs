@@ -257,7 +257,7 @@ fn after_four_stores_the_scan_makes_room_for_newcomers() {
         loom.store(address, 7);
     }
     loom.commit();
-    loom.registers.cursor = 2;
+    loom.put_cursor(2);
     assert_eq!(loom.scan(), answer(0, 0, 10));
     assert_eq!(loom.store(4, 9), answer(0, 0, 0));
     assert_eq!(loom.slot_words(), [dirty(0, 1), dirty(1, 1), dirty(4, 2), dirty(3, 1)]);

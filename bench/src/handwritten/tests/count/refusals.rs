@@ -64,7 +64,7 @@ fn with_scan(calls: [Call; 6]) -> impl Iterator<Item = Call> {
 #[test]
 fn a_count_above_s_is_refused_with_the_registers() {
     let loom = |count| with_set(all_dirty(), count);
-    for call in with_scan(SET_VISITS).chain([Call::COMMIT, Call::Tally]) {
+    for call in with_scan(SET_VISITS).chain([Call::COMMIT, Call::Begin { target: 1 }, Call::Tally]) {
         for count in [1, 4, 7, 8] {
             assert_eq!(loom(count).make(call).number, 0, "{call}, {count}");
         }
@@ -74,7 +74,7 @@ fn a_count_above_s_is_refused_with_the_registers() {
     }
     // At the scan's end too.
     let mut end = loom(9);
-    end.registers.cursor = 8;
+    end.put_cursor(8);
     assert_eq!(end.without_change(Call::SCAN), answer(4, 0, 0));
 }
 
@@ -163,9 +163,9 @@ fn no_other_count_is_held_to_the_set() {
 fn a_scan_holds_the_count_to_the_slot_at_its_cursor() {
     for (cursor, slot) in [(0, 0), (1, 1), (3, 3), (1, 0), (0, 3)] {
         let mut none = with_set(all_empty_but(slot, SlotWord::dirty(0, 1)), 0);
-        none.registers.cursor = cursor as u64;
+        none.put_cursor(cursor as u64);
         let mut all = with_set(all_dirty_but(slot, SlotWord::clean(0)), S);
-        all.registers.cursor = cursor as u64;
+        all.put_cursor(cursor as u64);
         if cursor == slot {
             assert_eq!(none.without_change(Call::SCAN), answer(4, 0, 0));
             assert_eq!(all.without_change(Call::SCAN), answer(4, 0, 0));
@@ -177,19 +177,21 @@ fn a_scan_holds_the_count_to_the_slot_at_its_cursor() {
 }
 
 #[test]
-fn the_scans_end_and_commit_visit_no_slot() {
+fn the_scans_end_commit_and_begin_visit_no_slot() {
     for (words, count) in [
         (all_dirty(), 0),
         ([EMPTY; WAYS], S),
         ([0, 2, 4, 6].map(SlotWord::clean), S),
     ] {
         let mut loom = with_set(words, count);
-        loom.registers.cursor = S;
+        loom.put_cursor(S);
         assert_eq!(loom.scan(), answer(0, 1, 1));
-        assert_eq!(loom.registers, Registers::from([2, 0, 0, count]));
+        assert_eq!(loom.registers, Registers::from([2, 0, 0, count, 0]));
         let mut loom = with_set(words, count);
         assert_eq!(loom.commit(), answer(0, 0, 0));
-        assert_eq!(loom.registers, Registers::from([3, 0, 0, count]));
+        assert_eq!(loom.registers, Registers::from([3, 0, 0, count, 0]));
+        assert_eq!(loom.begin(2), answer(0, 0, 0));
+        assert_eq!(loom.registers, Registers::from([3, 0, 0, count, 2]));
     }
 }
 
@@ -307,20 +309,22 @@ fn the_tally_refuses_as_commit_does_up_to_4() {
     let mut loom = with_set([EMPTY; WAYS], 0);
     loom.store(1, 7);
     let proper = loom.registers;
-    assert_eq!(proper, Registers::from([2, 1, 0, 1]));
+    assert_eq!(proper, Registers::from([2, 1, 0, 1, 0]));
     let improper = [
-        [0, 1, 0, 1],
-        [17, 1, 0, 1],
-        [1 << 24, 1, 0, 1],
-        [2, 32, 0, 1],
-        [2, 9, 0, 1],
-        [2, 1, 9, 1],
-        [1, 1, 1, 1],
-        [2, 1, 0, 9],
+        [0, 1, 0, 1, 0],
+        [17, 1, 0, 1, 0],
+        [1 << 24, 1, 0, 1, 0],
+        [2, 32, 0, 1, 0],
+        [2, 9, 0, 1, 0],
+        [2, 1, 9, 1, 1],
+        [1, 1, 1, 1, 0],
+        [2, 1, 0, 9, 0],
+        [2, 1, 1, 1, 0],
+        [2, 1, 0, 1, 2],
     ];
     for words in improper {
         loom.registers = words.into();
-        for call in [Call::Tally, Call::COMMIT] {
+        for call in [Call::Tally, Call::COMMIT, Call::Begin { target: 1 }] {
             assert_eq!(loom.without_change(call), answer(4, 0, 0), "{call}, {words:?}");
         }
     }

@@ -116,7 +116,7 @@ fn the_scan_tests_the_slot_at_its_cursor_alone() {
             words[way] = word;
             for cursor in 0..=2 * WAYS {
                 let mut loom = with_set(words);
-                loom.registers.cursor = cursor as u64;
+                loom.put_cursor(cursor as u64);
                 let number = if cursor == WAYS + way { 6 } else { 0 };
                 assert_eq!(
                     loom.make(Call::SCAN).number,
