@@ -42,11 +42,6 @@ void record_call(uint32_t allowance, const char *line, ...)
 }
 
 /* The control word of a board: persisted epoch 24 bits, log start 20, log length 20. */
-static unsigned long persisted_in(uint64_t control)
-{
-    return (unsigned long)(control >> 40);
-}
-
 static unsigned long length_in(uint64_t control)
 {
     return (unsigned long)(control & 0xFFFFF);
@@ -67,6 +62,6 @@ void record_answer(uint64_t number, const uint64_t *answer, const uint64_t *regi
     int letters = name_of(number, name);
     fprintf(transcript, "%c %.*s %llu %llu %llu %lu %lu %llu\n", letter, letters, (const char *)name,
             (unsigned long long)answer[PICL_VALUE], (unsigned long long)answer[PICL_STORES],
-            (unsigned long long)registers[PICL_EPOCH], persisted_in(board[0]), length_in(board[0]),
+            (unsigned long long)registers[PICL_EPOCH], (unsigned long)PICL_PERSISTED(board), length_in(board[0]),
             (unsigned long long)registers[PICL_BUFFERED]);
 }
