@@ -187,12 +187,27 @@ pub fn committed(m: Machine) -> Machine {
     next
 }
 
-// "if dirty and tagged with the target".
+// "A begin call takes a target ..; it visits no slot": "The registers gain the target".
+pub fn begun(m: Machine, target: u64) -> Machine {
+    let mut next = m;
+    next.registers.target = target;
+    next
+}
+
+// "A scan call outside a pass begins one with P + 1."
+fn in_pass(m: Machine) -> Machine {
+    if m.registers.target != 0 {
+        return m;
+    }
+    begun(m, sum(m.control.persisted, 1))
+}
+
+// "the pass then writes out dirty lines with tags up to the target".
 fn scan_writes(slot: Slot, target: u64) -> bool {
     if !slot.dirty {
         return false;
     }
-    slot.tag == target
+    slot.tag <= target
 }
 
 // "the line is written out and becomes clean, tag 0".
@@ -204,13 +219,13 @@ fn cleaned(m: Machine, k: u64) -> Machine {
     with_slot(next, k, slot)
 }
 
-// "With c < S it visits slot c: if dirty and tagged with the target, the line is written out and
-// becomes clean, tag 0; c rises by one."
+// "With c < S it visits slot c: if dirty and tagged with the target" or below it, "the line is written
+// out and becomes clean, tag 0; c rises by one."
 fn slot_scanned(m: Machine) -> Machine {
     let k = m.registers.cursor;
     let cursor = sum(k, 1);
     let mut next = m;
-    if scan_writes(slot_at(m, k), sum(m.control.persisted, 1)) {
+    if scan_writes(slot_at(m, k), m.registers.target) {
         next = cleaned(m, k);
     }
     next.registers.cursor = cursor;
@@ -231,9 +246,9 @@ fn run_length(m: Machine, target: u64) -> u64 {
 
 // "With c = S it flushes, then stores one control word with P = target and the oldest run of
 // entries with ValidTill <= target dropped, start going up by their number, mod L; c = 0; value is
-// the new P."
-fn epoch_persisted(m: Machine) -> Machine {
-    let target = sum(m.control.persisted, 1);
+// the new P." The pass is over then, and the target "0 outside a pass".
+fn pass_finished(m: Machine) -> Machine {
+    let target = m.registers.target;
     let whole = flushed(m);
     let dropped = run_length(whole, target);
     let control = Control {
@@ -243,16 +258,19 @@ fn epoch_persisted(m: Machine) -> Machine {
     };
     let mut next = with_control(whole, control);
     next.registers.cursor = 0;
+    next.registers.target = 0;
     next.value = target;
     next
 }
 
-// "Scan: target P + 1. With c < S it visits slot c .. With c = S it flushes .."
+// "Scan: .. With c < S it visits slot c .. With c = S it flushes .." The call that begins a pass visits
+// slot 0 too: it is the first of the S + 1 that persist an epoch.
 pub fn scanned(m: Machine) -> Machine {
-    if m.registers.cursor < m.slot_count {
-        return slot_scanned(m);
+    let passing = in_pass(m);
+    if passing.registers.cursor < passing.slot_count {
+        return slot_scanned(passing);
     }
-    epoch_persisted(m)
+    pass_finished(passing)
 }
 
 // "each entry with ValidFrom <= P < ValidTill": W5's cover.
@@ -284,7 +302,8 @@ fn entries_restored(m: Machine) -> Machine {
 
 // "Power-up: from the newest log entry to the oldest, each entry .. has its data stored to its
 // line. Then the control word: same P, start 0, length 0, always stored. Then work memory all
-// zero, s = P + 1, b = 0, c = 0." No slot is dirty then, so their count is 0.
+// zero, s = P + 1, b = 0, c = 0." No slot is dirty then, so their count is 0; and no pass has begun, so
+// the target is 0.
 pub fn powered_up(m: Machine) -> Machine {
     let persisted = m.control.persisted;
     let control = Control {

@@ -14,6 +14,7 @@ mod record;
 mod record_runs;
 mod reference_machine;
 mod refusals;
+mod register_tests;
 mod registers;
 mod sets;
 mod slot_tests;
@@ -168,6 +169,28 @@ pub fn commit(board: &mut [u64], work: &mut [u64], registers: Registers, allowan
         return refused(number, registers);
     }
     finished(board, work, committed(m), allowance)
+}
+
+// "A begin call takes a target from P + 1 to s - 1": rows 1, 2, 4, 7, 14 and 15; then what `begun` says.
+// "like every later call without board stores, it takes no allowance and reports 0".
+pub fn begin(board: &[u64], work: &[u64], registers: Registers, target: u64) -> Answer {
+    let number = memory_refusal(board, work);
+    if number != OK {
+        return refused(number, registers);
+    }
+    let m = decoded(board, work, registers);
+    let number = begin_refusal(m, target);
+    if number != OK {
+        return refused(number, registers);
+    }
+    let after = begun(m, target);
+    let left = after.registers;
+    Answer {
+        number: OK,
+        value: 0,
+        stores: 0,
+        registers: left,
+    }
 }
 
 // Scan: rows 1, 2, 4, 6, the count's test, 7, 14, 11 and 12; then what `scanned` says.

@@ -31,7 +31,7 @@ pub struct Machine {
     pub slots: [Slot; MOST_SLOTS],
     pub buffer: [Entry; BUFFER_ENTRIES],
     pub filter: [u64; FILTER_WORDS],
-    // The registers s, b and c, and the count of dirty slots.
+    // The registers s, b and c, the count of dirty slots, and the target of a pass.
     pub registers: Registers,
     // What the call owes the board, and the value of its answer: "Values not named are 0."
     pub due: DueList,

@@ -10,7 +10,7 @@ const ROW_BYTES: usize = 8;
 const SPACE: u8 = b' ';
 
 // "The names are held as thirteen rows", and those that joined them. A number without a name has a
-// row of spaces alone: 15 too, which has none yet.
+// row of spaces alone.
 fn row_of(number: u64) -> [u8; ROW_BYTES] {
     match number {
         0 => *b"ok      ",
@@ -28,6 +28,7 @@ fn row_of(number: u64) -> [u8; ROW_BYTES] {
         12 => *b"cut     ",
         13 => *b"trace   ",
         14 => *b"filter  ",
+        15 => *b"target  ",
         16 => *b"short   ",
         17 => *b"past    ",
         18 => *b"logheld ",

@@ -3,6 +3,7 @@
 // tested belies "answers 4" only "right after 6".
 use crate::filter::both_set;
 use crate::machine::*;
+use crate::register_tests::*;
 use crate::sets::*;
 use crate::slot_tests::*;
 use crate::words::*;
@@ -40,6 +41,9 @@ pub const TRACE: u64 = 13;
 // "14 filter, a buffered entry with either bit unset".
 pub const FILTER: u64 = 14;
 
+// "15 target, a begin call inside a pass or with a target out of range".
+pub const TARGET: u64 = 15;
+
 // "16 short, fewer than 44 text bytes; 17 past, no record of that number; 18 logheld, log length not
 // 0".
 pub const SHORT: u64 = 16;
@@ -50,13 +54,6 @@ pub const LOG_HELD: u64 = 18;
 
 // Not in the paper: the model does not take a board of more than BOARD_CAPACITY words.
 pub const TOO_LARGE: u64 = 99;
-
-// How far an epoch is ahead of P at most: "s - P <= 16" of the proper registers, and "ValidTill <=
-// P + 16" of a proper log entry.
-const MOST_AHEAD: u64 = 16;
-
-// "b <= 31" of the proper registers.
-const MOST_BUFFERED: u64 = 31;
 
 // "1 shape: fewer than 2 board words; .. N or L out of range; wrong word count": "Format's shape
 // test reads its arguments and the word count only."
@@ -165,37 +162,6 @@ pub fn first_improper(m: Machine) -> u64 {
         older_till = entry.valid_till;
     }
     length
-}
-
-// "Proper registers: P < s <= 2^24 - 1, s - P <= 16, b <= 31, c <= S, c = 0 where s = P + 1,
-// length + b <= L." "Registers are also improper when the count exceeds S."
-fn registers_proper(m: Machine) -> bool {
-    let epoch = m.registers.epoch;
-    let persisted = m.control.persisted;
-    if epoch <= persisted {
-        return false;
-    }
-    if epoch > LAST_EPOCH {
-        return false;
-    }
-    if epoch - persisted > MOST_AHEAD {
-        return false;
-    }
-    if m.registers.buffered > MOST_BUFFERED {
-        return false;
-    }
-    if m.registers.cursor > m.slot_count {
-        return false;
-    }
-    if m.registers.dirty > m.slot_count {
-        return false;
-    }
-    if epoch == persisted + 1 {
-        if m.registers.cursor != 0 {
-            return false;
-        }
-    }
-    sum(m.control.length, m.registers.buffered) <= m.entry_count
 }
 
 // "A proper buffered entry has address < N and ValidFrom < ValidTill <= s."
@@ -309,12 +275,17 @@ pub fn tally_refusal(m: Machine) -> u64 {
     OK
 }
 
-// Rows 4, 7 and 14 of commit; then "9 waiting: s - P = 16"; "10 last: s = 2^24 - 1".
-pub fn commit_refusal(m: Machine) -> u64 {
+// Rows 4, 7 and 14 of commit, which are begin's too: "after commit's 1, 2, 4, 7 and 14".
+fn state_refusal(m: Machine) -> u64 {
     if !registers_proper(m) {
         return REGISTERS;
     }
-    let number = buffer_refusal(m);
+    buffer_refusal(m)
+}
+
+// Rows 4, 7 and 14 of commit; then "9 waiting: s - P = 16"; "10 last: s = 2^24 - 1".
+pub fn commit_refusal(m: Machine) -> u64 {
+    let number = state_refusal(m);
     if number != OK {
         return number;
     }
@@ -323,6 +294,30 @@ pub fn commit_refusal(m: Machine) -> u64 {
     }
     if m.registers.epoch == LAST_EPOCH {
         return LAST;
+    }
+    OK
+}
+
+// "A begin call takes a target from P + 1 to s - 1".
+fn target_in_range(m: Machine, target: u64) -> bool {
+    if target < sum(m.control.persisted, 1) {
+        return false;
+    }
+    target <= difference(m.registers.epoch, 1)
+}
+
+// Rows 4, 7 and 14 of begin; then "15 target, a begin call inside a pass or with a target out of
+// range".
+pub fn begin_refusal(m: Machine, target: u64) -> u64 {
+    let number = state_refusal(m);
+    if number != OK {
+        return number;
+    }
+    if m.registers.target != 0 {
+        return TARGET;
+    }
+    if !target_in_range(m, target) {
+        return TARGET;
     }
     OK
 }

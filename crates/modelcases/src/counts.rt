@@ -39,8 +39,8 @@ fn with_count(r: Registers, dirty: u64) -> Registers {
     next
 }
 
-// A call. Behind the listing's columns its line has c and the count, and how many slots are dirty.
-// The status question and the tally return no registers: s and b are 0 in their lines.
+// A call. Behind the listing's columns its line has c and the count, how many slots are dirty, and the
+// target. The status question and the tally return no registers: s and b are 0 in their lines.
 pub fn shown(board: &mut [u64], work: &mut [u64], r: Registers, s: Step) -> Registers {
     let a = called(board, work, r, s);
     let letter = s.letter;
@@ -52,6 +52,7 @@ pub fn shown(board: &mut [u64], work: &mut [u64], r: Registers, s: Step) -> Regi
     number(left.cursor);
     number(left.dirty);
     number(model::dirty_count(work));
+    number(left.target);
     left
 }
 

@@ -1,13 +1,14 @@
 // Runs the paper's replay listing and its examples W5 to W12 on the model, and prints the listing's
 // columns; then logs about the limit of document 02's request 2/13, the filter of its request 3/13,
 // the count of dirty slots of its request 5/13, the sets of slots of its request 6/13, records and
-// traces, of its request 1/13, the names of the numbers, and the Intel HEX records of its request 7/13.
-// The stored output holds what the papers say.
+// traces, of its request 1/13, the names of the numbers, the Intel HEX records of its request 7/13, and
+// the passes of its request 8/13. The stored output holds what the papers say.
 mod counts;
 mod exports;
 mod filters;
 mod names;
 mod packing;
+mod passes;
 mod random;
 mod records;
 mod sets;
@@ -121,6 +122,7 @@ fn called(board: &mut [u64], work: &mut [u64], r: Registers, s: Step) -> Answer 
         b'e' => model::evict(board, work, r, s.address, s.allowance),
         b'c' => model::commit(board, work, r, s.allowance),
         b'a' => model::scan(board, work, r, s.allowance),
+        b'b' => model::begin(board, work, r, passes::word_of(s)),
         b'q' => model::filter_bits(work),
         _ => model::tally(board, work, r),
     }
@@ -235,9 +237,10 @@ fn main() {
     sets::cases();
     records::cases();
     traces::cases();
-    random::list(1, 3000, ONE_SET_WORK);
-    random::list(2, 3000, TWO_SET_WORK);
-    random::list(77, 3000, ONE_SET_WORK);
+    random::list(1, 12000, ONE_SET_WORK);
+    random::list(2, 12000, TWO_SET_WORK);
+    random::list(77, 12000, ONE_SET_WORK);
     names::cases();
     exports::cases();
+    passes::cases();
 }

@@ -1,5 +1,5 @@
-// The names of the answers' numbers, by the paper's table and document 02's requests 1/13, 3/13, 4/13
-// and 7/13; the lines were worked out by hand.
+// The names of the answers' numbers, by the paper's table and document 02's requests 1/13, 3/13, 4/13,
+// 7/13 and 8/13; the lines were worked out by hand.
 use crate::number;
 use crate::packing::LARGEST;
 use libc::STDOUT_FILENO;
@@ -69,12 +69,15 @@ fn short_texts() {
     named(9, 7);
     named(9, 8);
     named(15, 0);
+    named(15, 5);
+    named(15, 6);
     named(16, 4);
     named(16, 5);
     named(17, 3);
     named(17, 4);
     named(18, 6);
     named(18, 7);
+    named(19, 0);
 }
 
 pub fn cases() {

@@ -90,6 +90,13 @@ pub fn work_words(slots: usize) -> usize {
     2 * slots + BEHIND_SLOTS
 }
 
+pub fn slot_count(work: &[u64]) -> u64 {
+    if work.len() < BEHIND_SLOTS {
+        return 0;
+    }
+    ((work.len() - BEHIND_SLOTS) / 2) as u64
+}
+
 pub fn persisted_of(control: u64) -> u64 {
     control >> 40
 }
@@ -136,10 +143,15 @@ pub fn slot_zero(word: u64) -> u64 {
     word & 0x3FFFFF
 }
 
-// 2^64 - 1 and 2^63, the largest word and the one with the leading bit alone.
+// 2^64 - 1, 2^63, 2^32 and 2^16: the largest word, the one with the leading bit alone, and the first
+// that half a word and a quarter have no place for.
 pub const LARGEST: u64 = 18446744073709551615;
 
 pub const LEADING: u64 = 9223372036854775808;
+
+pub const PAST_HALF: u64 = 4294967296;
+
+pub const CARRY: u64 = 65536;
 
 // A record of a trace: two words, most significant byte first; of the first, kind 3 bits, address
 // 16, zero 45.

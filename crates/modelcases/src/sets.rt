@@ -9,13 +9,14 @@ use crate::filters::put;
 use crate::filters::step_of;
 use crate::number;
 use crate::packing::*;
+use crate::passes;
 use libc::STDOUT_FILENO;
 use model::Registers;
 
 // A script is as the count's. Further steps that are no calls and print no line: m is the memory line
 // at an address that becomes the value; C and T put the line at an address into the slot that is the
 // value, clean or dirty with the tag that stands for the allowance. The data is in hexadecimal the
-// slot, counted from 1, and the line: slot 3 has 45 for line 5.
+// slot, counted from 1, and the line: slot 3 has 45 for line 5. g, x and u are the passes'.
 fn stepped(board: &mut [u64], work: &mut [u64], r: Registers, s: Step) -> Registers {
     let letter = s.letter;
     match letter {
@@ -23,6 +24,7 @@ fn stepped(board: &mut [u64], work: &mut [u64], r: Registers, s: Step) -> Regist
         b'C' => put_slot(work, s, slot_word(false, s.address % 16, 0)),
         b'T' => put_slot(work, s, slot_word(true, s.address % 16, s.allowance as u64)),
         b'd' | b'v' | b'o' => return counts::prepared(work, r, s),
+        b'g' | b'x' | b'u' => return passes::prepared(board, r, s),
         _ => return made(board, work, r, s),
     }
     r
@@ -90,8 +92,22 @@ fn run(board: &mut [u64], work: &mut [u64], script: &[u8]) {
     }
 }
 
+// A script on zero memories of the given words, at most those of the largest here.
+pub fn sized_run(title: &[u8], board_words: usize, work_words: usize, script: &[u8]) {
+    let mut board = [0u64; FULL_BOARD];
+    let mut work = [0u64; TWO_SET_WORK];
+    if board_words > FULL_BOARD {
+        return;
+    }
+    if work_words > TWO_SET_WORK {
+        return;
+    }
+    io::write_all(STDOUT_FILENO, title);
+    run(&mut board[0..board_words], &mut work[0..work_words], script);
+}
+
 // A script on zero memories of 8 lines and 4 slots; then the board's words that are not zero.
-fn one_set(title: &[u8], script: &[u8]) {
+pub fn one_set(title: &[u8], script: &[u8]) {
     let mut board = [0u64; ONE_SET_BOARD];
     let mut work = [0u64; ONE_SET_WORK];
     io::write_all(STDOUT_FILENO, title);
@@ -110,7 +126,7 @@ fn one_set_whole(title: &[u8], script: &[u8]) {
 }
 
 // 12 lines, the even ones of the first set of 4 slots, the odd ones of the second.
-fn two_sets(title: &[u8], script: &[u8]) {
+pub fn two_sets(title: &[u8], script: &[u8]) {
     let mut board = [0u64; TWO_SET_BOARD];
     let mut work = [0u64; TWO_SET_WORK];
     io::write_all(STDOUT_FILENO, title);
