@@ -14,11 +14,13 @@ pub enum Kind {
     Evict,
     Commit,
     Scan,
+    Begin,
     Tally,
     FilterBits,
 }
 
-// A call and its arguments. Format has N as its address and L as its value.
+// A call and its arguments. Format has N as its address and L as its value, begin its target as its
+// value.
 pub struct Call {
     pub kind: Kind,
     pub address: u64,
@@ -53,6 +55,10 @@ pub struct Reply {
 
 pub fn sum(a: u64, b: u64) -> u64 {
     std::num::wrapping_add_u64(a, b)
+}
+
+pub fn difference(a: u64, b: u64) -> u64 {
+    std::num::wrapping_sub_u64(a, b)
 }
 
 pub fn at_most(count: usize, room: usize) -> usize
@@ -98,6 +104,10 @@ pub fn to_line(kind: Kind, address: u64, value: u64) -> Call {
     }
 }
 
+pub fn begin(target: u64) -> Call {
+    to_line(Kind::Begin, 0, target)
+}
+
 pub fn allowed(c: Call, allowance: u64) -> Call {
     let kind = c.kind;
     Call {
@@ -110,11 +120,11 @@ pub fn allowed(c: Call, allowance: u64) -> Call {
 
 // The calls in the order in which turns are counted by them: those that test the buffer, the others
 // that are given registers, the status question, the rest.
-pub const TESTING: u64 = 5;
+pub const TESTING: u64 = 6;
 
-pub const GIVEN_REGISTERS: u64 = 6;
+pub const GIVEN_REGISTERS: u64 = 7;
 
-pub const QUESTION: u64 = 6;
+pub const QUESTION: u64 = 7;
 
 pub const LOAD_PLACE: u64 = 0;
 
@@ -124,6 +134,10 @@ pub const EVICT_PLACE: u64 = 2;
 
 pub const SCAN_PLACE: u64 = 3;
 
+pub const COMMIT_PLACE: u64 = 4;
+
+pub const BEGIN_PLACE: u64 = 5;
+
 pub fn place_of(c: Call) -> u64 {
     let kind = c.kind;
     match kind {
@@ -131,10 +145,11 @@ pub fn place_of(c: Call) -> u64 {
         Kind::Store => STORE_PLACE,
         Kind::Evict => EVICT_PLACE,
         Kind::Scan => SCAN_PLACE,
-        Kind::Commit => 4,
-        Kind::Tally => 5,
+        Kind::Commit => COMMIT_PLACE,
+        Kind::Begin => BEGIN_PLACE,
+        Kind::Tally => 6,
         Kind::FilterBits => QUESTION,
-        _ => 7,
+        _ => 8,
     }
 }
 
@@ -178,6 +193,7 @@ fn library_call(board: &mut [u64], work: &mut [u64], words: [u64; REGISTERS], c:
         Kind::Evict => of_answer(picl::evict(board, work, r, c.address, c.allowance)),
         Kind::Commit => of_answer(picl::commit(board, work, r, c.allowance)),
         Kind::Scan => of_answer(picl::scan(board, work, r, c.allowance)),
+        Kind::Begin => of_answer(picl::begin(board, work, r, c.value)),
         _ => of_report(library_count(board, work, words, kind), words),
     }
 }
@@ -214,6 +230,7 @@ fn model_call(board: &mut [u64], work: &mut [u64], words: [u64; REGISTERS], c: C
         Kind::Evict => of_model(model::evict(board, work, r, c.address, c.allowance)),
         Kind::Commit => of_model(model::commit(board, work, r, c.allowance)),
         Kind::Scan => of_model(model::scan(board, work, r, c.allowance)),
+        Kind::Begin => of_model(model::begin(board, work, r, c.value)),
         _ => of_model_report(model_count(board, work, words, kind), words),
     }
 }

@@ -242,7 +242,7 @@ fn with_stores(score: Score, c: Call, stores: u64) -> Score {
     next
 }
 
-fn is_scan(c: Call) -> bool {
+pub fn is_scan(c: Call) -> bool {
     let kind = c.kind;
     match kind {
         Kind::Scan => true,

@@ -13,6 +13,7 @@ use crate::filter_words::with_filter;
 use crate::filter_words::with_improper;
 use crate::history::*;
 use crate::packing::*;
+use crate::pass_plans::with_pass;
 use crate::plans;
 use crate::plans::ENTRIES;
 use crate::plans::SLOTS;
@@ -20,10 +21,6 @@ use crate::random::advanced;
 use crate::register_words::*;
 use crate::slot_words::*;
 use crate::turns::*;
-
-fn difference(a: u64, b: u64) -> u64 {
-    std::num::wrapping_sub_u64(a, b)
-}
 
 fn with_count(s: State, count: u64) -> State {
     let mut next = s;
@@ -53,23 +50,22 @@ fn with_control(s: State, persisted: u64, length: u64) -> State {
     next
 }
 
-fn with_cursor(s: State, cursor: u64) -> State {
-    let mut next = s;
-    next.registers[CURSOR] = cursor;
-    next
-}
-
-// P in the epoch before s; registers that are zero have none.
+// P in the epoch before s, and no pass; registers that are zero have none.
 fn with_none_waiting(s: State) -> State {
     let epoch = s.registers[EPOCH];
     if epoch == 0 {
         return s;
     }
-    with_cursor(with_control(s, epoch - 1, length_of(s.board[CONTROL])), 0)
+    with_pass(
+        with_control(s, epoch - 1, length_of(s.board[CONTROL])),
+        0,
+        0,
+    )
 }
 
 // What else is set: no room in the log; no epoch that waits; a buffered entry that is not proper; one
-// whose bits are not set; a tested slot that is not proper; the cursor past the slots; or nothing.
+// whose bits are not set; a tested slot that is not proper; a pass with the cursor past the slots; or
+// nothing.
 const FRAMES: u64 = 7;
 
 fn framed(s: State, c: Call, frame: u64) -> State {
@@ -81,7 +77,7 @@ fn framed(s: State, c: Call, frame: u64) -> State {
         3 => with_improper(s),
         4 => with_filter(s, 0),
         5 => with_improper_slot(s, c),
-        6 => with_cursor(s, SLOTS),
+        6 => with_pass(s, SLOTS, sum(persisted, 1)),
         _ => s,
     }
 }
@@ -255,7 +251,7 @@ fn judged(s: State, c: Call, done: Step) -> Score {
 const CASES: u64 = 2 * DAMAGES * FRAMES * CALLS;
 
 fn tried(s: State, n: u64, score: Score) -> Score {
-    let whole = numbered_call(n / 2 / DAMAGES / FRAMES);
+    let whole = numbered_call(s, n / 2 / DAMAGES / FRAMES);
     let c = if n % 2 == 0 { whole } else { allowed(whole, 0) };
     let frame = framed(s, c, n / 2 / DAMAGES % FRAMES);
     let count = damaged_count(s.registers[DIRTY], n / 2 % DAMAGES);

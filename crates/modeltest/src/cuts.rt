@@ -26,14 +26,19 @@ fn cuts_of(h: History, c: Call, score: Score) -> Score {
     next
 }
 
-// The next call of a pseudo-random list: at every allowance, and then as it is.
-fn turn(h: History, plan: Plan, word: u64) -> History {
-    let c = next_call(h, plan, word);
-    let mut start = before_call(h, plan, word, c);
-    let old = start.score;
-    let score = cuts_of(start, c, old);
+// A call at every allowance, and then as it is.
+pub fn made(h: History, c: Call) -> History {
+    let old = h.score;
+    let score = cuts_of(h, c, old);
+    let mut start = h;
     start.score = score;
     watched(start, c)
+}
+
+// The next call of a pseudo-random list.
+pub fn turn(h: History, plan: Plan, word: u64) -> History {
+    let c = next_call(h, plan, word);
+    made(before_call(h, plan, word, c), c)
 }
 
 fn turns(h: History, plan: Plan, count: u64) -> History {
@@ -55,12 +60,26 @@ const SLOTS: u64 = 40;
 
 const SWEEP: u64 = 164;
 
+// The epoch that a sweep persists last: each commits and persists two.
+fn last_epoch(n: u64) -> u64 {
+    2 * (n / SWEEP) + 2
+}
+
+// What persists both epochs of a sweep: the scans of two passes, or in every other sweep a begin call
+// and the scans of one.
+fn persisting_call(n: u64) -> Call {
+    if n % (2 * SWEEP) == SWEEP + 2 * SLOTS + 2 {
+        return begin(last_epoch(n));
+    }
+    plain(Kind::Scan)
+}
+
 // The calls of one sweep over 40 slots: a store to each line, a commit, a second store to each, a
-// commit, and the scans that persist both epochs.
+// commit, and what persists both epochs.
 fn sweep_call(n: u64) -> Call {
     let at = n % SWEEP;
     if at >= 2 * SLOTS + 2 {
-        return plain(Kind::Scan);
+        return persisting_call(n);
     }
     if at % (SLOTS + 1) == SLOTS {
         return plain(Kind::Commit);
@@ -84,13 +103,14 @@ fn sweep_choice(n: u64, choice: u64) -> Call {
         3 => plain(Kind::Scan),
         4 => plain(Kind::Commit),
         5 => plain(Kind::PowerUp),
+        6 => begin(last_epoch(n)),
         _ => to_line(Kind::Store, line, n),
     }
 }
 
 fn sweep_choices(h: History, n: u64) -> Score {
     let mut score = h.score;
-    for choice in 0..7 {
+    for choice in 0..8 {
         score = cuts_of(h, sweep_choice(n, choice), score);
     }
     score

@@ -11,13 +11,16 @@ use crate::plans::SLOTS;
 use crate::plans::set_line;
 use crate::register_words::*;
 
-fn quiet_call(n: u64) -> Call {
+// Begin is made with the first of the epochs that wait in a state and with the last.
+fn quiet_call(s: State, n: u64) -> Call {
     match n {
         0 => plain(Kind::PowerUp),
         1 => plain(Kind::Commit),
         2 => plain(Kind::Scan),
         3 => plain(Kind::Tally),
-        _ => plain(Kind::FilterBits),
+        4 => plain(Kind::FilterBits),
+        5 => begin(sum(persisted_of(s.board[CONTROL]), 1)),
+        _ => begin(difference(s.registers[EPOCH], 1)),
     }
 }
 
@@ -41,15 +44,15 @@ fn called_line(n: u64) -> u64 {
     }
 }
 
-// The calls: power-up, commit, scan, tally, the status question; load, store and evict of each of
-// those lines.
-const QUIET: u64 = 5;
+// The calls: power-up, commit, scan, tally, the status question, begin twice; load, store and evict of
+// each of those lines.
+const QUIET: u64 = 7;
 
 pub const CALLS: u64 = QUIET + 3 * CALLED_LINES;
 
-pub fn numbered_call(n: u64) -> Call {
+pub fn numbered_call(s: State, n: u64) -> Call {
     if n < QUIET {
-        return quiet_call(n);
+        return quiet_call(s, n);
     }
     to_line(line_kind((n - QUIET) % 3), called_line((n - QUIET) / 3), n)
 }
@@ -63,7 +66,7 @@ fn called(s: State, c: Call, score: Score) -> Score {
 pub fn every_call(s: State, score: Score) -> Score {
     let mut next = score;
     for n in 0..CALLS {
-        next = called(s, numbered_call(n), next);
+        next = called(s, numbered_call(s, n), next);
     }
     next
 }
@@ -149,7 +152,7 @@ fn value_of(n: u64, most: u64) -> u64 {
     if n < 20 {
         return n & most;
     }
-    std::num::wrapping_sub_u64(most, n - 20) & most
+    difference(most, n - 20) & most
 }
 
 // The calls with the value numbered n in a field, where there is such a field.
@@ -217,26 +220,53 @@ fn epoch_of(n: u64, persisted: u64, running: u64) -> u64 {
     }
 }
 
+// The values of the target: none, P, the first epoch that waits, the last, s, and the greatest.
+const TARGETS: u64 = 6;
+
+fn target_of(n: u64, persisted: u64, epoch: u64) -> u64 {
+    match n {
+        0 => 0,
+        1 => persisted,
+        2 => sum(persisted, 1),
+        3 => difference(epoch, 1),
+        4 => epoch,
+        _ => 0xFFFFFFFFFFFFFFFF,
+    }
+}
+
+// Which of them goes with a quadruple of the others: in every other state the one that is proper with
+// the cursor where epochs wait, else each by turns.
+fn target_choice(n: u64, cursor: u64) -> u64 {
+    if n % 2 == 1 {
+        return (n / 2 % 6 + n / 12 + n / 72) % TARGETS;
+    }
+    if cursor == 0 { 0 } else { 3 }
+}
+
 const QUADRUPLES: u64 = 3780;
 
 fn with_registers(s: State, n: u64) -> State {
     let mut registers = [0; REGISTERS];
+    let quadruple = n / 2;
     let persisted = persisted_of(s.board[CONTROL]);
-    registers[EPOCH] = epoch_of(n / 540, persisted, s.registers[EPOCH]);
-    registers[BUFFERED] = count_of(n / 36 % 15);
-    registers[CURSOR] = slots_of(n / 6 % 6);
-    registers[DIRTY] = slots_of(n % 6);
+    let epoch = epoch_of(quadruple / 540, persisted, s.registers[EPOCH]);
+    let cursor = slots_of(quadruple / 6 % 6);
+    registers[EPOCH] = epoch;
+    registers[BUFFERED] = count_of(quadruple / 36 % 15);
+    registers[CURSOR] = cursor;
+    registers[DIRTY] = slots_of(quadruple % 6);
+    registers[TARGET] = target_of(target_choice(n, cursor), persisted, epoch);
     let mut next = s;
     next.registers = registers;
     next
 }
 
-// Every quadruple of 7 values of s, 15 of b, 6 of c and 6 of the count.
+// Every quadruple of 7 values of s, 15 of b, 6 of c and 6 of the count, with two targets each.
 pub fn registers(n: u64, score: Score) -> Score {
     let base = sound(n, score);
     let state = base.state;
     let mut next = base.score;
-    for i in 0..QUADRUPLES {
+    for i in 0..2 * QUADRUPLES {
         next = every_call(with_registers(state, i), next);
     }
     next

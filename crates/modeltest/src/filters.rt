@@ -91,7 +91,7 @@ fn framed(s: State, frame: u64) -> State {
         _ => 0,
     };
     let length = match frame {
-        1 => std::num::wrapping_sub_u64(ENTRIES, s.registers[BUFFERED]),
+        1 => difference(ENTRIES, s.registers[BUFFERED]),
         _ => 2,
     };
     let mut next = s;
@@ -105,7 +105,10 @@ fn framed(s: State, frame: u64) -> State {
 }
 
 // Of the line and of one that is not held.
-const CALLS: u64 = 11;
+const CALLS: u64 = 12;
+
+// The target of begin: in range where P is 0.
+const BEGIN_TARGET: u64 = 1;
 
 fn numbered_call(line: u64, n: u64) -> Call {
     match n {
@@ -119,6 +122,7 @@ fn numbered_call(line: u64, n: u64) -> Call {
         7 => to_line(Kind::Evict, OTHER_LINE, 0),
         8 => plain(Kind::FilterBits),
         9 => plain(Kind::Tally),
+        10 => begin(BEGIN_TARGET),
         _ => plain(Kind::PowerUp),
     }
 }
@@ -185,6 +189,7 @@ fn with_behind(score: Score, s: State, c: Call) -> Score {
     let number = reply.outcome.number;
     match number {
         ROOM..=CUT => with_turn(score, sum(UNSET_BEFORE - ROOM, number)),
+        REFUSED_TARGET => with_turn(score, UNSET_BEFORE_TARGET),
         _ => score,
     }
 }

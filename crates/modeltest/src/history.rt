@@ -1,9 +1,11 @@
 // Lists of calls that begin with format and power-up, held to the reference machine as well: after
 // each call the control word's P, after each accepted power-up the lines, after each accepted load
-// its value. The count of dirty slots is held to the slot words.
+// its value. The count of dirty slots is held to the slot words, and passes to their plan.
 use crate::calls::*;
 use crate::compare::*;
 use crate::packing::*;
+use crate::pass_plans::between_plan;
+use crate::pass_turns::with_pass_turns;
 use crate::random;
 use crate::random::Mix;
 use crate::random::advanced;
@@ -109,7 +111,13 @@ fn between_counts(s: State, c: Call, o: Outcome) -> Difference {
     between_numbers(shown, slots)
 }
 
-fn between_histories(s: State, reference: Reference, c: Call, o: Outcome) -> Difference {
+fn between_histories(
+    before: State,
+    s: State,
+    reference: Reference,
+    c: Call,
+    o: Outcome,
+) -> Difference {
     let persisted = persisted_of(s.board[CONTROL]);
     if persisted != reference.persisted() {
         return differing(Part::Persisted, 0, persisted, reference.persisted());
@@ -117,6 +125,10 @@ fn between_histories(s: State, reference: Reference, c: Call, o: Outcome) -> Dif
     let counts = between_counts(s, c, o);
     if !is_same(counts) {
         return counts;
+    }
+    let passes = between_plan(before, c, o, s);
+    if !is_same(passes) {
+        return passes;
     }
     if o.number != OK {
         return no_difference();
@@ -132,9 +144,10 @@ pub fn watched(h: History, c: Call) -> History {
     let done = compared(before, c, old_score);
     let state = done.state;
     let outcome = done.outcome;
-    let score = done.score;
+    let compared_score = done.score;
+    let score = with_pass_turns(compared_score, before, c, outcome, state);
     let reference = fed(old_reference, c, outcome);
-    let found = between_histories(state, reference, c, outcome);
+    let found = between_histories(before, state, reference, c, outcome);
     History {
         state,
         reference,
@@ -216,7 +229,8 @@ pub fn before_call(h: History, plan: Plan, word: u64, c: Call) -> History {
 pub fn next_call(h: History, plan: Plan, word: u64) -> Call {
     let state = h.state;
     let mix = plan.mix;
-    random::call(word, mix, plan.lines, state.registers[EPOCH])
+    let persisted = persisted_of(state.board[CONTROL]);
+    random::call(word, mix, plan.lines, persisted, state.registers[EPOCH])
 }
 
 pub fn turn(h: History, plan: Plan, word: u64) -> History {

@@ -53,7 +53,7 @@ fn persisted_at(n: u64) -> u64 {
         1 => 1,
         2 => 0xFFF8,
         3 => 0x7FFFF8,
-        _ => std::num::wrapping_sub_u64(LAST_EPOCH - 1 + FIRST_LATE, n),
+        _ => difference(LAST_EPOCH - 1 + FIRST_LATE, n),
     }
 }
 
@@ -65,7 +65,7 @@ fn epoch_after(persisted: u64, ahead: u64) -> u64 {
 // An end that is tried; one above the last epoch is none.
 fn tried_till(persisted: u64, usual: u64, n: u64) -> u64 {
     if n < NEAR {
-        return std::num::wrapping_sub_u64(sum(persisted, n), 1);
+        return difference(sum(persisted, n), 1);
     }
     if n == NEAR {
         return sum(persisted, FAR_AHEAD);

@@ -2,6 +2,7 @@
 // each the number, the value, the stores, the registers and every word of both memories. Lists that
 // begin with format and power-up are held to the reference machine too. One line is printed for each
 // group of calls, and the stored output has 0 differences in each.
+mod begins;
 mod calls;
 mod compare;
 mod counts;
@@ -18,6 +19,9 @@ mod log_ends;
 mod names;
 mod noise;
 mod packing;
+mod pass_plans;
+mod pass_turns;
+mod passes;
 mod plans;
 mod print;
 mod random;
@@ -36,6 +40,8 @@ use compare::new_score;
 use hex_turns::EXPORTS;
 use hex_turns::EXPORTS_END;
 use packing::LAST_EPOCH;
+use pass_turns::PASSES;
+use pass_turns::PASSES_END;
 use print::group_line;
 use print::turns_line;
 use turns::*;
@@ -110,20 +116,21 @@ fn damaged() {
         ENTRY_ENDS_END,
     );
     turns_line(filters::calls(16001, new_score(18)), FILTERS, FILTERS_END);
-    turns_line(counts::calls(18001, new_score(19)), COUNTS, COUNTS_END);
+    turns_line(counts::calls(18033, new_score(19)), COUNTS, COUNTS_END);
     turns_line(sets::calls(19001, new_score(20)), IN_SETS, IN_SETS_END);
+    turns_line(passes::lists(21001, new_score(21)), PASSES, PASSES_END);
 }
 
 fn recorded() {
-    let written = record_words::writer(10001, new_score(21));
-    let read = record_words::reader(11001, new_score(22));
-    let traced = traces::runs(12001, new_score(23));
+    let written = record_words::writer(10001, new_score(22));
+    let read = record_words::reader(11001, new_score(23));
+    let traced = traces::runs(12001, new_score(24));
     turns_line(written, WRITER, WRITER_END);
     turns_line(read, READER, READER_END);
     turns_line(traced, RUN, RUN_END);
-    turns_line(names::texts(17001, new_score(24)), NAMES, NAMES_END);
+    turns_line(names::texts(17001, new_score(25)), NAMES, NAMES_END);
     turns_line(
-        hex_texts::records(20001, new_score(25)),
+        hex_texts::records(20001, new_score(26)),
         EXPORTS,
         EXPORTS_END,
     );

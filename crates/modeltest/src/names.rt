@@ -19,7 +19,7 @@ const LENGTHS: u64 = 13;
 const CALLS: u64 = CHOICES * LOW * LENGTHS;
 
 // Each number with a name has one text that just holds it, and one that is too short by one.
-const NAMED: u64 = 18;
+const NAMED: u64 = 19;
 
 // The numbers below 32; those whose low 8, 16 or 32 bits are such a number; the largest; any.
 fn asked(n: u64, word: u64) -> u64 {

@@ -57,19 +57,45 @@ struct Frame {
     epoch: u64,
     buffered: u64,
     cursor: u64,
+    target: u64,
 }
 
-fn random_cursor(word: u64, behind: u64) -> u64 {
-    if behind == 0 {
-        return 0;
+// How a pass stands, of ten ways: the first five inside one, if epochs wait; outside; with a cursor
+// outside, or with a target about P and s, so that the registers are mostly not proper.
+const PASSES: u64 = 10;
+
+const OUTSIDE: u64 = 5;
+
+const LAST_OUTSIDE: u64 = 7;
+
+const LOST_CURSOR: u64 = 8;
+
+const ODD_TARGET: u64 = 9;
+
+fn random_cursor(word: u64, pass: u64) -> u64 {
+    match pass {
+        OUTSIDE..=LAST_OUTSIDE => 0,
+        _ => below(word, SLOTS + 1),
     }
-    below(word, SLOTS + 1)
+}
+
+fn random_target(word: u64, pass: u64, persisted: u64, waiting: u64) -> u64 {
+    match pass {
+        OUTSIDE..=LOST_CURSOR => 0,
+        ODD_TARGET => sum(persisted, below(word, sum(waiting, 3))),
+        _ => sum(sum(persisted, 1), below(word, waiting)),
+    }
 }
 
 fn random_frame(word: u64) -> Frame {
     let second = scrambled(word);
     let persisted = random_persisted(word);
     let behind = below(second, 16);
+    let pass = if behind == 0 {
+        OUTSIDE
+    } else {
+        below(second >> 5, PASSES)
+    };
     let length = below(second >> 10, ENTRIES + 1);
     Frame {
         persisted,
@@ -77,7 +103,8 @@ fn random_frame(word: u64) -> Frame {
         length,
         epoch: sum(sum(persisted, behind), 1),
         buffered: below(second >> 30, ENTRIES + 1 - length % (ENTRIES + 1)),
-        cursor: random_cursor(second >> 36, behind),
+        cursor: random_cursor(second >> 36, pass),
+        target: random_target(second >> 40, pass, persisted, behind),
     }
 }
 
@@ -108,8 +135,8 @@ fn with_log(board: [u64; BOARD_ROOM], f: Frame) -> [u64; BOARD_ROOM] {
     next
 }
 
-fn slot_tag(word: u64, f: Frame) -> u64 {
-    let behind = std::num::wrapping_sub_u64(f.epoch, f.persisted);
+fn random_tag(word: u64, f: Frame) -> u64 {
+    let behind = difference(f.epoch, f.persisted);
     sum(sum(f.persisted, 1), below(word, behind))
 }
 
@@ -131,7 +158,7 @@ fn slot(word: u64, k: u64, f: Frame) -> u64 {
     match state {
         0 => 0,
         1 => clean_word(address),
-        _ => dirty_word(address, slot_tag(word, f)),
+        _ => dirty_word(address, random_tag(word, f)),
     }
 }
 
@@ -163,6 +190,7 @@ fn registers(f: Frame) -> [u64; REGISTERS] {
     words[EPOCH] = f.epoch;
     words[BUFFERED] = f.buffered;
     words[CURSOR] = f.cursor;
+    words[TARGET] = f.target;
     words
 }
 
@@ -234,7 +262,9 @@ fn flipped_some(s: State, word: u64) -> State {
 
 fn turn(s: State, word: u64, score: Score) -> Step {
     let mix = plans::often_cut();
-    compared(s, random::call(word, mix, LINES, s.registers[EPOCH]), score)
+    let persisted = persisted_of(s.board[CONTROL]);
+    let c = random::call(word, mix, LINES, persisted, s.registers[EPOCH]);
+    compared(s, c, score)
 }
 
 const CHAIN: u64 = 4;

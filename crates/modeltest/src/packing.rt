@@ -134,8 +134,16 @@ pub fn entry_address(word: u64) -> u64 {
     word >> 48
 }
 
+pub fn entry_till(word: u64) -> u64 {
+    word & LAST_EPOCH
+}
+
 pub fn slot_address(word: u64) -> u64 {
     (word >> 46) & LAST_ADDRESS
+}
+
+pub fn slot_tag(word: u64) -> u64 {
+    (word >> 22) & LAST_EPOCH
 }
 
 pub fn is_dirty(word: u64) -> bool {

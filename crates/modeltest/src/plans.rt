@@ -10,12 +10,13 @@ use crate::random::scrambled;
 // Every kind of call.
 fn even() -> Mix {
     Mix {
-        stores: 20,
-        loads: 7,
-        evicts: 6,
-        commits: 8,
-        scans: 18,
-        power_ups: 3,
+        stores: 19,
+        loads: 6,
+        evicts: 5,
+        commits: 9,
+        scans: 17,
+        power_ups: 2,
+        begins: 4,
         cut_every: 12,
     }
 }
@@ -23,12 +24,13 @@ fn even() -> Mix {
 // Rare scans, power-ups and cuts: epochs wait, and the buffer and the log fill.
 fn busy() -> Mix {
     Mix {
-        stores: 44,
+        stores: 42,
         loads: 2,
         evicts: 1,
         commits: 7,
         scans: 8,
         power_ups: 0,
+        begins: 2,
         cut_every: 200,
     }
 }
@@ -36,12 +38,13 @@ fn busy() -> Mix {
 // Many commits: epochs wait.
 fn committing() -> Mix {
     Mix {
-        stores: 17,
+        stores: 15,
         loads: 2,
         evicts: 2,
-        commits: 26,
+        commits: 25,
         scans: 14,
         power_ups: 1,
+        begins: 3,
         cut_every: 60,
     }
 }
@@ -49,12 +52,13 @@ fn committing() -> Mix {
 // Mostly scans, so that epochs are persisted with many slots too.
 fn scanning() -> Mix {
     Mix {
-        stores: 14,
+        stores: 13,
         loads: 3,
         evicts: 1,
         commits: 2,
         scans: 42,
         power_ups: 0,
+        begins: 1,
         cut_every: 500,
     }
 }
@@ -62,38 +66,55 @@ fn scanning() -> Mix {
 // Many evictions: lines are written out while others are buffered.
 fn evicting() -> Mix {
     Mix {
-        stores: 26,
+        stores: 25,
         loads: 4,
         evicts: 14,
         commits: 4,
         scans: 13,
         power_ups: 1,
+        begins: 1,
         cut_every: 40,
     }
 }
 
-// Stores and scans: slots of all kinds, and a log that goes on past the ring's end.
+// Stores, scans and begin calls: slots of all kinds, and a log that goes on past the ring's end.
 fn settling() -> Mix {
     Mix {
-        stores: 26,
+        stores: 25,
         loads: 6,
         evicts: 2,
-        commits: 5,
-        scans: 24,
+        commits: 7,
+        scans: 18,
         power_ups: 0,
+        begins: 4,
         cut_every: 500,
+    }
+}
+
+// Many commits and begin calls: passes over several epochs.
+fn passing_often() -> Mix {
+    Mix {
+        stores: 20,
+        loads: 4,
+        evicts: 3,
+        commits: 9,
+        scans: 18,
+        power_ups: 1,
+        begins: 5,
+        cut_every: 40,
     }
 }
 
 // Single calls on random memories, one in three with a small allowance.
 pub fn often_cut() -> Mix {
     Mix {
-        stores: 20,
-        loads: 9,
+        stores: 18,
+        loads: 7,
         evicts: 10,
         commits: 6,
         scans: 12,
         power_ups: 5,
+        begins: 4,
         cut_every: 3,
     }
 }
@@ -114,6 +135,13 @@ fn plan(lines: u64, entries: u64, slots: u64, other_slots: u64, mix: Mix, turns:
 fn seeded(p: Plan, seed: u64) -> Plan {
     let mut next = p;
     next.seed = seed;
+    next
+}
+
+// On a board that has persisted this epoch.
+fn started(p: Plan, persisted: u64) -> Plan {
+    let mut next = p;
+    next.persisted = persisted;
     next
 }
 
@@ -143,9 +171,10 @@ pub fn waiting(seed: u64) -> Plan {
 }
 
 pub fn last(persisted: u64, seed: u64) -> Plan {
-    let mut next = seeded(plan(6, 20, 4, 3, committing(), 400), seed);
-    next.persisted = persisted;
-    next
+    started(
+        seeded(plan(6, 20, 4, 3, committing(), 400), seed),
+        persisted,
+    )
 }
 
 pub fn full(n: u64, seed: u64) -> Plan {
@@ -218,6 +247,22 @@ pub fn cut_sharing(seed: u64) -> Plan {
     seeded(plan(234, 32, 4, 8, evicting(), 1500), seed)
 }
 
+// Lists with passes over several epochs.
+pub const PASSING: u64 = 3;
+
+pub fn passing(n: u64, seed: u64) -> Plan {
+    match n {
+        0 => seeded(plan(10, 24, 8, 4, passing_often(), 1500), seed),
+        1 => seeded(plan(7, 60, 4, 8, passing_often(), 1500), seed),
+        _ => seeded(plan(9, 10, 4, 2, passing_often(), 1500), seed),
+    }
+}
+
+// A list of given calls that starts behind this epoch.
+pub fn given(persisted: u64) -> Plan {
+    started(plan(4, 8, 4, 4, even(), 0), persisted)
+}
+
 // A list whose states have the count of dirty slots damaged.
 pub fn counted(seed: u64) -> Plan {
     seeded(plan(LINES, ENTRIES, SLOTS, SLOTS, evicting(), 0), seed)
@@ -278,20 +323,19 @@ pub fn set_line(set: u64, nth: u64) -> u64 {
 
 fn ending(seed: u64, turns: u64, persisted: u64) -> Plan {
     let plan = plan(LINES, ENTRIES, SLOTS, SLOTS, settling(), turns);
-    let mut next = seeded(plan, seed);
-    next.persisted = persisted;
-    next
+    started(seeded(plan, seed), persisted)
 }
 
-// Lists that end in a state to be damaged: a log that wraps, two buffered entries, the cursor at slot
-// 1, and in the first set four dirty slots of which two have the smallest tag; the same with a clean
-// slot behind a dirty one there and an empty one behind a clean one in the other set; a log that
-// wraps, at the last epoch, and a smallest tag in the third slot; the cursor past the slots.
+// Lists that end in a state to be damaged, with a log that wraps. Outside a pass, two buffered entries,
+// and in the first set four dirty slots of which two have the smallest tag; inside one over several
+// epochs, two buffered entries, the cursor at a tag below the target, a clean slot behind a dirty one in
+// its set and an empty one behind a clean one in the other set; the same at the last epoch, and a smallest
+// tag in the third slot; the cursor past the slots, and entries that only such a pass drops.
 pub fn sound(n: u64) -> Plan {
     match n {
-        0 => ending(857, 60, 0),
-        1 => ending(220, 60, 0),
-        2 => ending(200, 60, LAST_EPOCH - 5),
-        _ => ending(206, 90, 0),
+        0 => ending(28903, 60, 0),
+        1 => ending(15428, 80, 0),
+        2 => ending(26709, 60, LAST_EPOCH - 5),
+        _ => ending(18901, 80, 0),
     }
 }

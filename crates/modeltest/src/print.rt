@@ -5,6 +5,7 @@ use crate::compare::NUMBERS;
 use crate::compare::Part;
 use crate::compare::Score;
 use crate::hex_turns::EXPORTS;
+use crate::pass_turns::*;
 use crate::register_words::REGISTERS;
 use crate::turns::*;
 use libc::STDOUT_FILENO;
@@ -40,7 +41,7 @@ fn group_name(group: u64) {
         );
     } else {
         name_at(
-            b"cuts;cuts at a full buffer;shared bits;cuts with shared bits;one bit;one field;registers;random words;random fields;log ends;filters;counts;sets;records written;records read;traces;names;hex;",
+            b"cuts;cuts at a full buffer;shared bits;cuts with shared bits;one bit;one field;registers;random words;random fields;log ends;filters;counts;sets;passes;records written;records read;traces;names;hex;",
             group - LAST_GROUPS,
         );
     }
@@ -55,6 +56,7 @@ fn call_name(kind: Kind) {
         Kind::Evict => text(b"evict"),
         Kind::Commit => text(b"commit"),
         Kind::Scan => text(b"scan"),
+        Kind::Begin => text(b"begin"),
         Kind::Tally => text(b"tally"),
         Kind::FilterBits => text(b"status question"),
     }
@@ -193,8 +195,29 @@ fn recorded_turn_name(turn: u64) {
     }
 }
 
+fn pass_turn_name(turn: u64) {
+    if turn < BEGUN_FIRST {
+        name_at(
+            b"tag below the target;at it;above it;not dirty;first scan writes slot 0;leaves it;first behind begin writes it;last step drops by the target;leaves entries;flushes;persists all;not all;cut in a visit;in a last flush;before the last store;in another call;in a pass load;store;evict;scan;commit;begin refused;tally;status question;power-up;",
+            difference(turn, PASSES),
+        );
+    } else if turn < LOW_TARGET {
+        name_at(
+            b"begun with the first;the last;one between;the only one;15 in a pass;by 0;by P;by s;by a later one;by low bits;while nothing waits;1 by begin;2;4;7;14;1 before 15;2;4;7;14;",
+            turn - BEGUN_FIRST,
+        );
+    } else {
+        name_at(
+            b"4 by a low target in load;store;evict;scan;commit;begin;tally;by a high one in load;store;evict;scan;commit;begin;tally;by a lost cursor in load;store;evict;scan;commit;begin;tally;written over a carry;dropped;",
+            turn - LOW_TARGET,
+        );
+    }
+}
+
 fn state_turn_name(turn: u64) {
-    if turn >= EXPORTS {
+    if turn >= PASSES {
+        pass_turn_name(turn);
+    } else if turn >= EXPORTS {
         name_at(
             b"opening the first bank;a later one;two lines;at a bank's end;odd last line;first in its bank;at a bank's end;closing;into 44 bytes;into more;last byte 00;1 by no words;one word;the 24 bits;N less;N more;N out of range;L less;L more;L out of range;P;start;length;a word less;a word more;before 16;before 17;before 18;16 by 43 bytes;by fewer;by none;before 17;before 18;17 just past the end;by the low 32 bits;by the low 16;by others;before 18;18 by one entry;by all;by some;",
             turn - EXPORTS,
@@ -206,7 +229,7 @@ fn state_turn_name(turn: u64) {
         );
     } else if turn >= COUNTS {
         name_at(
-            b"4 at 0 by load;by store;by evict;by scan;4 at S by load;by store;by evict;by scan;5 before 4;6 before 4;4 before 7;before 8;before 11;before 12;before 14;above S by load;by store;by evict;by scan;by commit;by tally;lowered by load;raised by store;lowered by evict;by scan;0 passed;S passed;either at a scan's end;wrong and carried on;wrong and tallied;",
+            b"4 at 0 by load;by store;by evict;by scan;4 at S by load;by store;by evict;by scan;5 before 4;6 before 4;4 before 7;before 8;before 11;before 12;before 14;above S by load;by store;by evict;by scan;by commit;by begin;by tally;lowered by load;raised by store;lowered by evict;by scan;0 passed;S passed;either at a scan's end;wrong and carried on;wrong and tallied;",
             turn - COUNTS,
         );
     }
@@ -222,7 +245,7 @@ fn turn_name(turn: u64) {
         );
     } else if turn < NAMES {
         name_at(
-            b"false hit by load;by store;by evict;by scan;true hit;one bit of two;no bit;both bits and no entries;false hit of a damaged filter;of one whose every bit is set;14 by load;by store;by evict;by scan;by commit;before 8;before 9;before 10;before 11;before 12;7 before 14;no bits counted;some;all;",
+            b"false hit by load;by store;by evict;by scan;true hit;one bit of two;no bit;both bits and no entries;false hit of a damaged filter;of one whose every bit is set;14 by load;by store;by evict;by scan;by commit;by begin;before 8;before 9;before 10;before 11;before 12;before 15;7 before 14;no bits counted;some;all;",
             turn - FILTERS,
         );
     } else if turn < COUNTS {

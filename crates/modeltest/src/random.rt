@@ -34,20 +34,25 @@ pub struct Mix {
     pub commits: u64,
     pub scans: u64,
     pub power_ups: u64,
+    pub begins: u64,
     pub cut_every: u64,
 }
 
 fn quiet_kind(mix: Mix, n: u64) -> Kind {
     let commits = mix.commits;
     let scans = sum(commits, mix.scans);
+    let power_ups = sum(scans, mix.power_ups);
     if n < commits {
         return Kind::Commit;
     }
     if n < scans {
         return Kind::Scan;
     }
-    if n < sum(scans, mix.power_ups) {
+    if n < power_ups {
         return Kind::PowerUp;
+    }
+    if n < sum(power_ups, mix.begins) {
+        return Kind::Begin;
     }
     if n % 2 == 0 {
         return Kind::Tally;
@@ -67,7 +72,7 @@ fn kind_of(mix: Mix, n: u64) -> Kind {
     if n < evicts {
         return Kind::Evict;
     }
-    quiet_kind(mix, std::num::wrapping_sub_u64(n, evicts))
+    quiet_kind(mix, difference(n, evicts))
 }
 
 // Registers that are zero are refused until a power-up, so that is then the likeliest call.
@@ -103,13 +108,44 @@ fn address(word: u64, lines: u64) -> u64 {
     shared_line(below(word, SHARED_LINES))
 }
 
-pub fn call(word: u64, mix: Mix, lines: u64, epoch: u64) -> Call {
+// A target about the range: P, s, 0, or any word.
+fn odd_target(word: u64, persisted: u64, epoch: u64) -> u64 {
+    match word % 4 {
+        0 => persisted,
+        1 => epoch,
+        2 => 0,
+        _ => word,
+    }
+}
+
+// A target of begin, mostly in the range of epochs that wait: the first of them, the last, any.
+fn target(word: u64, persisted: u64, epoch: u64) -> u64 {
+    let first = sum(persisted, 1);
+    let choice = below(word, 8);
+    match choice {
+        0 => first,
+        1 | 2 => difference(epoch, 1),
+        3 => odd_target(word, persisted, epoch),
+        _ => sum(first, below(word >> 8, difference(epoch, first))),
+    }
+}
+
+// The value of a call of some kind, where P and s are as given.
+fn value(word: u64, kind: Kind, persisted: u64, epoch: u64) -> u64 {
+    match kind {
+        Kind::Begin => target(word, persisted, epoch),
+        _ => word,
+    }
+}
+
+pub fn call(word: u64, mix: Mix, lines: u64, persisted: u64, epoch: u64) -> Call {
     let second = scrambled(word);
     let third = scrambled(second);
+    let kind = likely_kind(mix, word, epoch);
     Call {
-        kind: likely_kind(mix, word, epoch),
+        kind,
         address: address(second, lines),
-        value: third,
+        value: value(third, kind, persisted, epoch),
         allowance: allowance(third, mix.cut_every),
     }
 }

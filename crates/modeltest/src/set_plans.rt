@@ -56,14 +56,29 @@ pub fn form(n: u64, way: u64) -> u64 {
 }
 
 // What a state has beside the forms goes by remainders that no form goes with: which set it is, which
-// of its slots a scan visits, of which of its lines an entry is buffered, whether the log has no room,
-// whether the other set is not proper.
+// of its slots a scan visits, in a pass over how many epochs, of which of its lines an entry is
+// buffered, whether the log has no room, whether the other set is not proper.
 fn set_at(n: u64) -> u64 {
     n % 7 % SETS
 }
 
 fn scan_way(n: u64) -> u64 {
     n % 9 % WAYS
+}
+
+// The slot that a scan visits.
+fn cursor_at(n: u64) -> u64 {
+    sum(first_of_set(set_at(n)), scan_way(n))
+}
+
+// Both epochs that wait, the first of them, or, at the first slot, none: a scan then begins a pass with
+// the first.
+fn target_at(n: u64) -> u64 {
+    match n % 23 % 3 {
+        0 => PERSISTED + 2,
+        1 => if cursor_at(n) == 0 { 0 } else { PERSISTED + 1 },
+        _ => PERSISTED + 1,
+    }
 }
 
 fn buffered_line(n: u64) -> u64 {
@@ -158,7 +173,6 @@ fn with_slots(s: State, n: u64) -> State {
 // The words that are not the set's, the buffered entry's or the filter's are random.
 pub fn state_at(n: u64, word: u64) -> State {
     let buffer = index(buffer_place(SLOTS, 0), WORK_ROOM);
-    let cursor = sum(first_of_set(set_at(n)), scan_way(n));
     let length = if is_full(n) { ENTRIES - 1 } else { 2 };
     let mut state = with_slots(random_words(word), n);
     state.board[SHAPE] = shape_word(LINES, ENTRIES);
@@ -166,7 +180,8 @@ pub fn state_at(n: u64, word: u64) -> State {
     state.work[buffer] = entry_word(nth_line(n, buffered_line(n)), PERSISTED, RUNNING);
     state.registers[EPOCH] = RUNNING;
     state.registers[BUFFERED] = 1;
-    state.registers[CURSOR] = cursor;
+    state.registers[CURSOR] = cursor_at(n);
+    state.registers[TARGET] = target_at(n);
     with_exact_filter(state)
 }
 
@@ -314,8 +329,14 @@ fn chosen_word(n: u64, place: u64) -> u64 {
 fn scanned_word(n: u64) -> u64 {
     let way = scan_way(n);
     let f = form(n, way);
+    let clean = clean_word(nth_line(n, line_in(n, way)));
     match f {
-        OLDEST | ASKED_OLDEST => clean_word(nth_line(n, line_in(n, way))),
+        OLDEST | ASKED_OLDEST => clean,
+        MIDDLE => if target_at(n) == tag_of(MIDDLE) {
+            clean
+        } else {
+            word_in(n, way)
+        },
         _ => word_in(n, way),
     }
 }

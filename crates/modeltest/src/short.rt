@@ -1,19 +1,21 @@
-// Every list of five calls from an alphabet of eight, on a board of five lines and six log entries
-// with one set of slots: after stores to all lines but one in two epochs, and with the scan before the
-// last slot.
+// Every list of five calls from an alphabet of nine, on a board of five lines and six log entries
+// with one set of slots: after stores to all lines but one in two epochs, with three epochs that wait, in
+// a pass over two of them, before the last slot.
 use crate::calls::*;
 use crate::compare::Score;
 use crate::history::*;
 use crate::plans;
+use crate::register_words::EPOCH;
 
-const LETTERS: u64 = 8;
+const LETTERS: u64 = 9;
 
 const LENGTH: u64 = 5;
 
-// 8 to the power 5.
-const LISTS: u64 = 32768;
+// 9 to the power 5.
+const LISTS: u64 = 59049;
 
-fn letter(n: u64, value: u64) -> Call {
+// Begin is made with the last epoch that waits.
+fn letter(s: State, n: u64, value: u64) -> Call {
     match n {
         0 => to_line(Kind::Load, 0, 0),
         1 => to_line(Kind::Store, 0, value),
@@ -22,16 +24,22 @@ fn letter(n: u64, value: u64) -> Call {
         4 => plain(Kind::Commit),
         5 => plain(Kind::Scan),
         6 => plain(Kind::PowerUp),
+        7 => begin(difference(s.registers[EPOCH], 1)),
         _ => allowed(to_line(Kind::Store, 1, value), 3),
     }
 }
 
-// The list with a number, whose digits to the base 8 are its letters.
+fn lettered(h: History, n: u64, value: u64) -> History {
+    let state = h.state;
+    watched(h, letter(state, n, value))
+}
+
+// The list with a number, whose digits to the base 9 are its letters.
 fn spelled(h: History, number: u64) -> History {
     let mut next = h;
     let mut digits = number;
     for i in 0..LENGTH {
-        next = watched(next, letter(digits % LETTERS, sum(i, 10)));
+        next = lettered(next, digits % LETTERS, sum(i, 10));
         digits = digits / LETTERS;
     }
     next
@@ -45,13 +53,16 @@ fn list_scored(start: History, number: u64, score: Score) -> Score {
 }
 
 // The calls before each list.
-const BEFORE: u64 = 8;
+const BEFORE: u64 = 11;
 
 fn call_before(n: u64) -> Call {
     match n {
         0 => to_line(Kind::Store, 0, 5),
-        1 => plain(Kind::Commit),
-        2 | 3 | 4 => to_line(Kind::Store, n, 6),
+        1 | 2 | 3 => plain(Kind::Commit),
+        4 => to_line(Kind::Store, 2, 6),
+        5 => to_line(Kind::Store, 3, 6),
+        6 => to_line(Kind::Store, 4, 6),
+        7 => begin(2),
         _ => plain(Kind::Scan),
     }
 }

@@ -89,7 +89,7 @@ pub fn planned_job(n: u64, word: u64) -> Job {
 // A record of a call such as the lists of calls have; what is no call of a trace is a scan.
 fn call_record(plan: Plan, word: u64) -> RecordFields {
     let mix = plan.mix;
-    let c = random::call(word, mix, plan.lines, 1);
+    let c = random::call(word, mix, plan.lines, 0, 1);
     let kind = c.kind;
     match kind {
         Kind::Load => record(LOAD, c.address, 0),

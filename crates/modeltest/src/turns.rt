@@ -1,12 +1,12 @@
 // The turns that the groups of recorded traces, of log ends, of filters, of counts, of sets and of names
-// take; those of Intel HEX records follow them, in `hex_turns`. Each is counted where it answers the number
+// take; those of Intel HEX records and of passes follow them, in `hex_turns` and `pass_turns`. Each is counted where it answers the number
 // that its plan says, is printed with its count, and is a difference where it never occurs.
 use crate::calls::index;
 use crate::calls::sum;
 use crate::compare::*;
 use crate::print;
 
-pub const TURNS: usize = 182;
+pub const TURNS: usize = 254;
 
 // The writer's: a kind and an address with no place in a record.
 pub const WRITER: u64 = 0;
@@ -160,131 +160,133 @@ pub const DAMAGED_HIT: u64 = 58;
 
 pub const EVERY_BIT: u64 = 59;
 
-// 14, by load, store, evict, scan, commit.
+// 14, by load, store, evict, scan, commit, begin.
 pub const UNSET: u64 = 60;
 
-// 14, where without it the number were 8, 9, 10, 11 or 12.
-pub const UNSET_BEFORE: u64 = 65;
+// 14, where without it the number were 8, 9, 10, 11, 12 or 15.
+pub const UNSET_BEFORE: u64 = 66;
+
+pub const UNSET_BEFORE_TARGET: u64 = 71;
 
 // 7, where without it the number were 14.
-pub const UNSET_BEHIND: u64 = 70;
+pub const UNSET_BEHIND: u64 = 72;
 
 // The status question counts no bits, some, all.
-pub const NONE_COUNTED: u64 = 71;
+pub const NONE_COUNTED: u64 = 73;
 
-pub const SOME_COUNTED: u64 = 72;
+pub const SOME_COUNTED: u64 = 74;
 
-pub const ALL_COUNTED: u64 = 73;
+pub const ALL_COUNTED: u64 = 75;
 
-pub const FILTERS_END: u64 = 74;
+pub const FILTERS_END: u64 = 76;
 
 // The names': the text is too short by two or more; by one; just long enough; longer. The number has
 // no name, and the text no bytes; some.
-pub const NAMES: u64 = 74;
+pub const NAMES: u64 = 76;
 
-pub const TOO_SHORT: u64 = 74;
+pub const TOO_SHORT: u64 = 76;
 
-pub const SHORT_BY_ONE: u64 = 75;
+pub const SHORT_BY_ONE: u64 = 77;
 
-pub const FITTING: u64 = 76;
+pub const FITTING: u64 = 78;
 
-pub const ROOM_BEHIND: u64 = 77;
+pub const ROOM_BEHIND: u64 = 79;
 
-pub const NO_NAME_NO_TEXT: u64 = 78;
+pub const NO_NAME_NO_TEXT: u64 = 80;
 
-pub const NO_NAME: u64 = 79;
+pub const NO_NAME: u64 = 81;
 
-pub const NAMES_END: u64 = 80;
+pub const NAMES_END: u64 = 82;
 
 // The counts': 4, since the count is 0 and a slot tested dirty, by load, store, evict, scan; since it
 // is S and a slot tested not dirty, by the same.
-pub const COUNTS: u64 = 80;
+pub const COUNTS: u64 = 82;
 
-pub const ZERO_REFUSED: u64 = 80;
+pub const ZERO_REFUSED: u64 = 82;
 
-pub const ALL_REFUSED: u64 = 84;
+pub const ALL_REFUSED: u64 = 86;
 
 // 5 and 6, where without them the number were that 4.
-pub const ADDRESS_BEFORE: u64 = 88;
+pub const ADDRESS_BEFORE: u64 = 90;
 
-pub const SLOT_BEFORE: u64 = 89;
+pub const SLOT_BEFORE: u64 = 91;
 
 // That 4, where without it the number were 7, 8, 11, 12 or 14.
-pub const REFUSED_BEFORE: u64 = 90;
+pub const REFUSED_BEFORE: u64 = 92;
 
-// 4, since the count is above S, by load, store, evict, scan, commit, tally.
-pub const ABOVE_SLOTS: u64 = 95;
+// 4, since the count is above S, by load, store, evict, scan, commit, begin, tally.
+pub const ABOVE_SLOTS: u64 = 97;
 
 // A count that changes, by load, store, evict, scan.
-pub const CHANGED: u64 = 101;
+pub const CHANGED: u64 = 104;
 
 // Accepted: 0 with no slot dirty; S with all; either with c = S; a wrong count that is as wrong
 // afterwards; one that is tallied.
-pub const ZERO_PASSED: u64 = 105;
+pub const ZERO_PASSED: u64 = 108;
 
-pub const ALL_PASSED: u64 = 106;
+pub const ALL_PASSED: u64 = 109;
 
-pub const SCAN_END_PASSED: u64 = 107;
+pub const SCAN_END_PASSED: u64 = 110;
 
-pub const WRONG_CARRIED: u64 = 108;
+pub const WRONG_CARRIED: u64 = 111;
 
-pub const WRONG_TALLIED: u64 = 109;
+pub const WRONG_TALLIED: u64 = 112;
 
-pub const COUNTS_END: u64 = 110;
+pub const COUNTS_END: u64 = 113;
 
 // The sets': a line that is not held takes an empty slot behind a clean one; an empty one else; a clean
 // one behind dirty ones; a clean one that is the set's first; the first of four with equal tags; the
 // one with the smallest tag, by its place in the set.
-pub const IN_SETS: u64 = 110;
+pub const IN_SETS: u64 = 113;
 
-pub const EMPTY_BEHIND_CLEAN: u64 = 110;
+pub const EMPTY_BEHIND_CLEAN: u64 = 113;
 
-pub const EMPTY_TAKEN: u64 = 111;
+pub const EMPTY_TAKEN: u64 = 114;
 
-pub const CLEAN_BEHIND_DIRTY: u64 = 112;
+pub const CLEAN_BEHIND_DIRTY: u64 = 115;
 
-pub const CLEAN_TAKEN: u64 = 113;
+pub const CLEAN_TAKEN: u64 = 116;
 
-pub const EQUAL_TAGS: u64 = 114;
+pub const EQUAL_TAGS: u64 = 117;
 
-pub const SMALLEST_TAG: u64 = 115;
+pub const SMALLEST_TAG: u64 = 118;
 
 // The line is held, by its place in the set; it is not held, and to be evicted.
-pub const HELD: u64 = 119;
+pub const HELD: u64 = 122;
 
-pub const NOT_HELD: u64 = 123;
+pub const NOT_HELD: u64 = 126;
 
 // 6: the line asked for is held twice, and no other; another one is; a slot is not proper, by its place
 // in the set; one behind the slot that holds the line.
-pub const ASKED_TWICE: u64 = 124;
+pub const ASKED_TWICE: u64 = 127;
 
-pub const OTHER_TWICE: u64 = 125;
+pub const OTHER_TWICE: u64 = 128;
 
-pub const IMPROPER_AT: u64 = 126;
+pub const IMPROPER_AT: u64 = 129;
 
-pub const IMPROPER_BEHIND_HELD: u64 = 130;
+pub const IMPROPER_BEHIND_HELD: u64 = 133;
 
 // 4 by another slot than the one that is found or taken: a count of 0, one of S.
-pub const ZERO_BY_ANOTHER: u64 = 131;
+pub const ZERO_BY_ANOTHER: u64 = 134;
 
-pub const ALL_BY_ANOTHER: u64 = 132;
+pub const ALL_BY_ANOTHER: u64 = 135;
 
 // Accepted: a count of S with four dirty slots; a slot of the other set that is not proper; a scan with
 // a line held twice, another slot not proper, a count that another slot belies.
-pub const ALL_DIRTY_PASSED: u64 = 133;
+pub const ALL_DIRTY_PASSED: u64 = 136;
 
-pub const NEIGHBOUR_PASSED: u64 = 134;
+pub const NEIGHBOUR_PASSED: u64 = 137;
 
-pub const SCAN_PASSED: u64 = 135;
+pub const SCAN_PASSED: u64 = 138;
 
 // 8, for a line that is not held; for one that is. No room, but no entry is due.
-pub const ROOM_TAKEN: u64 = 138;
+pub const ROOM_TAKEN: u64 = 141;
 
-pub const ROOM_FOUND: u64 = 139;
+pub const ROOM_FOUND: u64 = 142;
 
-pub const NO_ENTRY_DUE: u64 = 140;
+pub const NO_ENTRY_DUE: u64 = 143;
 
-pub const IN_SETS_END: u64 = 141;
+pub const IN_SETS_END: u64 = 144;
 
 // The paper's numbers.
 pub const OK: u64 = 0;
@@ -314,6 +316,8 @@ pub const CUT: u64 = 12;
 pub const TRACE: u64 = 13;
 
 pub const FILTER: u64 = 14;
+
+pub const REFUSED_TARGET: u64 = 15;
 
 // The number that a turn is planned to answer; of a turn with no such plan the number answered.
 fn planned_number(turn: u64, number: u64) -> u64 {

@@ -8,7 +8,7 @@ abbrev Inv-loop : tie.InvT-loop
 Inv-loop h n score₀ choice₀ score choice = Unit {0}
 
 abbrev μ-loop : tie.MeasureT-loop
-μ-loop h n score₀ choice₀ score choice = 7 - choice
+μ-loop h n score₀ choice₀ score choice = 8 - choice
 
 loop-holds : tie.Need-loop-holds Inv-loop μ-loop
 loop-holds c = search needs

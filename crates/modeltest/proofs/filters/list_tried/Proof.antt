@@ -8,7 +8,7 @@ abbrev Inv-loop : tie.InvT-loop
 Inv-loop list seed state next₀ word₀ n₀ next word n = Unit {0}
 
 abbrev μ-loop : tie.MeasureT-loop
-μ-loop list seed state next₀ word₀ n₀ next word n = 1320 - n
+μ-loop list seed state next₀ word₀ n₀ next word n = 1440 - n
 
 listed-requires : tie.Need-listed-requires Inv-loop μ-loop
 listed-requires c κs = search needs

@@ -8,7 +8,7 @@ abbrev Inv-loop : tie.InvT-loop
 Inv-loop start next₀ i₀ next i = Unit {0}
 
 abbrev μ-loop : tie.MeasureT-loop
-μ-loop start next₀ i₀ next i = 32768 - i
+μ-loop start next₀ i₀ next i = 59049 - i
 
 started-requires : tie.Need-started-requires Inv-loop μ-loop
 started-requires c κs = search needs

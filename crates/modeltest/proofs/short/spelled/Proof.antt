@@ -16,11 +16,8 @@ loop-holds c = search needs
 sum-requires : tie.Need-sum-requires Inv-loop μ-loop
 sum-requires c κs = search needs
 
-letter-requires : tie.Need-letter-requires Inv-loop μ-loop
-letter-requires c κs = search needs
-
-watched-requires : tie.Need-watched-requires Inv-loop μ-loop
-watched-requires c κs = search needs
+lettered-requires : tie.Need-lettered-requires Inv-loop μ-loop
+lettered-requires c κs = search needs
 
 add-i : tie.Need-add-i Inv-loop μ-loop
 add-i c = search needs
@@ -42,8 +39,7 @@ spelled-spec =
     μ-loop
     loop-holds
     sum-requires
-    letter-requires
-    watched-requires
+    lettered-requires
     add-i
     loop-less
     loop-again

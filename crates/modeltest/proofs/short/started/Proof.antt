@@ -8,7 +8,7 @@ abbrev Inv-loop : tie.InvT-loop
 Inv-loop next₀ n₀ next n = Unit {0}
 
 abbrev μ-loop : tie.MeasureT-loop
-μ-loop next₀ n₀ next n = 8 - n
+μ-loop next₀ n₀ next n = 11 - n
 
 tiny-requires : tie.Need-tiny-requires Inv-loop μ-loop
 tiny-requires c κs = search needs

@@ -1,0 +1,34 @@
+-- `modeltest::begins::begins_tried` is safe and ends. The loop needs no invariant. The measure is the turns left. Assumes nothing.
+use borrow.Author.Needs.{needs}
+use Prim.Native.Nat.{_-_}
+use Rattle.modeltest.proofs.begins.begins_tried.Statement.{statement}
+use Rattle.modeltest.proofs.begins.begins_tried.Tie as tie
+
+abbrev Inv-loop : tie.InvT-loop
+Inv-loop s next₀ n₀ next n = Unit {0}
+
+abbrev μ-loop : tie.MeasureT-loop
+μ-loop s next₀ n₀ next n = 320 - n
+
+loop-holds : tie.Need-loop-holds Inv-loop μ-loop
+loop-holds c = search needs
+
+begin-tried-requires : tie.Need-begin-tried-requires Inv-loop μ-loop
+begin-tried-requires c κs = search needs
+
+add-n : tie.Need-add-n Inv-loop μ-loop
+add-n c = search needs
+
+loop-less : tie.Need-loop-less Inv-loop μ-loop
+loop-less c = search needs
+
+loop-again : tie.Need-loop-again Inv-loop μ-loop
+loop-again c = search needs
+
+returns : tie.Need-returns Inv-loop μ-loop
+returns c = search needs
+
+pub begins-tried-spec : {M : Type 1} → statement M
+begins-tried-spec =
+    tie.close
+    (tie.spec Inv-loop μ-loop loop-holds begin-tried-requires add-n loop-less loop-again returns)
