@@ -3,6 +3,8 @@
 use super::region::{Piece, Start};
 use super::traces;
 use crate::call::{Call, Kind};
+use crate::handwritten::layout::MOST_ENTRIES;
+use crate::loom::workload::LINES_OF_A_LOOM;
 
 pub struct Row {
     pub name: &'static str,
@@ -95,7 +97,7 @@ const fn row(name: &'static str, about: &'static str, only: Option<Kind>, build:
     }
 }
 
-pub static ROWS: [Row; 21] = [
+pub static ROWS: [Row; 23] = [
     row(
         "loom-64",
         "a loom's epoch, S = 64: 2,600 stores, 2,600 loads, 65 scans, 1 commit",
@@ -166,6 +168,18 @@ pub static ROWS: [Row; 21] = [
         "15 epochs in one pass, S = 256: 1 begin, 257 scans, 255 lines written out, 17 of each epoch",
         None,
         || traces::pass_over_most(256),
+    ),
+    row(
+        "last-step",
+        "the last scan of a pass over the epoch of a loom, S = 256: it drops 400 entries",
+        None,
+        || traces::last_step(256, LINES_OF_A_LOOM as u64),
+    ),
+    row(
+        "last-step-most",
+        "the last scan of a pass over the largest epoch, S = 256: it drops 65,536 entries",
+        None,
+        || traces::last_step(256, MOST_ENTRIES),
     ),
     Row {
         name: "hex-out",

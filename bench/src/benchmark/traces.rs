@@ -172,6 +172,17 @@ pub fn pass_over_most(slots: usize) -> (Start, Vec<Call>) {
     (start, calls)
 }
 
+/// The last step of a pass that persists one epoch, which has stored once to each of so many lines. They are on the board by then, and
+/// the step drops as many entries, with one store of the control word.
+pub fn last_step(slots: usize, entries: u64) -> (Start, Vec<Call>) {
+    let stores = (0..entries).map(|line| Call::store(line, line));
+    let before: Vec<Call> = stores.chain([Call::COMMIT]).chain(vec![Call::SCAN; slots]).collect();
+    let start = after(fresh_board(slots), &before);
+    let last = vec![Call::SCAN];
+    assert_eq!(stores_of(&start, &last), 1);
+    (start, last)
+}
+
 /// The board stores of calls that all have to be accepted.
 fn stores_of(start: &Start, calls: &[Call]) -> u64 {
     let mut memories = Memories::<HandWritten>::new(start);
