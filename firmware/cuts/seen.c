@@ -33,7 +33,7 @@ bool is_enough(const struct seen *seen, const struct journal *journal)
         {"controllers killed in store", seen->in[STORE], 30},
         {"controllers killed in evict", seen->in[EVICT], 30},
         {"controllers killed in scan", seen->in[SCAN], 30},
-        {"controllers killed in mid-flush", seen->in_flush, 10},
+        {"controllers killed in mid-flush", seen->in_flush, 5},
         {"controllers killed between control word and the call's end", seen->behind_control, 30},
         {"wakers killed in power-up", seen->in_power_up, 30},
         {"wakers killed with some lines restored", seen->in_undo, 10},
