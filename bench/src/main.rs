@@ -29,6 +29,8 @@ picl-bench hex FOLDER
     write what each side exports of some boards, and the bytes of their lines; prints the names of the files, by pairs
 picl-bench loom
     what the loom's work asks of a board, and what it takes to persist fifteen epochs of it
+picl-bench loom --day
+    a day of the loom's work at three rates of scan calls, epoch by epoch: the epochs that wait, and the log's entries
 picl-bench scripts
     replay every script of the repository over the hand-written Rust and compare with its expected output
 picl-bench expected SCRIPT
@@ -65,7 +67,7 @@ fn run(words: &[String]) -> Result<(), String> {
             Ok(())
         }
         "hex" => run_hex(flags),
-        "loom" => loom::print_figures(),
+        "loom" => run_loom(flags),
         "order" => run_order(flags),
         "scripts" => replay::compare_with_stored(),
         "expected" => run_expected(flags),
@@ -110,6 +112,14 @@ fn run_benchmark(flags: &[String]) -> Result<(), String> {
 fn run_hex(flags: &[String]) -> Result<(), String> {
     match flags {
         [folder] => export::write_exports(folder),
+        _ => Err(USAGE.to_string()),
+    }
+}
+
+fn run_loom(flags: &[String]) -> Result<(), String> {
+    match flags {
+        [] => loom::print_figures(),
+        [day] if day == "--day" => loom::print_day(),
         _ => Err(USAGE.to_string()),
     }
 }

@@ -78,7 +78,7 @@ fn begin(controller: &mut Controller, target: u64) -> Result<(), String> {
 }
 
 /// Makes scan calls until one has persisted something, S + 1 at most, and gives how many they were.
-fn scan_to_the_end(controller: &mut Controller, slots: usize) -> Result<u64, String> {
+pub fn scan_to_the_end(controller: &mut Controller, slots: usize) -> Result<u64, String> {
     for scans in 1..=slots as u64 + 1 {
         if controller.scan(Call::SCAN)? != 0 {
             return Ok(scans);

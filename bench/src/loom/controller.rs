@@ -165,13 +165,18 @@ impl Controller {
 
     /// Makes a call. A refusal that the plan may meet is an answer like any other.
     pub fn make(&mut self, call: Call) -> Result<Answer, String> {
-        let answer = call.make::<Library>(&mut self.board, &mut self.work, &mut self.registers);
+        let answer = self.answer(call);
         match answer.number {
             OK | NONE => {}
             ROOM => self.figures.refused_for_room += 1,
             number => return Err(format!("{} answered {number}", call.kind().name())),
         }
         Ok(answer)
+    }
+
+    /// Makes a call, and leaves it to the caller what its number means.
+    pub fn answer(&mut self, call: Call) -> Answer {
+        call.make::<Library>(&mut self.board, &mut self.work, &mut self.registers)
     }
 
     pub fn board(&self) -> &[u64] {
@@ -206,7 +211,7 @@ impl Controller {
         self.registers().epoch - self.control().persisted - 1
     }
 
-    fn entries_at_once(&self) -> u64 {
+    pub fn entries_at_once(&self) -> u64 {
         self.control().length as u64 + self.registers().buffered
     }
 }

@@ -1,10 +1,13 @@
 //! What the loom's work asks of a board: undo entries, waiting epochs, board stores and the filter's false hits, counted by
 //! replaying it on the library, and the log's size that follows, tried out. Each plan is a line of one table. A second table has what
-//! it takes to persist as many epochs as may wait, one by one and in one pass.
+//! it takes to persist as many epochs as may wait, one by one and in one pass. By itself: a day of it.
 
 mod backlog;
 mod controller;
+mod day;
 pub mod workload;
+
+pub use day::print_day;
 
 use backlog::{persist_both_ways, Cost};
 use controller::{work_through, Figures, Plan, EPOCHS_COUNTED};
