@@ -10,6 +10,8 @@
  * and all lent memory afterwards are fixed by what went in, and proved to be what the definitions in
  * crates/picl/specs/Calls.antt, crates/hex/specs/Export.antt and crates/capi/specs/Crossing.antt give.
  *
+ * Most programs call it through picl_handle.h, where one struct holds all that is lent to a call. What is said here holds there.
+ *
  * A refusal (1 to 11 and 13 to 18) leaves board and work memory, or the bytes of the record or the text, as they were.
  * The registers too stay as they were, but a refused power-up leaves them zero. The answer is filled, refused or not. Only
  * PICL_TOO_SHORT (255) touches nothing at all.
@@ -26,6 +28,11 @@
  * oldest, stands at place (start + i) mod L. An entry of the log is proper if its address is below N, ValidFrom < ValidTill,
  * P < ValidTill <= P + 16, and ValidTill is not below that of the next older entry. The library writes no other; power-up
  * refuses a log that has one (PICL_ENTRY), since the board's memory is then damaged.
+ *
+ * The processor addresses this memory directly: the library makes 64-bit loads and stores there, and calls nobody for it. FRAM,
+ * MRAM or a RAM with a battery on the processor's bus will do. A chip behind a driver, on SPI or I2C, will not, nor flash, which
+ * is erased by blocks. A copy of such a chip in RAM is no board either: what is copied to the chip, and when, would then decide
+ * what a cut leaves.
  *
  * THE WORK MEMORY is lost with the current. PICL_WORK_WORDS(S) words; S, a multiple of 4 from 4 to 256, is read from its
  * length:
@@ -99,12 +106,31 @@
  * 65,536 lines these are 32,777 records of 1,441,932 bytes.
  *
  *
+ * THE BYTE ORDER of words in memory is the processor's. The library loads and stores whole words, so that the fields above are
+ * the same bits of a word on every processor, but not the same bytes of the memory. A dump that is read as bytes, on a service
+ * laptop say, has the least significant byte of each word first where the processor is little-endian. A board that goes to a
+ * processor of the other order needs the eight bytes of each of its words turned round first. Records and HEX records are bytes:
+ * the most significant comes first on every processor.
+ *
+ *
+ * WHAT IS NOT DETECTED. No call tests data: the words of the lines, the data of slots, the old data of entries. A bit that flips
+ * there stays flipped: a load gives it, and power-up puts it back from old data. All else is tested where the numbers below say
+ * so, and for being proper only: a flip that makes one proper word of another is not found either. Where memory may flip bits it
+ * has to correct them itself (ECC), or the firmware keeps check sums in lines of its own.
+ *
+ *
  * THE CALLER'S DUTIES. The library cannot test these:
  *
  *  - No pointer is null, each to words is aligned for 64 bits, and each has as many words, or bytes, behind it as the length
  *    that follows it says. One to bytes, those of a record or of a text, needs no alignment. The arrays of one call do not
  *    overlap.
  *  - One task makes all calls, one after the other; nothing else writes the board memory, the work memory or the registers.
+ *    Another board, with memories of its own, may have another task: the two share nothing.
+ *  - An interrupt may come in mid-call, and take as long as it likes: the call goes on behind it. But its handler makes no call
+ *    with these memories and writes to none of them. In mid-call it does not read them either: they are then as they never are
+ *    between two calls. Where it knows that no call is under way it may, and finds what the last one left. But the word of a line
+ *    on the board is not the line: newer data may be in the cache alone, and the word may be of an epoch that is not committed,
+ *    which a cut takes back. So a handler and the task hand each other what they have to say in memory of their own.
  *  - Each call gets board, work memory and registers as the call before returned and left them. Only power-up may be
  *    given any work memory and any registers.
  *  - A commit is made only at a moment when the lines agree with each other (pattern card, pick count, beam tension). It
@@ -156,6 +182,35 @@
 extern "C" {
 #endif
 
+/*
+ * The version. Header and archive are used together only if they are of one version: the archive has no number in it, so nothing
+ * can test that.
+ *
+ *     major    the number of the last change (docs/changes) that firmware has to follow: a layout, a length, arguments or what a
+ *              number means are others, and programs have to be built anew or given other figures, or boards formatted anew
+ *     minor    how many changes since have only added something: what was built with a smaller one needs nothing
+ */
+#define PICL_VERSION_MAJOR 8
+#define PICL_VERSION_MINOR 1
+#define PICL_VERSION (PICL_VERSION_MAJOR * 1000 + PICL_VERSION_MINOR)
+
+/* A number as one of a type; a constant stays one. C++ adds it to a zero of that type, which no compiler takes for a cast of C's,
+ * nor for a useless one. */
+#ifdef __cplusplus
+#define PICL_AS(type, number) (type() + (number))
+#else
+#define PICL_AS(type, number) ((type)(number))
+#endif
+
+/* The arrays of one call do not overlap (THE CALLER'S DUTIES): that promise, where compilers see it. It changes no instruction of
+ * the caller's or of the archive's; GCC warns where a call that writes an array is given it twice (-Wrestrict, part of -Wall).
+ * C++ has no word for it. */
+#if !defined __cplusplus && defined __STDC_VERSION__ && __STDC_VERSION__ >= 199901L
+#define PICL_RESTRICT restrict
+#else
+#define PICL_RESTRICT
+#endif
+
 /* Limits. */
 #define PICL_MOST_LINES 65536
 #define PICL_MOST_ENTRIES 65536
@@ -166,9 +221,17 @@ extern "C" {
 #define PICL_MOST_WAITING 15
 #define PICL_LAST_EPOCH 0xFFFFFF
 
-/* The words of each lent memory. */
-#define PICL_BOARD_WORDS(lines, entries) (2 + 2 * (size_t)(entries) + (size_t)(lines))
-#define PICL_WORK_WORDS(slots) (2 * (size_t)(slots) + 2 * PICL_BUFFER_ENTRIES + PICL_FILTER_WORDS)
+/* Where control word, shape word and log stand on a board. */
+#define PICL_CONTROL_AT 0
+#define PICL_SHAPE_AT 1
+#define PICL_LOG_AT 2
+
+/* The words of an entry and of a slot, and of each lent memory. */
+#define PICL_ENTRY_WORDS 2
+#define PICL_SLOT_WORDS 2
+#define PICL_BOARD_WORDS(lines, entries) (PICL_LOG_AT + PICL_ENTRY_WORDS * PICL_AS(size_t, entries) + PICL_AS(size_t, lines))
+#define PICL_WORK_WORDS(slots) \
+    (PICL_SLOT_WORDS * PICL_AS(size_t, slots) + PICL_ENTRY_WORDS * PICL_BUFFER_ENTRIES + PICL_FILTER_WORDS)
 #define PICL_REGISTER_WORDS 5
 #define PICL_ANSWER_WORDS 2
 
@@ -180,7 +243,7 @@ extern "C" {
 /* The lines of a bank, and the HEX records of a board: one for each bank, one for each two lines, and the last. */
 #define PICL_HEX_BANK_LINES 8192
 #define PICL_HEX_RECORDS(lines) \
-    (((uint64_t)(lines) + PICL_HEX_BANK_LINES - 1) / PICL_HEX_BANK_LINES + ((uint64_t)(lines) + 1) / 2 + 1)
+    ((PICL_AS(uint64_t, lines) + PICL_HEX_BANK_LINES - 1) / PICL_HEX_BANK_LINES + (PICL_AS(uint64_t, lines) + 1) / 2 + 1)
 
 /* Places in the registers and in the answer. */
 #define PICL_EPOCH 0
@@ -191,8 +254,22 @@ extern "C" {
 #define PICL_VALUE 0
 #define PICL_STORES 1
 
-/* The persisted epoch P of a board: the control word without log start and log length. */
-#define PICL_PERSISTED(board) ((board)[0] >> 40)
+/* What the first two words of a formatted board say: the persisted epoch P, where the log starts and how many entries it has, and
+ * N and L. */
+#define PICL_COUNT_BITS 20
+#define PICL_COUNT_MASK 0xFFFFF
+#define PICL_PERSISTED(board) ((board)[PICL_CONTROL_AT] >> 2 * PICL_COUNT_BITS)
+#define PICL_LOG_START(board) ((board)[PICL_CONTROL_AT] >> PICL_COUNT_BITS & PICL_COUNT_MASK)
+#define PICL_LOG_LENGTH(board) ((board)[PICL_CONTROL_AT] & PICL_COUNT_MASK)
+#define PICL_LINES(board) ((board)[PICL_SHAPE_AT] >> PICL_COUNT_BITS & PICL_COUNT_MASK)
+#define PICL_ENTRIES(board) ((board)[PICL_SHAPE_AT] & PICL_COUNT_MASK)
+
+/* The place of a line on a formatted board: its word is board[PICL_LINE_AT(board, line)]. Right after an accepted power-up that
+ * is the line; at work newer data may be in the cache, and only picl_load gives the line. */
+#define PICL_LINE_AT(board, line) (PICL_LOG_AT + PICL_ENTRY_WORDS * PICL_ENTRIES(board) + (line))
+
+/* How many epochs are committed and wait to be persisted, 0 to PICL_MOST_WAITING, of a board that is awake: s - 1 - P. */
+#define PICL_EPOCHS_WAITING(board, registers) ((registers)[PICL_EPOCH] - 1 - PICL_PERSISTED(board))
 
 /* The allowance of a call that the current is not to leave. */
 #define PICL_NO_CUT UINT32_MAX
@@ -254,59 +331,71 @@ enum {
  * call may make. It stands in for the mains switch on a test bench; a controller passes PICL_NO_CUT. At a cut the first stores, as
  * many as allowed, are on the board, and the work memory and the registers are zero.
  *
- * No call but format and power-up makes more than 66 board stores; power-up makes at most one more than the log's length.
+ * No call but format and power-up makes more than 66 board stores; an accepted power-up makes one at least, and at most one more
+ * than the log's length.
  */
 
 /* A board of N lines, all zero, with an empty log of L entries. It is not protected against a cut, and answers 0 stores. */
-uint64_t picl_format(uint64_t *board, size_t board_words, uint64_t lines, uint64_t entries, uint64_t *answer,
-                     size_t answer_words);
+uint64_t picl_format(uint64_t *PICL_RESTRICT board, size_t board_words, uint64_t lines, uint64_t entries,
+                     uint64_t *PICL_RESTRICT answer, size_t answer_words);
 
 /* The board as of its persisted epoch P, an empty cache, and registers with running epoch P + 1. The epochs after P are
- * given up: those that wait, and the running one. A refusal leaves the registers zero. */
-uint64_t picl_power_up(uint64_t *board, size_t board_words, uint64_t *work, size_t work_words, uint64_t *registers,
-                       size_t register_words, uint32_t allowance, uint64_t *answer, size_t answer_words);
+ * given up: those that wait, and the running one. A refusal leaves the registers zero.
+ *
+ * First lines get their old data back from the log, then the control word is stored, with an empty log. That last store is made
+ * by every accepted power-up, and is the only one where the log was empty already: the control word, which wears most, wears by
+ * one store each time the loom is switched on. */
+uint64_t picl_power_up(uint64_t *PICL_RESTRICT board, size_t board_words, uint64_t *PICL_RESTRICT work, size_t work_words,
+                       uint64_t *PICL_RESTRICT registers, size_t register_words, uint32_t allowance,
+                       uint64_t *PICL_RESTRICT answer, size_t answer_words);
 
 /* The data of the line at an address, as value. */
-uint64_t picl_load(uint64_t *board, size_t board_words, uint64_t *work, size_t work_words, uint64_t *registers,
-                   size_t register_words, uint64_t address, uint32_t allowance, uint64_t *answer, size_t answer_words);
+uint64_t picl_load(uint64_t *PICL_RESTRICT board, size_t board_words, uint64_t *PICL_RESTRICT work, size_t work_words,
+                   uint64_t *PICL_RESTRICT registers, size_t register_words, uint64_t address, uint32_t allowance,
+                   uint64_t *PICL_RESTRICT answer, size_t answer_words);
 
 /* A store to the line at an address. */
-uint64_t picl_store(uint64_t *board, size_t board_words, uint64_t *work, size_t work_words, uint64_t *registers,
-                    size_t register_words, uint64_t address, uint64_t value, uint32_t allowance, uint64_t *answer,
-                    size_t answer_words);
+uint64_t picl_store(uint64_t *PICL_RESTRICT board, size_t board_words, uint64_t *PICL_RESTRICT work, size_t work_words,
+                    uint64_t *PICL_RESTRICT registers, size_t register_words, uint64_t address, uint64_t value,
+                    uint32_t allowance, uint64_t *PICL_RESTRICT answer, size_t answer_words);
 
 /* The line at an address out of the cache. Value 1 if it was held there, 0 if not. */
-uint64_t picl_evict(uint64_t *board, size_t board_words, uint64_t *work, size_t work_words, uint64_t *registers,
-                    size_t register_words, uint64_t address, uint32_t allowance, uint64_t *answer, size_t answer_words);
+uint64_t picl_evict(uint64_t *PICL_RESTRICT board, size_t board_words, uint64_t *PICL_RESTRICT work, size_t work_words,
+                    uint64_t *PICL_RESTRICT registers, size_t register_words, uint64_t address, uint32_t allowance,
+                    uint64_t *PICL_RESTRICT answer, size_t answer_words);
 
 /* The end of the running epoch, which from now on waits to be persisted. It makes no board store, so it never answers
  * PICL_CUT. */
-uint64_t picl_commit(const uint64_t *board, size_t board_words, const uint64_t *work, size_t work_words,
-                     uint64_t *registers, size_t register_words, uint32_t allowance, uint64_t *answer,
-                     size_t answer_words);
+uint64_t picl_commit(const uint64_t *PICL_RESTRICT board, size_t board_words, const uint64_t *PICL_RESTRICT work,
+                     size_t work_words, uint64_t *PICL_RESTRICT registers, size_t register_words, uint32_t allowance,
+                     uint64_t *PICL_RESTRICT answer, size_t answer_words);
 
 /* The beginning of a pass that persists all epochs up to a target, which is from P + 1 to s - 1: the next S + 1 accepted scan
  * calls, with no cut or power-up between them, persist them. Before a loom is moved the target is s - 1: every committed epoch.
  * The target in the registers is all that changes. No slot is visited and no board store made, so it takes no allowance and never
  * answers PICL_CUT. It tests as commit does up to 14; then it answers PICL_TARGET inside a pass and for any other target, and so,
  * not by PICL_NONE, where no epoch waits. Value and stores are 0. */
-uint64_t picl_begin(const uint64_t *board, size_t board_words, const uint64_t *work, size_t work_words, uint64_t *registers,
-                    size_t register_words, uint64_t target, uint64_t *answer, size_t answer_words);
+uint64_t picl_begin(const uint64_t *PICL_RESTRICT board, size_t board_words, const uint64_t *PICL_RESTRICT work,
+                    size_t work_words, uint64_t *PICL_RESTRICT registers, size_t register_words, uint64_t target,
+                    uint64_t *PICL_RESTRICT answer, size_t answer_words);
 
 /* One step of the pass under way, or else the first of one that persists the oldest epoch that waits. S + 1 accepted calls, with
  * no cut or power-up between them, persist that epoch; the first S + 1 after picl_begin persist all up to its target. Value is
  * the epoch that this call has persisted, with all before it, or 0: the last step of a pass gives its target. */
-uint64_t picl_scan(uint64_t *board, size_t board_words, uint64_t *work, size_t work_words, uint64_t *registers,
-                   size_t register_words, uint32_t allowance, uint64_t *answer, size_t answer_words);
+uint64_t picl_scan(uint64_t *PICL_RESTRICT board, size_t board_words, uint64_t *PICL_RESTRICT work, size_t work_words,
+                   uint64_t *PICL_RESTRICT registers, size_t register_words, uint32_t allowance,
+                   uint64_t *PICL_RESTRICT answer, size_t answer_words);
 
 /* The number of dirty lines that the cache holds, for a display, as value. It is read from the registers, which it leaves as they
  * are: it costs the same for every S. Stores are 0. */
-uint64_t picl_tally(const uint64_t *board, size_t board_words, const uint64_t *work, size_t work_words,
-                    const uint64_t *registers, size_t register_words, uint64_t *answer, size_t answer_words);
+uint64_t picl_tally(const uint64_t *PICL_RESTRICT board, size_t board_words, const uint64_t *PICL_RESTRICT work,
+                    size_t work_words, const uint64_t *PICL_RESTRICT registers, size_t register_words,
+                    uint64_t *PICL_RESTRICT answer, size_t answer_words);
 
 /* How many bits of the filter are set, 0 to 4,096, as value. Many set bits mean many false hits: with b entries there are at
  * most 2b of a controller's own. */
-uint64_t picl_filter_bits(const uint64_t *work, size_t work_words, uint64_t *answer, size_t answer_words);
+uint64_t picl_filter_bits(const uint64_t *PICL_RESTRICT work, size_t work_words, uint64_t *PICL_RESTRICT answer,
+                          size_t answer_words);
 
 /* The HEX record of a number, in the first bytes of the text, and how many they are as value; those behind are not touched, and
  * a refusal touches none. It is no string: no zero byte is put behind it. The text has PICL_HEX_BYTES bytes at least, for
@@ -316,20 +405,21 @@ uint64_t picl_filter_bits(const uint64_t *work, size_t work_words, uint64_t *ans
  * Ask right after a power-up that has answered PICL_OK, before anything is stored: the log is then empty, and the file has the
  * lines of the persisted epoch P, which are those that picl_load gives. At work it does not look at the cache. The answer is
  * then PICL_LOGHELD, or, where the log happens to be empty, still the lines of epoch P, without what was stored since. */
-uint64_t picl_hex_out(const uint64_t *board, size_t board_words, uint8_t *text, size_t text_bytes, uint64_t record,
-                      uint64_t *answer, size_t answer_words);
+uint64_t picl_hex_out(const uint64_t *PICL_RESTRICT board, size_t board_words, uint8_t *PICL_RESTRICT text,
+                      size_t text_bytes, uint64_t record, uint64_t *PICL_RESTRICT answer, size_t answer_words);
 
 /* A call as a record, in the first PICL_RECORD_BYTES bytes; those behind are not touched, and a refusal (PICL_TRACE) touches
  * none. Value and stores are 0. It makes no call and needs no board: a controller that records itself writes the record of each
  * call that it makes, accepted or refused, in the order in which it makes them. */
-uint64_t picl_trace_write(uint8_t *bytes, size_t byte_count, uint64_t kind, uint64_t address, uint64_t value,
-                          uint64_t *answer, size_t answer_words);
+uint64_t picl_trace_write(uint8_t *PICL_RESTRICT bytes, size_t byte_count, uint64_t kind, uint64_t address, uint64_t value,
+                          uint64_t *PICL_RESTRICT answer, size_t answer_words);
 
 /* The name of a number that a call has returned, for a display: its letters at the start of the text, and how many they are as
  * value. It is no string: no zero byte is put behind it, and the bytes there are not touched. PICL_NAME_BYTES are enough for
  * every name; a text with too few for this one is PICL_TOO_SHORT. A number that has no name, as PICL_TOO_SHORT itself, has
  * no letters: value 0. Stores are 0. */
-uint64_t picl_name(uint8_t *text, size_t text_bytes, uint64_t number, uint64_t *answer, size_t answer_words);
+uint64_t picl_name(uint8_t *PICL_RESTRICT text, size_t text_bytes, uint64_t number, uint64_t *PICL_RESTRICT answer,
+                   size_t answer_words);
 
 #ifdef __cplusplus
 }

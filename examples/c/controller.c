@@ -24,7 +24,7 @@
 #include <stdlib.h>
 
 #include "exporter.h"
-#include "picl.h"
+#include "picl_handle.h"
 #include "recorder.h"
 #include "trace.h"
 
@@ -48,7 +48,6 @@
 
 enum {
     SLOTS = 16,
-    SHAPE_WORD = 1, /* of the board; zero until format */
 
     /* The loom's lines. */
     PICK_COUNT = 0,
@@ -64,7 +63,6 @@ enum {
     TENSION_SPAN = 50,
 
     BITS_AN_ENTRY = 2,
-    SLOT_WORDS = 2,
     DIRTY_SLOT = 3, /* the two topmost bits of a slot's first word: a line is held, and it is dirty */
     TOP_BITS_AT = 62,
 
@@ -76,19 +74,12 @@ enum {
 /* The board outlives the current. */
 static uint64_t board[PICL_BOARD_WORDS(LINES, LOG_ENTRIES)];
 
-/* All else does not. */
+/* All else does not. The handle's allowance is the simulated mains switch: so many board stores still reach the board, or
+ * PICL_NO_CUT. */
 static uint64_t work[PICL_WORK_WORDS(SLOTS)];
-static uint64_t registers[PICL_REGISTER_WORDS];
-static uint64_t answer[PICL_ANSWER_WORDS];
+static struct picl_handle loom = PICL_HANDLE(board, LINES, LOG_ENTRIES, work, SLOTS);
 
-#define LENT_BOARD board, sizeof board / sizeof *board
-#define LENT_WORK work, sizeof work / sizeof *work
-#define LENT_REGISTERS registers, PICL_REGISTER_WORDS
-#define LENT_ANSWER answer, PICL_ANSWER_WORDS
-
-/* The simulated mains switch: so many board stores still reach the board, or PICL_NO_CUT. */
-static uint32_t stores_left;
-static bool is_uncut; /* nobody turns it off */
+static bool is_uncut; /* nobody turns the mains off */
 static unsigned cuts;
 
 /* Epochs that needed more entries than the log has. */
@@ -115,18 +106,18 @@ static void turn_on(void)
 {
     static uint64_t hand = 1; /* Knuth's MMIX generator */
     hand = hand * 6364136223846793005u + 1442695040888963407u;
-    stores_left = is_uncut ? PICL_NO_CUT : (uint32_t)(hand >> 33) % MOST_STORES_BETWEEN_CUTS;
+    loom.allowance = is_uncut ? PICL_NO_CUT : (uint32_t)(hand >> 33) % MOST_STORES_BETWEEN_CUTS;
 }
 
 /* What every call comes back to. A cut loses work memory and registers, and the loop starts again from the board. */
 static uint64_t answered(const char *call, uint64_t number)
 {
-    record_answer(number, answer, registers, board);
-    if (stores_left != PICL_NO_CUT)
-        stores_left -= (uint32_t)answer[PICL_STORES];
+    record_answer(number, &loom);
+    if (loom.allowance != PICL_NO_CUT)
+        loom.allowance -= (uint32_t)picl_handle_stores(&loom);
     if (number == PICL_CUT) {
         cuts++;
-        printf("mains off in %s after %llu of its stores\n", call, (unsigned long long)answer[PICL_STORES]);
+        printf("mains off in %s after %llu of its stores\n", call, (unsigned long long)picl_handle_stores(&loom));
     }
     return number;
 }
@@ -135,51 +126,51 @@ static uint64_t answered(const char *call, uint64_t number)
 static uint64_t power_up(void)
 {
     end_trace();
-    record_call(stores_left, "p");
-    return answered("power-up", picl_power_up(LENT_BOARD, LENT_WORK, LENT_REGISTERS, stores_left, LENT_ANSWER));
+    record_call(loom.allowance, "p");
+    return answered("power-up", picl_handle_power_up(&loom));
 }
 
 static uint64_t load(uint64_t address, uint64_t *value)
 {
-    record_call(stores_left, "l %u", (unsigned)address);
-    uint64_t number = answered("load", picl_load(LENT_BOARD, LENT_WORK, LENT_REGISTERS, address, stores_left, LENT_ANSWER));
-    trace_call(PICL_RECORD_LOAD, address, NO_VALUE, answer[PICL_STORES]);
-    *value = answer[PICL_VALUE];
+    record_call(loom.allowance, "l %u", (unsigned)address);
+    uint64_t number = answered("load", picl_handle_load(&loom, address));
+    trace_call(PICL_RECORD_LOAD, address, NO_VALUE, picl_handle_stores(&loom));
+    *value = picl_handle_value(&loom);
     return number;
 }
 
 static uint64_t evict(uint64_t address)
 {
-    record_call(stores_left, "e %u", (unsigned)address);
-    uint64_t number =
-        answered("evict", picl_evict(LENT_BOARD, LENT_WORK, LENT_REGISTERS, address, stores_left, LENT_ANSWER));
-    trace_call(PICL_RECORD_EVICT, address, NO_VALUE, answer[PICL_STORES]);
+    record_call(loom.allowance, "e %u", (unsigned)address);
+    uint64_t number = answered("evict", picl_handle_evict(&loom, address));
+    trace_call(PICL_RECORD_EVICT, address, NO_VALUE, picl_handle_stores(&loom));
     return number;
 }
 
 static uint64_t scan(void)
 {
-    record_call(stores_left, "a");
-    uint64_t number = answered("scan", picl_scan(LENT_BOARD, LENT_WORK, LENT_REGISTERS, stores_left, LENT_ANSWER));
-    trace_call(PICL_RECORD_SCAN, NO_ADDRESS, NO_VALUE, answer[PICL_STORES]);
+    record_call(loom.allowance, "a");
+    uint64_t number = answered("scan", picl_handle_scan(&loom));
+    trace_call(PICL_RECORD_SCAN, NO_ADDRESS, NO_VALUE, picl_handle_stores(&loom));
     return number;
 }
 
 static uint64_t commit_once(void)
 {
-    record_call(stores_left, "c");
-    uint64_t number = answered("commit", picl_commit(LENT_BOARD, LENT_WORK, LENT_REGISTERS, stores_left, LENT_ANSWER));
-    trace_call(PICL_RECORD_COMMIT, NO_ADDRESS, NO_VALUE, answer[PICL_STORES]);
+    record_call(loom.allowance, "c");
+    uint64_t number = answered("commit", picl_handle_commit(&loom));
+    trace_call(PICL_RECORD_COMMIT, NO_ADDRESS, NO_VALUE, picl_handle_stores(&loom));
     return number;
 }
 
-/* Scan calls until one of them has persisted an epoch, or none waits. */
+/* Scan calls until one of them has persisted an epoch, or none waits. This, commit and store are picl_handle_persist,
+ * picl_handle_end_epoch and picl_handle_store_with_room once more, since here each call is recorded by itself. */
 static uint64_t persist(void)
 {
     uint64_t number;
     do {
         number = scan();
-    } while (number == PICL_OK && answer[PICL_VALUE] == 0);
+    } while (number == PICL_OK && picl_handle_value(&loom) == 0);
     return number;
 }
 
@@ -197,10 +188,9 @@ static uint64_t commit(void)
 
 static uint64_t store_once(uint64_t address, uint64_t value)
 {
-    record_call(stores_left, "s %u %llu", (unsigned)address, (unsigned long long)value);
-    uint64_t number =
-        answered("store", picl_store(LENT_BOARD, LENT_WORK, LENT_REGISTERS, address, value, stores_left, LENT_ANSWER));
-    trace_call(PICL_RECORD_STORE, address, value, answer[PICL_STORES]);
+    record_call(loom.allowance, "s %u %llu", (unsigned)address, (unsigned long long)value);
+    uint64_t number = answered("store", picl_handle_store(&loom, address, value));
+    trace_call(PICL_RECORD_STORE, address, value, picl_handle_stores(&loom));
     return number;
 }
 
@@ -266,25 +256,23 @@ static uint64_t picks_an_epoch(uint64_t halvings)
 /* The filter has the bits of the buffered entries and no others: at most two for each, and none after a wake. */
 static void check_filter(void)
 {
-    uint64_t bits[PICL_ANSWER_WORDS];
-    uint64_t number = picl_filter_bits(LENT_WORK, bits, PICL_ANSWER_WORDS);
+    uint64_t number = picl_handle_filter_bits(&loom);
     if (number != PICL_OK)
         fail("filter-bits answered", number);
-    if (bits[PICL_VALUE] > BITS_AN_ENTRY * registers[PICL_BUFFERED])
-        fail("the filter has more bits than the buffered entries", bits[PICL_VALUE]);
+    if (picl_handle_value(&loom) > BITS_AN_ENTRY * loom.registers[PICL_BUFFERED])
+        fail("the filter has more bits than the buffered entries", picl_handle_value(&loom));
 }
 
 /* What the panel shows: how many lines are dirty. It is read from the registers, and every slot agrees with it. */
 static void check_panel(void)
 {
-    uint64_t shown[PICL_ANSWER_WORDS], dirty = 0;
-    uint64_t number = picl_tally(LENT_BOARD, LENT_WORK, LENT_REGISTERS, shown, PICL_ANSWER_WORDS);
+    uint64_t dirty = 0, number = picl_handle_tally(&loom);
     if (number != PICL_OK)
         fail("tally answered", number);
     for (size_t slot = 0; slot < SLOTS; slot++)
-        dirty += work[SLOT_WORDS * slot] >> TOP_BITS_AT == DIRTY_SLOT;
-    if (shown[PICL_VALUE] != dirty)
-        fail("the panel shows another number of dirty lines than the slots have", shown[PICL_VALUE]);
+        dirty += work[PICL_SLOT_WORDS * slot] >> TOP_BITS_AT == DIRTY_SLOT;
+    if (picl_handle_value(&loom) != dirty)
+        fail("the panel shows another number of dirty lines than the slots have", picl_handle_value(&loom));
 }
 
 /* Commits the running epoch, in which so many picks were woven. */
@@ -294,7 +282,7 @@ static uint64_t end_epoch(uint64_t picks, uint64_t halvings)
     if (number == PICL_OK) {
         check_filter();
         check_panel();
-        uint64_t committed = registers[PICL_EPOCH] - 1;
+        uint64_t committed = picl_handle_epoch(&loom) - 1;
         noted[committed].picks = noted[committed - 1].picks + picks;
         noted[committed].halvings = halvings;
     }
@@ -334,7 +322,7 @@ static uint64_t line_of(uint64_t epoch, uint64_t address)
 /* Each line against what it held when the persisted epoch was committed. */
 static uint64_t check_lines(void)
 {
-    uint64_t number = PICL_OK, persisted = registers[PICL_EPOCH] - 1;
+    uint64_t number = PICL_OK, persisted = picl_handle_persisted(&loom);
     check_filter();
     check_panel();
     for (uint64_t address = 0; number == PICL_OK && address < LINES; address++) {
@@ -352,7 +340,7 @@ static uint64_t check_lines(void)
 /* All lines to the service laptop. The log is empty and nothing is stored yet, so that only the end of the file ends it. */
 static void serve_laptop(void)
 {
-    uint64_t records, number = export_lines(hex_file, LENT_BOARD, &records);
+    uint64_t records, number = export_lines(hex_file, &loom, &records);
     if (number != PICL_PAST)
         fail("an export ended with", number);
     if (records != PICL_HEX_RECORDS(LINES))
@@ -390,7 +378,7 @@ static uint64_t halve_epochs(void)
 static uint64_t give_up_epoch(void)
 {
     given_up++;
-    printf("epoch %llu needs more entries than the log has: given up\n", (unsigned long long)registers[PICL_EPOCH]);
+    printf("epoch %llu needs more entries than the log has: given up\n", (unsigned long long)picl_handle_epoch(&loom));
     uint64_t number = power_up();
     if (number == PICL_OK)
         number = woken();
@@ -399,7 +387,7 @@ static uint64_t give_up_epoch(void)
 
 static void format_new_board(void)
 {
-    uint64_t number = picl_format(LENT_BOARD, LINES, LOG_ENTRIES, LENT_ANSWER);
+    uint64_t number = picl_handle_format(&loom);
     if (number != PICL_OK)
         fail("format", number);
     printf("new board: formatted\n");
@@ -410,10 +398,10 @@ static void format_new_board(void)
 static uint64_t start(void)
 {
     uint64_t number;
-    if (board[SHAPE_WORD] == 0) {
+    if (board[PICL_SHAPE_AT] == 0) {
         format_new_board();
-        stores_left = PICL_NO_CUT;
-        number = answered("power-up", picl_power_up(LENT_BOARD, LENT_WORK, LENT_REGISTERS, PICL_NO_CUT, LENT_ANSWER));
+        loom.allowance = PICL_NO_CUT;
+        number = answered("power-up", picl_handle_power_up(&loom));
         turn_on();
     } else {
         turn_on();
@@ -426,7 +414,7 @@ static uint64_t start(void)
 static uint64_t run(void)
 {
     uint64_t number = start();
-    while (number == PICL_OK && registers[PICL_EPOCH] <= EPOCHS) {
+    while (number == PICL_OK && picl_handle_epoch(&loom) <= EPOCHS) {
         number = weave_epoch();
         if (number == PICL_ROOM)
             number = give_up_epoch();

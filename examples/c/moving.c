@@ -1,6 +1,7 @@
 /*
  * Before a loom is moved: every committed epoch goes down in one pass, and only then is the mains turned off. begin_move and
- * finish_move are what a controller needs for it; the rest tries them.
+ * finish_move are what a controller needs for it; the rest tries them. Where the loom stands still meanwhile, picl_handle_settle
+ * is both.
  *
  * This loom stores to line n - 1 in each epoch that is a multiple of n, and what it stores is the epoch's number. So an epoch
  * alone decides what every line held at its commit, and whenever the loom wakes ALL lines are held to ONE epoch.
@@ -14,7 +15,7 @@
 #include <stdlib.h>
 #include <string.h>
 
-#include "picl.h"
+#include "picl_handle.h"
 
 enum {
     SLOTS = 16,
@@ -30,18 +31,11 @@ enum {
 /* The board outlives the current. */
 static uint64_t board[PICL_BOARD_WORDS(LINES, LOG_ENTRIES)];
 
-/* All else does not. */
+/* All else does not. The handle's allowance is the simulated mains switch: so many board stores still reach the board, or
+ * PICL_NO_CUT. */
 static uint64_t work[PICL_WORK_WORDS(SLOTS)];
-static uint64_t registers[PICL_REGISTER_WORDS];
-static uint64_t answer[PICL_ANSWER_WORDS];
+static struct picl_handle loom = PICL_HANDLE(board, LINES, LOG_ENTRIES, work, SLOTS);
 
-#define LENT_BOARD board, sizeof board / sizeof *board
-#define LENT_WORK work, sizeof work / sizeof *work
-#define LENT_REGISTERS registers, PICL_REGISTER_WORDS
-#define LENT_ANSWER answer, PICL_ANSWER_WORDS
-
-/* The simulated mains switch: so many board stores still reach the board, or PICL_NO_CUT. */
-static uint32_t stores_left = PICL_NO_CUT;
 static uint32_t stores_made; /* since the pass for all epochs began */
 
 static void fail(const char *what, uint64_t number)
@@ -58,40 +52,30 @@ static void accepted(const char *call, uint64_t number)
 
 static uint64_t answered(uint64_t number)
 {
-    stores_made += (uint32_t)answer[PICL_STORES];
-    if (stores_left != PICL_NO_CUT)
-        stores_left -= (uint32_t)answer[PICL_STORES];
+    stores_made += (uint32_t)picl_handle_stores(&loom);
+    if (loom.allowance != PICL_NO_CUT)
+        loom.allowance -= (uint32_t)picl_handle_stores(&loom);
     return number;
 }
 
 static uint64_t store(uint64_t address, uint64_t value)
 {
-    return answered(picl_store(LENT_BOARD, LENT_WORK, LENT_REGISTERS, address, value, stores_left, LENT_ANSWER));
-}
-
-static uint64_t commit(void)
-{
-    return answered(picl_commit(LENT_BOARD, LENT_WORK, LENT_REGISTERS, stores_left, LENT_ANSWER));
-}
-
-static uint64_t begin(uint64_t target)
-{
-    return answered(picl_begin(LENT_BOARD, LENT_WORK, LENT_REGISTERS, target, LENT_ANSWER));
+    return answered(picl_handle_store(&loom, address, value));
 }
 
 static uint64_t scan(void)
 {
-    return answered(picl_scan(LENT_BOARD, LENT_WORK, LENT_REGISTERS, stores_left, LENT_ANSWER));
+    return answered(picl_handle_scan(&loom));
 }
 
-/* At a moment when the lines agree: the running epoch is committed too, a pass under way is brought to its end, and one begins for
- * all epochs that wait. Where 15 wait already the commit is refused, as ever: commit of controller.c has the answer to that. */
+/* At a moment when the lines agree: the running epoch is committed too, a pass under way is brought to its end, and one begins
+ * for all epochs that wait. */
 static uint64_t begin_move(void)
 {
-    uint64_t number = commit();
-    while (number == PICL_OK && registers[PICL_PASS_TARGET] != 0)
-        number = scan();
-    return number == PICL_OK ? begin(registers[PICL_EPOCH] - 1) : number;
+    uint64_t number = picl_handle_end_epoch(&loom);
+    if (number == PICL_OK && loom.registers[PICL_PASS_TARGET] != 0)
+        number = picl_handle_persist(&loom);
+    return number == PICL_OK ? picl_handle_begin(&loom, picl_handle_epoch(&loom) - 1) : number;
 }
 
 /* The pass: after it P is the last committed epoch, and the mains may be turned off. A loom may weave on meanwhile. What it
@@ -118,13 +102,13 @@ static uint64_t line_of(uint64_t epoch, uint64_t address)
 static void wake(uint64_t epoch)
 {
     memset(work, ANY_BYTE, sizeof work);
-    memset(registers, ANY_BYTE, sizeof registers);
-    accepted("power-up", picl_power_up(LENT_BOARD, LENT_WORK, LENT_REGISTERS, PICL_NO_CUT, LENT_ANSWER));
-    if (PICL_PERSISTED(board) != epoch)
-        fail("the loom wakes in another epoch", PICL_PERSISTED(board));
+    memset(loom.registers, ANY_BYTE, sizeof loom.registers);
+    accepted("power-up", picl_handle_power_up(&loom));
+    if (picl_handle_persisted(&loom) != epoch)
+        fail("the loom wakes in another epoch", picl_handle_persisted(&loom));
     for (uint64_t address = 0; address < LINES; address++) {
-        accepted("load", picl_load(LENT_BOARD, LENT_WORK, LENT_REGISTERS, address, PICL_NO_CUT, LENT_ANSWER));
-        if (answer[PICL_VALUE] != line_of(epoch, address))
+        accepted("load", picl_handle_load(&loom, address));
+        if (picl_handle_value(&loom) != line_of(epoch, address))
             fail("a line is not of the epoch that the loom wakes in", address);
     }
 }
@@ -139,11 +123,11 @@ static void weave(uint64_t epoch)
 /* A new board, and all work before the move: of the epochs that are to go down in one pass only the last is not committed yet. */
 static void work_until_move(void)
 {
-    accepted("format", picl_format(LENT_BOARD, LINES, LOG_ENTRIES, LENT_ANSWER));
+    accepted("format", picl_handle_format(&loom));
     wake(0);
     for (uint64_t epoch = 1; epoch < LAST_COMMITTED; epoch++) {
         weave(epoch);
-        accepted("commit", commit());
+        accepted("commit", picl_handle_commit(&loom));
         for (unsigned calls = 0; epoch <= PERSISTED && calls < SLOTS + 1; calls++)
             accepted("scan", scan());
     }
@@ -154,16 +138,16 @@ static void work_until_move(void)
 static void refused(uint64_t target)
 {
     uint64_t before[PICL_REGISTER_WORDS];
-    memcpy(before, registers, sizeof before);
-    uint64_t number = begin(target);
+    memcpy(before, loom.registers, sizeof before);
+    uint64_t number = picl_handle_begin(&loom, target);
     if (number != PICL_TARGET)
         fail("begin is not refused for its target", number);
-    if (memcmp(before, registers, sizeof before) != 0)
+    if (memcmp(before, loom.registers, sizeof before) != 0)
         fail("a refused begin has changed the registers", target);
 }
 
 /* How a loom is found when it is to be moved. */
-struct loom {
+struct found {
     const char *state;
     unsigned scans_before; /* ordinary scan calls: some, and a pass is under way */
     uint64_t persisted;    /* P when the pass for all epochs begins */
@@ -171,47 +155,47 @@ struct loom {
 };
 
 /* One move, with a mains that goes off after so many board stores of the pass. Was that before its end? */
-static bool is_cut_after(const struct loom *loom, uint32_t stores)
+static bool is_cut_after(const struct found *found, uint32_t stores)
 {
     work_until_move();
-    for (unsigned calls = 0; calls < loom->scans_before; calls++)
+    for (unsigned calls = 0; calls < found->scans_before; calls++)
         accepted("scan", scan());
-    refused(registers[PICL_EPOCH]); /* it is not committed */
+    refused(picl_handle_epoch(&loom)); /* it is not committed */
     accepted("the begin of a move", begin_move());
-    refused(registers[PICL_EPOCH] - 1); /* a pass is under way */
+    refused(picl_handle_epoch(&loom) - 1); /* a pass is under way */
     stores_made = 0;
-    stores_left = stores;
-    uint64_t number = finish_move(loom->is_weaving);
-    stores_left = PICL_NO_CUT;
+    loom.allowance = stores;
+    uint64_t number = finish_move(found->is_weaving);
+    loom.allowance = PICL_NO_CUT;
     if (number == PICL_CUT) {
-        wake(loom->persisted);
+        wake(found->persisted);
         return true;
     }
     accepted("the end of a move", number);
-    if (answer[PICL_VALUE] != LAST_COMMITTED)
-        fail("the last scan call has persisted another epoch", answer[PICL_VALUE]);
-    if (PICL_PERSISTED(board) != LAST_COMMITTED)
-        fail("behind the pass another epoch is persisted", PICL_PERSISTED(board));
+    if (picl_handle_value(&loom) != LAST_COMMITTED)
+        fail("the last scan call has persisted another epoch", picl_handle_value(&loom));
+    if (picl_handle_persisted(&loom) != LAST_COMMITTED)
+        fail("behind the pass another epoch is persisted", picl_handle_persisted(&loom));
     refused(LAST_COMMITTED); /* none waits */
     wake(LAST_COMMITTED);
     return false;
 }
 
-static void move(const struct loom *loom)
+static void move(const struct found *found)
 {
-    if (is_cut_after(loom, PICL_NO_CUT))
+    if (is_cut_after(found, PICL_NO_CUT))
         fail("the mains was on, and a call of the pass was cut, store", stores_made);
     uint32_t stores = stores_made;
     for (uint32_t made = 0; made < stores; made++)
-        if (!is_cut_after(loom, made))
+        if (!is_cut_after(found, made))
             fail("the mains went off, and the pass went on, store", made);
-    printf("%s: %u epochs in one pass of %u board stores; cut at each of them, every line of one epoch\n", loom->state,
-           (unsigned)(LAST_COMMITTED - loom->persisted), (unsigned)stores);
+    printf("%s: %u epochs in one pass of %u board stores; cut at each of them, every line of one epoch\n", found->state,
+           (unsigned)(LAST_COMMITTED - found->persisted), (unsigned)stores);
 }
 
 int main(void)
 {
-    static const struct loom looms[] = {
+    static const struct found looms[] = {
         {"at rest", 0, PERSISTED, false},
         {"weaving on", 0, PERSISTED, true},
         {"at rest, in a pass", SOME_SCANS, PERSISTED + 1, false},

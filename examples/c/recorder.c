@@ -2,7 +2,6 @@
 #include <stdio.h>
 
 #include "files.h"
-#include "picl.h"
 #include "recorder.h"
 
 static FILE *script;
@@ -41,27 +40,13 @@ void record_call(uint32_t allowance, const char *line, ...)
     fputc('\n', script);
 }
 
-/* The control word of a board: persisted epoch 24 bits, log start 20, log length 20. */
-static unsigned long length_in(uint64_t control)
-{
-    return (unsigned long)(control & 0xFFFFF);
-}
-
-/* The name of a number, as a service panel shows it. It is no string: how many letters it has is answered. */
-static int name_of(uint64_t number, uint8_t name[PICL_NAME_BYTES])
-{
-    uint64_t given[PICL_ANSWER_WORDS];
-    return picl_name(name, PICL_NAME_BYTES, number, given, PICL_ANSWER_WORDS) == PICL_OK ? (int)given[PICL_VALUE] : 0;
-}
-
-void record_answer(uint64_t number, const uint64_t *answer, const uint64_t *registers, const uint64_t *board)
+void record_answer(uint64_t number, const struct picl_handle *loom)
 {
     if (transcript == NULL)
         return;
-    uint8_t name[PICL_NAME_BYTES];
-    int letters = name_of(number, name);
-    fprintf(transcript, "%c %.*s %llu %llu %llu %lu %lu %llu\n", letter, letters, (const char *)name,
-            (unsigned long long)answer[PICL_VALUE], (unsigned long long)answer[PICL_STORES],
-            (unsigned long long)registers[PICL_EPOCH], (unsigned long)PICL_PERSISTED(board), length_in(board[0]),
-            (unsigned long long)registers[PICL_BUFFERED]);
+    char name[PICL_NAME_STRING_BYTES]; /* as a service panel shows it */
+    fprintf(transcript, "%c %s %llu %llu %llu %llu %llu %llu\n", letter, picl_name_string(&name, number),
+            (unsigned long long)picl_handle_value(loom), (unsigned long long)picl_handle_stores(loom),
+            (unsigned long long)picl_handle_epoch(loom), (unsigned long long)picl_handle_persisted(loom),
+            (unsigned long long)PICL_LOG_LENGTH(loom->board), (unsigned long long)loom->registers[PICL_BUFFERED]);
 }

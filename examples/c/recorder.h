@@ -2,7 +2,7 @@
 #ifndef RECORDER_H
 #define RECORDER_H
 
-#include <stdint.h>
+#include "picl_handle.h"
 
 /* Until this is called nothing is recorded. */
 void open_records(const char *script, const char *transcript);
@@ -15,6 +15,6 @@ void record_format(unsigned lines, unsigned entries, unsigned slots);
 void record_call(uint32_t allowance, const char *line, ...);
 
 /* Its answer: letter, name, value, stores, s, P, log length, b. */
-void record_answer(uint64_t number, const uint64_t *answer, const uint64_t *registers, const uint64_t *board);
+void record_answer(uint64_t number, const struct picl_handle *loom);
 
 #endif

@@ -1,7 +1,7 @@
 #include <stdio.h>
 
 #include "files.h"
-#include "picl.h"
+#include "picl_handle.h"
 #include "trace.h"
 
 static FILE *trace; /* NULL where nothing is traced, or no more */
@@ -36,8 +36,7 @@ void trace_call(uint64_t kind, uint64_t address, uint64_t value, uint64_t stores
     if (trace == NULL)
         return;
     uint8_t record[PICL_RECORD_BYTES];
-    uint64_t answer[PICL_ANSWER_WORDS]; /* not the call's, which the controller has still to read */
-    uint64_t number = picl_trace_write(record, sizeof record, kind, address, value, answer, PICL_ANSWER_WORDS);
+    uint64_t number = picl_record_write(&record, kind, address, value);
     if (number != PICL_OK) {
         break_off(number);
         return;
