@@ -85,15 +85,15 @@ static void let_go(void)
 static bool is_flush_split(void)
 {
     uintptr_t first = (uintptr_t)behind_log(&loom);
-    uintptr_t last = first + ENTRY_WORDS * sizeof *work * registers[PICL_BUFFERED];
+    uintptr_t last = first + PICL_ENTRY_WORDS * sizeof *work * registers[PICL_BUFFERED];
     return first / page_bytes != last / page_bytes;
 }
 
 static void begin_call(enum call call)
 {
     const uint64_t *behind = behind_log(&loom);
-    loom.journal->control = loom.board[CONTROL_AT];
-    for (int i = 0; i < ENTRY_WORDS; i++)
+    loom.journal->control = loom.board[PICL_CONTROL_AT];
+    for (int i = 0; i < PICL_ENTRY_WORDS; i++)
         loom.journal->behind_log[i] = behind[i];
     if (call != POWER_UP && (is_flush_split() || draw_below(&habit, SHARES) < slow_share))
         let_go();

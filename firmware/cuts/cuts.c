@@ -148,7 +148,7 @@ static void count_kill(const struct journal *journal)
     seen.in[journal->call]++;
     if (journal->call == NO_CALL)
         return;
-    if (loom.board[CONTROL_AT] != journal->control)
+    if (loom.board[PICL_CONTROL_AT] != journal->control)
         seen.behind_control++;
     else if (behind[0] != journal->behind_log[0] || behind[1] != journal->behind_log[1])
         seen.in_flush++;
@@ -188,7 +188,7 @@ static bool is_woken_before_kill(void)
         return false;
     }
     seen.in_power_up++;
-    if (log_length(&loom) != 0 && !are_lines(left_lines))
+    if (PICL_LOG_LENGTH(loom.board) != 0 && !are_lines(left_lines))
         seen.in_undo++;
     return false;
 }
@@ -207,7 +207,7 @@ static bool is_woken(void)
 static void wake_board(void)
 {
     memcpy(left_lines, lines_of(&loom), loom.shape->lines * sizeof *left_lines);
-    seen.with_entries += log_length(&loom) != 0;
+    seen.with_entries += PICL_LOG_LENGTH(loom.board) != 0;
     while (!is_woken())
         ;
     seen.wakes++;
@@ -235,7 +235,7 @@ static void check_board(void)
 {
     struct journal *journal = loom.journal;
     uint64_t epoch = PICL_PERSISTED(loom.board);
-    if (log_length(&loom) != 0)
+    if (PICL_LOG_LENGTH(loom.board) != 0)
         fail("a woken board has entries in its log");
     check_epoch(journal, epoch);
     seen.epochs += epoch - persisted;
@@ -253,7 +253,7 @@ static void check_board(void)
 static void format_board(const struct shape *shape, uint64_t *memory, size_t page_words)
 {
     uint64_t answer[PICL_ANSWER_WORDS];
-    size_t before_middle = LOG_AT + ENTRY_WORDS * (size_t)(shape->entries / 2);
+    size_t before_middle = PICL_LOG_AT + PICL_ENTRY_WORDS * (size_t)(shape->entries / 2);
     loom.shape = shape;
     loom.board = memory + (page_words - before_middle % page_words);
     if (picl_format(loom.board, words_of(shape), shape->lines, shape->entries, answer, PICL_ANSWER_WORDS) != PICL_OK)

@@ -16,13 +16,7 @@ enum call { NO_CALL, POWER_UP, LOAD, STORE, EVICT, COMMIT, BEGIN, SCAN, CALLS };
 
 enum {
     JOURNAL_EPOCHS = 4096, /* so many epochs may be begun between two wakes */
-    FAULT_BYTES = 256,
-
-    /* The board's layout, where the header has no name for it. */
-    CONTROL_AT = 0,
-    LOG_AT = 2,
-    ENTRY_WORDS = 2,
-    LOG_FIELD_BITS = 20 /* of the control word: the log's length, and above it its start */
+    FAULT_BYTES = 256
 };
 
 struct journal {
@@ -36,7 +30,7 @@ struct journal {
 
     /* Before the call under way: the control word, and the place that the log's next entry goes to. */
     volatile uint64_t control;
-    volatile uint64_t behind_log[ENTRY_WORDS];
+    volatile uint64_t behind_log[PICL_ENTRY_WORDS];
 
     /* How often controllers had to do what the guide says. */
     volatile uint64_t stores_refused;
@@ -63,26 +57,14 @@ static inline size_t words_of(const struct shape *shape)
 
 static inline const uint64_t *lines_of(const struct loom *loom)
 {
-    return loom->board + LOG_AT + ENTRY_WORDS * (size_t)loom->shape->entries;
-}
-
-static inline uint64_t log_field(uint64_t word)
-{
-    return word & ((UINT64_C(1) << LOG_FIELD_BITS) - 1);
-}
-
-static inline uint64_t log_length(const struct loom *loom)
-{
-    return log_field(loom->board[CONTROL_AT]);
+    return loom->board + words_of(loom->shape) - loom->shape->lines;
 }
 
 /* The place that the log's next entry goes to; some place of the log even where a control word is wrong. */
 static inline const uint64_t *behind_log(const struct loom *loom)
 {
-    uint64_t place = log_field(loom->board[CONTROL_AT] >> LOG_FIELD_BITS) + log_length(loom);
-    if (place >= loom->shape->entries)
-        place %= loom->shape->entries;
-    return loom->board + LOG_AT + ENTRY_WORDS * place;
+    uint64_t place = (PICL_LOG_START(loom->board) + PICL_LOG_LENGTH(loom->board)) % loom->shape->entries;
+    return loom->board + PICL_LOG_AT + PICL_ENTRY_WORDS * place;
 }
 
 #endif
