@@ -1,29 +1,28 @@
 -- Reading the log and the buffer: the search for the first improper entry, the test of the buffered entries and of their bits, and the run that an
 -- advance drops.
-use Prim.Native.Nat.{ℕ, _+_, _-_, _*_, _%_, _<_, _≤_}
+use Prim.Native.Nat.{ℕ, zero, suc, _+_, _-_, _*_, _<_, _≤_}
 use mathlib.Core.Path.{_≡_, refl, sym, ap, _∙_}
 use mathlib.Core.Bool.{Bool, true, false, not, _&&_, and-true, and-false, and-assoc}
 use mathlib.Core.List.{List}
 use native.Mathlib.Numerals.{add-one}
-use native.Mathlib.Nat.{mod-eq-of-lt, add-mod-right}
 use native.Mathlib.Omega.{arith}
 use borrow.Author.Tests.{lt-ltb, le-leb, lt-leb, ltb-true, ltb-false, leb-true, not-true, not-false}
 use lib.Dec.{ltb, leb}
-use lib.ListN.{getD}
-use Rattle.base.specs.Walk.{first, Walked, walk-start, walk-end, walk-stop, walk-pass, walk-found, walk-next, walk-all, walk-not-all, first-same, first-early, first-late, both-first}
+use lib.ListN.{length, getD}
+use Rattle.base.specs.Walk.{first, Walked, walk-start, walk-end, walk-stop, walk-pass, walk-found, walk-next, walk-all, walk-not-all, first-same, first-early, first-late, first-all, both-first}
 use Rattle.layout.specs.declared.Entry.{Entry}
-use Rattle.layout.specs.Limits.{mostAhead}
-use Rattle.layout.specs.Memory.{logAt}
+use Rattle.layout.specs.Limits.{mostLines, mostAhead}
+use Rattle.layout.specs.Memory.{logAt, linesAt}
 use Rattle.layout.specs.Words.{Decoded, EntryFits, decodeEntry}
 use Rattle.undo.specs.declared.LogState.{LogState}
 use Rattle.undo.specs.Entries.{properEntry, properBuffered}
 use Rattle.undo.specs.Log.{Sound, Placed, placeOf, entryIn, olderTill, properAt, firstImproper}
 use Rattle.undo.specs.Filter.{marks}
 use Rattle.undo.specs.Log.{bufferedIn, bufferedProper, bufferProper, bufferedMarked, bufferMarked, expired, dropped, KeptBy}
-use Rattle.undo.specs.Contracts.{properBetween, expiredFrom, KeptFrom}
+use Rattle.undo.specs.Contracts.{properBetween, Straight, Bounds, Searched, SearchReady, expiredFrom, KeptFrom}
 use Rattle.undo.specs.Laws.{proper-till}
-use Rattle.undo.specs.Ring.{nextPlace, entryAt}
-use Rattle.undo.proofs.Ring.{placed-next}
+use Rattle.undo.specs.Ring.{entryAt}
+use Rattle.undo.proofs.Ring.{straight-place, turned-place}
 
 -- the test of an epoch, one law for each way out
 module _ (epoch least most : ℕ) where
@@ -49,10 +48,7 @@ module _ (word lines least most : ℕ) (t : Bool) (address : t ≡ ltb (decodeEn
     unfolding properBetween
     word-till r x e d between = between ∙ rw (← address, not-false t named, ← range, not-false s x, d .is)
 
--- one lower bound stands for both: what is at or above least is above P, and not below the older entry's ValidTill
-abbrev pub Bounds : (persisted older least : ℕ) → Type 0
-Bounds persisted older least = (till : ℕ) → leb least till ≡ ltb persisted till && leb older till
-
+-- the two lower bounds of a ValidTill that one stands for
 bounds-first : (persisted : ℕ) → Bounds persisted 0 (persisted + 1)
 bounds-first persisted till = go (ltb persisted till) refl
   where
@@ -81,53 +77,53 @@ proper-between lines persisted older least h e =
     (ap (λ (t : Bool). t && leb (e .till) (persisted + mostAhead))
     (sym (and-assoc (ltb (e .address) lines && ltb (e .from) (e .till)) (ltb persisted (e .till)) (leb older (e .till)))))
 
--- the search for the first improper entry carries its place and the lower bound of its ValidTill
-pub record Searched (board : List ℕ) (u : LogState) (lines i at least : ℕ) : Type 0 where
-  pub walked : Walked (properAt board u lines) (u .control .length) i
-  pub placed : Placed u i at
-  pub carried : Bounds (u .control .persisted) (olderTill board u i) least
-
-pub search-start : (board : List ℕ) (u : LogState) (lines at : ℕ) → Placed u 0 at → Searched board u lines 0 at (u .control .persisted + 1)
-unfolding olderTill
-search-start board u lines at p =
-    record {
-      walked = walk-start (properAt board u lines) (u .control .length);
-      placed = p;
-      carried = bounds-first (u .control .persisted);
-    }
-
-module _ {board : List ℕ} {u : LogState} {lines i at least : ℕ} (s : Searched board u lines i at least) where
-  pub search-end : u .control .length ≤ i → i ≡ firstImproper board u lines
-  unfolding firstImproper
+-- the search for the first improper entry, from one on up to another
+module _ {board : List ℕ} {u : LogState} {lines i at least to : ℕ} (s : Searched board u lines i at least to) where
+  pub search-end : to ≤ i → i ≡ first (properAt board u lines) to
   search-end h = walk-end (s .walked) h
 
-  word-read : decodeEntry (getD board (logAt + at) 0) ≡ entryIn board u i
-  unfolding entryIn
-  word-read = rw (← s .placed .is)
+  module _ (h : i < to) where
+    word-read : decodeEntry (getD board (logAt + at) 0) ≡ entryIn board u i
+    unfolding entryIn
+    word-read =
+        let here : placeOf u (i + 0) ≡ at + 2 * 0 = s .straight .placed 0 (omega arith) in
+        let i-here : i + 0 ≡ i = omega arith in
+        let at-here : at + 2 * 0 ≡ at = omega arith in
+        let same : placeOf u i ≡ at = ap (placeOf u) (sym i-here) ∙ here ∙ at-here in
+        ap (λ (p : ℕ). decodeEntry (getD board (logAt + p) 0)) (sym same)
 
-  module _ (t : Bool) (a : t ≡ properBetween lines least (u .control .persisted + mostAhead) (decodeEntry (getD board (logAt + at) 0)))
-      (h : i < u .control .length) where
-    tested : t ≡ properAt board u lines i
-    unfolding properAt
-    tested =
-        a ∙ ap (properBetween lines least (u .control .persisted + mostAhead)) word-read
-        ∙ proper-between lines _ _ least (s .carried) (entryIn board u i)
-
-    pub search-found : not t ≡ true → i ≡ firstImproper board u lines
-    unfolding firstImproper
-    search-found x = walk-found (s .walked) t tested h x
-
-    pub search-next : (e : Entry) (r : ℕ) → Sound u → not t ≡ false → Decoded EntryFits (decodeEntry (getD board (logAt + at) 0)) e
-        → r ≡ nextPlace (2 * u .entries) at → Searched board u lines (i + 1) r (e .till)
-    unfolding olderTill
-    search-next e r sound x d n =
-        let same : e ≡ entryIn board u i = d .is ∙ word-read in
-        let above : u .control .persisted < entryIn board u i .till = proper-till board u lines i (sym tested ∙ not-false t x) in
+    straight-next : Straight u (i + 1) (at + 2) to
+    straight-next =
         record {
-          walked = walk-next (s .walked) t tested h x;
-          placed = placed-next u sound i at r (s .placed) n;
-          carried = rw (add-one, same) (bounds-next (u .control .persisted) (entryIn board u i .till) above);
+          within = omega arith;
+          room = omega (arith, s .straight .room);
+          placed = λ k below.
+              let e : i + 1 + k ≡ i + (k + 1) = omega arith in
+              let p : at + 2 * (k + 1) ≡ at + 2 + 2 * k = omega arith in
+              ap (placeOf u) e ∙ s .straight .placed (k + 1) (omega arith) ∙ p;
         }
+
+    module _ (t : Bool) (a : t ≡ properBetween lines least (u .control .persisted + mostAhead) (decodeEntry (getD board (logAt + at) 0))) where
+      tested : t ≡ properAt board u lines i
+      unfolding properAt
+      tested =
+          a ∙ ap (properBetween lines least (u .control .persisted + mostAhead)) word-read
+          ∙ proper-between lines _ _ least (s .carried) (entryIn board u i)
+
+      pub search-found : not t ≡ true → i ≡ first (properAt board u lines) to
+      search-found x = walk-found (s .walked) t tested h x
+
+      pub search-next : (e : Entry) → not t ≡ false → Decoded EntryFits (decodeEntry (getD board (logAt + at) 0)) e
+          → Searched board u lines (i + 1) (at + 2) (e .till) to
+      unfolding olderTill
+      search-next e x d =
+          let same : e ≡ entryIn board u i = d .is ∙ word-read in
+          let above : u .control .persisted < entryIn board u i .till = proper-till board u lines i (sym tested ∙ not-false t x) in
+          record {
+            walked = walk-next (s .walked) t tested h x;
+            straight = straight-next;
+            carried = rw (add-one, same) (bounds-next (u .control .persisted) (entryIn board u i .till) above);
+          }
 
 -- the test of a buffered entry's word, one law for each way out
 module _ (word lines epoch : ℕ) (t : Bool) (address : t ≡ ltb (decodeEntry word .address) lines) where
@@ -220,25 +216,118 @@ module _ (board : List ℕ) (target at left least : ℕ) where
           }
 
 -- the log's entries before the ring's end, and from its beginning on
+module _ (u : LogState) (sound : Sound u) where
+  stretch-low : (to : ℕ) → u .control .start + to ≤ u .entries → Straight u 0 (2 * u .control .start) to
+  stretch-low to h =
+      record {
+        within = omega arith;
+        room = omega arith;
+        placed = λ k below.
+            let e : 0 + k ≡ k = omega arith in
+            ap (placeOf u) e ∙ straight-place u sound k (omega arith);
+      }
+
+  stretch-high : u .entries - u .control .start ≤ u .control .length → Straight u (u .entries - u .control .start) 0 (u .control .length)
+  stretch-high h =
+      record {
+        within = h;
+        room = omega (arith, sound .room);
+        placed = λ k below. turned-place u sound k (omega (arith, sound .room, sound .begin));
+      }
+
+-- the search over both
+walked-to : (f : ℕ → Bool) (n i : ℕ) → i ≤ n → ((j : ℕ) → j < i → f j ≡ true) → Walked f n i
+walked-to f n zero h all = walk-start f n
+walked-to f n (suc i) h all = rw add-one at (walk-pass (walked-to f n i (omega arith) (λ j below. all j (omega arith))) h (all i (omega arith)))
+
+module _ (board : List ℕ) (u : LogState) (lines : ℕ) (sound : Sound u) (some : 1 ≤ lines) (most : lines ≤ mostLines)
+    (words : linesAt (u .entries) ≤ length board) where
+  ready-low : (to : ℕ) → u .control .start + to ≤ u .entries → SearchReady board u lines 0 (2 * u .control .start) (u .control .persisted + 1) to
+  unfolding olderTill
+  ready-low to h =
+      record {
+        sound = sound;
+        some = some;
+        most = most;
+        board-words = words;
+        searched =
+            record {
+              walked = walk-start (properAt board u lines) to;
+              straight = stretch-low u sound to h;
+              carried = bounds-first (u .control .persisted);
+            };
+      }
+
+  pub search-straight : u .control .length ≤ u .entries - u .control .start
+      → SearchReady board u lines 0 (2 * u .control .start) (u .control .persisted + 1) (u .control .length)
+  search-straight h = ready-low (u .control .length) (omega (arith, sound .begin))
+
+  abbrev before-end : ℕ
+  before-end = u .entries - u .control .start
+
+  pub search-low : SearchReady board u lines 0 (2 * u .control .start) (u .control .persisted + 1) before-end
+  search-low = ready-low before-end (omega (arith, sound .begin))
+
+  module _ (turns : before-end < u .control .length) (r : ℕ) (found : r ≡ first (properAt board u lines) before-end) where
+    pub search-early : r < before-end → r ≡ firstImproper board u lines
+    unfolding firstImproper
+    search-early h =
+        let whole : u .control .length ≡ before-end + (u .control .length - before-end) = omega arith in
+        found ∙ sym (first-early (properAt board u lines) before-end (u .control .length - before-end) (omega (arith, found)))
+        ∙ ap (first (properAt board u lines)) (sym whole)
+
+    module _ (passed : before-end ≤ r) where
+      proper : (i : ℕ) → i < before-end → properAt board u lines i ≡ true
+      proper = first-all (properAt board u lines) before-end (omega (arith, found))
+
+      abbrev last : ℕ
+      last = before-end - 1
+
+      last-read : decodeEntry (getD board (linesAt (u .entries) - 2) 0) ≡ entryIn board u last
+      unfolding entryIn
+      last-read =
+          let here : placeOf u last ≡ 2 * u .control .start + 2 * last = straight-place u sound last (omega (arith, sound .begin)) in
+          let e : linesAt (u .entries) - 2 ≡ logAt + placeOf u last = omega (arith, here, sound .begin) in
+          ap (λ (p : ℕ). decodeEntry (getD board p 0)) e
+
+      last-older : (e : Entry) → Decoded EntryFits (decodeEntry (getD board (linesAt (u .entries) - 2) 0)) e
+          → Bounds (u .control .persisted) (olderTill board u before-end) (e .till)
+      unfolding olderTill
+      last-older e d =
+          let same : e ≡ entryIn board u last = d .is ∙ last-read in
+          let behind : before-end ≡ suc last = omega (arith, sound .begin) in
+          let above : u .control .persisted < entryIn board u last .till = proper-till board u lines last (proper last (omega (arith, sound .begin))) in
+          rw (behind, same) (bounds-next (u .control .persisted) (entryIn board u last .till) above)
+
+      pub search-high : (lines-place : ℕ) → lines-place ≡ linesAt (u .entries) → (e : Entry)
+          → Decoded EntryFits (decodeEntry (getD board (lines-place - 2) 0)) e
+          → SearchReady board u lines before-end 0 (e .till) (u .control .length)
+      search-high lines-place p e d =
+          record {
+            sound = sound;
+            some = some;
+            most = most;
+            board-words = words;
+            searched =
+                record {
+                  walked = walked-to (properAt board u lines) (u .control .length) before-end (omega arith) proper;
+                  straight = stretch-high u sound (omega arith);
+                  carried = last-older e (rw p at d);
+                };
+          }
+
+pub search-all : (board : List ℕ) (u : LogState) (lines r : ℕ) → r ≡ first (properAt board u lines) (u .control .length) → r ≡ firstImproper board u lines
+unfolding firstImproper
+search-all board u lines r h = h
+
+-- the run that an advance drops, over both
 module _ (board : List ℕ) (u : LogState) (target : ℕ) (sound : Sound u) where
-  straight-place : (i : ℕ) → u .control .start + i < u .entries → placeOf u i ≡ 2 * u .control .start + 2 * i
-  unfolding placeOf
-  straight-place i h = rw (mod-eq-of-lt h) (omega arith)
-
-  turned-place : (i : ℕ) → i < u .entries → placeOf u (u .entries - u .control .start + i) ≡ 0 + 2 * i
-  unfolding placeOf
-  turned-place i h =
-      let round : u .control .start + (u .entries - u .control .start + i) ≡ i + u .entries = omega (arith, sound .begin) in
-      let e : (u .control .start + (u .entries - u .control .start + i)) % u .entries ≡ i =
-      ap (λ (n : ℕ). n % u .entries) round ∙ add-mod-right i (u .entries) ∙ mod-eq-of-lt h in
-      rw e (omega arith)
-
   straight-same : (n : ℕ) → u .control .start + n ≤ u .entries
       → first (expired board u target) n ≡ first (expiredFrom board target (2 * u .control .start)) n
   unfolding expired expiredFrom entryIn
   straight-same n h =
       first-same (expired board u target) (expiredFrom board target (2 * u .control .start)) n
-      (λ i below. ap (λ (p : ℕ). leb (decodeEntry (getD board (logAt + p) 0) .till) target) (straight-place i (omega arith)))
+      (λ i below. ap (λ (p : ℕ). leb (decodeEntry (getD board (logAt + p) 0) .till) target) (straight-place u sound i (omega arith)))
 
   pub kept-straight : (r : ℕ) → u .control .length ≤ u .entries - u .control .start
       → KeptFrom board target (2 * u .control .start) (u .control .length) 0 r → KeptBy board u target r
@@ -263,7 +352,7 @@ module _ (board : List ℕ) (u : LogState) (target : ℕ) (sound : Sound u) wher
     turned-same : (i : ℕ) → i < turned → expired board u target (straight + i) ≡ expiredFrom board target 0 i
     unfolding expired expiredFrom entryIn
     turned-same i below =
-        ap (λ (p : ℕ). leb (decodeEntry (getD board (logAt + p) 0) .till) target) (turned-place i (omega (arith, sound .room, sound .begin)))
+        ap (λ (p : ℕ). leb (decodeEntry (getD board (logAt + p) 0) .till) target) (turned-place u sound i (omega (arith, sound .room, sound .begin)))
 
     module _ (r : ℕ) (k : KeptFrom board target (2 * u .control .start) (u .control .length) turned r) where
       walked : u .control .length - r ≡ first (expired board u target) straight

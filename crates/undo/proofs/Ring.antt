@@ -1,15 +1,15 @@
--- An entry's place in the ring, and the steps from one to the next and to the one before.
+-- An entry's place in the ring, the step from one to the next, and the two stretches in which the entries stand one behind the other.
 use Prim.Native.Nat.{ℕ, _+_, _-_, _*_, _%_, _<_, _≤_}
 use mathlib.Core.Path.{_≡_, refl, sym, ap, _∙_}
 use mathlib.Core.Bool.{Bool, true, false, cond}
-use native.Mathlib.Nat.{mod-lt, mod-eq-of-lt, mod-self, suc-mod, add-mul-mod-self-right}
+use native.Mathlib.Nat.{mod-lt, mod-eq-of-lt, mod-self, suc-mod, add-mod-right, add-mul-mod-self-right}
 use native.Mathlib.Numerals.{add-one}
 use native.Mathlib.Omega.{arith}
-use borrow.Author.Tests.{leb-true, leb-false, eq-eqb, ne-eqb}
-use lib.Dec.{leb, eqb}
+use borrow.Author.Tests.{leb-true, leb-false}
+use lib.Dec.{leb}
 use Rattle.undo.specs.declared.LogState.{LogState}
 use Rattle.undo.specs.Log.{Sound, Placed, placeOf}
-use Rattle.undo.specs.Ring.{nextPlace, previousPlace}
+use Rattle.undo.specs.Ring.{nextPlace}
 
 -- start + i is below 2L: the remainder by L is the number itself, or the number less L
 module _ (u : LogState) (i : ℕ) (sound : Sound u) (within : i ≤ u .entries) where
@@ -27,10 +27,6 @@ module _ (u : LogState) (i : ℕ) (sound : Sound u) (within : i ≤ u .entries) 
         below = omega arith;
       }
 
-pub placed-even : (u : LogState) (i at : ℕ) → Placed u i at → at % 2 ≡ 0
-unfolding placeOf
-placed-even u i at p = omega (arith, p .is)
-
 -- the remainder of the number after x
 turn-within : (x n : ℕ) → x % n + 1 < n → (x + 1) % n ≡ x % n + 1
 turn-within x n h = ap (λ (y : ℕ). y % n) (add-one x) ∙ suc-mod x n ∙ ap (λ (y : ℕ). y % n) (sym (add-one (x % n))) ∙ mod-eq-of-lt h
@@ -38,7 +34,7 @@ turn-within x n h = ap (λ (y : ℕ). y % n) (add-one x) ∙ suc-mod x n ∙ ap 
 turn-around : (x n : ℕ) → x % n + 1 ≡ n → (x + 1) % n ≡ 0
 turn-around x n h = ap (λ (y : ℕ). y % n) (add-one x) ∙ suc-mod x n ∙ ap (λ (y : ℕ). y % n) (sym (add-one (x % n)) ∙ h) ∙ mod-self n
 
--- the two steps
+-- the step to the next
 module _ (x n : ℕ) (some : 0 < n) where
   turn-next : 2 * ((x + 1) % n) ≡ nextPlace (2 * n) (2 * (x % n))
   unfolding nextPlace
@@ -54,20 +50,6 @@ module _ (x n : ℕ) (some : 0 < n) where
           let z : (x + 1) % n ≡ x % n + 1 = turn-within x n (omega arith) in
           omega arith
 
-  turn-previous : 2 * (x % n) ≡ previousPlace (2 * n) (2 * ((x + 1) % n))
-  unfolding previousPlace
-  turn-previous = go (leb n (x % n + 1)) refl
-    where
-      go : (t : Bool) → leb n (x % n + 1) ≡ t → 2 * (x % n) ≡ cond (eqb (2 * ((x + 1) % n)) 0) (2 * n - 2) (2 * ((x + 1) % n) - 2)
-      go true e =
-          let h : n ≤ x % n + 1 = leb-true n (x % n + 1) e in
-          let z : (x + 1) % n ≡ 0 = turn-around x n (omega (arith, mod-lt x some)) in
-          rw (eq-eqb (2 * ((x + 1) % n)) 0 (omega arith)) (omega (arith, mod-lt x some))
-      go false e =
-          let h : x % n + 1 < n = leb-false n (x % n + 1) e in
-          let z : (x + 1) % n ≡ x % n + 1 = turn-within x n (omega arith) in
-          rw (ne-eqb (2 * ((x + 1) % n)) 0 (λ y. omega arith)) (omega arith)
-
 module _ (u : LogState) (sound : Sound u) where
   pub place-below : (i : ℕ) → placeOf u i + 1 < 2 * u .entries
   unfolding placeOf
@@ -79,18 +61,22 @@ module _ (u : LogState) (sound : Sound u) where
       let e : u .control .start + (i + 1) ≡ u .control .start + i + 1 = omega arith in
       ap (λ (x : ℕ). 2 * (x % u .entries)) e ∙ turn-next (u .control .start + i) (u .entries) (sound .some)
 
-  place-previous : (i : ℕ) → placeOf u i ≡ previousPlace (2 * u .entries) (placeOf u (i + 1))
-  unfolding placeOf
-  place-previous i =
-      let e : u .control .start + i + 1 ≡ u .control .start + (i + 1) = omega arith in
-      turn-previous (u .control .start + i) (u .entries) (sound .some)
-      ∙ ap (λ (x : ℕ). previousPlace (2 * u .entries) (2 * (x % u .entries))) e
-
   placed-at : (i r : ℕ) → r ≡ placeOf u i → Placed u i r
   placed-at i r h = record { is = h; below = omega (arith, place-below i) }
 
   pub placed-next : (i at r : ℕ) → Placed u i at → r ≡ nextPlace (2 * u .entries) at → Placed u (i + 1) r
   placed-next i at r p h = placed-at (i + 1) r (h ∙ ap (nextPlace (2 * u .entries)) (p .is) ∙ sym (place-next i))
 
-  pub placed-previous : (i at r : ℕ) → Placed u (i + 1) at → r ≡ previousPlace (2 * u .entries) at → Placed u i r
-  placed-previous i at r p h = placed-at i r (h ∙ ap (previousPlace (2 * u .entries)) (p .is) ∙ sym (place-previous i))
+-- the log's entries before the ring's end, and from its beginning on
+module _ (u : LogState) (sound : Sound u) where
+  pub straight-place : (i : ℕ) → u .control .start + i < u .entries → placeOf u i ≡ 2 * u .control .start + 2 * i
+  unfolding placeOf
+  straight-place i h = rw (mod-eq-of-lt h) (omega arith)
+
+  pub turned-place : (i : ℕ) → i < u .entries → placeOf u (u .entries - u .control .start + i) ≡ 0 + 2 * i
+  unfolding placeOf
+  turned-place i h =
+      let round : u .control .start + (u .entries - u .control .start + i) ≡ i + u .entries = omega (arith, sound .begin) in
+      let e : (u .control .start + (u .entries - u .control .start + i)) % u .entries ≡ i =
+      ap (λ (n : ℕ). n % u .entries) round ∙ add-mod-right i (u .entries) ∙ mod-eq-of-lt h in
+      rw e (omega arith)

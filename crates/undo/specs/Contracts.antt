@@ -6,17 +6,17 @@ use mathlib.Core.List.{List}
 use lib.Count.{ones}
 use lib.Dec.{ltb, leb}
 use lib.ListN.{length}
-use Rattle.base.specs.Walk.{first}
+use Rattle.base.specs.Walk.{first, Walked}
 use Rattle.board.specs.declared.Meter.{Meter}
-use Rattle.board.specs.Stores.{Ran}
+use Rattle.board.specs.Stores.{Store, Ran}
 use Rattle.layout.specs.declared.Entry.{Entry}
-use Rattle.layout.specs.Limits.{wordBits, epochBits, bufferPlaces, filterSize}
+use Rattle.layout.specs.Limits.{wordBits, epochBits, mostLines, bufferPlaces, filterSize}
 use Rattle.layout.specs.Memory.{linesAt, boardWords, bufferWords, entryWords}
 use Rattle.layout.specs.Words.{EntryFits}
 use Rattle.undo.specs.declared.LogState.{LogState}
 use Rattle.undo.specs.declared.Progress.{Progress}
 use Rattle.undo.specs.Filter.{firstBit, secondBit, isSet}
-use Rattle.undo.specs.Log.{Sound, properAt, flushStores, flushed, flushedBuffer, pushed, counted}
+use Rattle.undo.specs.Log.{Sound, placeOf, olderTill, properAt, restoreTurn, flushStores, flushed, flushedBuffer, pushed, counted}
 use Rattle.undo.specs.Ring.{entryAt}
 
 -- a proper entry, with one bound of ValidTill on either side: from below the larger of P + 1 and the next older entry's ValidTill
@@ -67,6 +67,29 @@ pub record PushReady (buffer : List ℕ) (u : LogState) (e : Entry) : Type 0 whe
   pub place : u .buffered < bufferPlaces
   pub buffer-words : length buffer ≡ bufferWords
 
+-- the entries from one on up to another stand one behind the other from a place on
+pub record Straight (u : LogState) (from place to : ℕ) : Type 0 where
+  pub within : from ≤ to
+  pub room : place + entryWords * (to - from) ≤ entryWords * u .entries
+  pub placed : (k : ℕ) → from + k < to → placeOf u (from + k) ≡ place + entryWords * k
+
+-- one lower bound stands for both: what is at or above least is above P, and not below the older entry's ValidTill
+abbrev pub Bounds : (persisted older least : ℕ) → Type 0
+Bounds persisted older least = (till : ℕ) → leb least till ≡ ltb persisted till && leb older till
+
+-- a search for the first improper entry that has come to entry i, which stands at a place, and goes on up to another
+pub record Searched (board : List ℕ) (u : LogState) (lines i at least to : ℕ) : Type 0 where
+  pub walked : Walked (properAt board u lines) to i
+  pub straight : Straight u i at to
+  pub carried : Bounds (u .control .persisted) (olderTill board u i) least
+
+pub record SearchReady (board : List ℕ) (u : LogState) (lines i at least to : ℕ) : Type 0 where
+  pub sound : Sound u
+  pub some : 1 ≤ lines
+  pub most : lines ≤ mostLines
+  pub board-words : linesAt (u .entries) ≤ length board
+  pub searched : Searched board u lines i at least to
+
 -- entry i from a place on, counted from the log's first word, is useless once the target is persisted
 unfoldable pub expiredFrom : List ℕ → (target at : ℕ) → ℕ → Bool
 expiredFrom board target at i = leb (entryAt board (at + entryWords * i) .till) target
@@ -88,6 +111,22 @@ pub record RecoverReady (board : List ℕ) (u : LogState) (lines : ℕ) : Type 0
   pub sound : Sound u
   pub board-words : boardWords lines (u .entries) ≤ length board
   pub proper : (i : ℕ) → i < u .control .length → properAt board u lines i ≡ true
+
+-- turn j from one on
+unfoldable pub turnFrom : List ℕ → LogState → (from : ℕ) → ℕ → List Store
+turnFrom board u from j = restoreTurn board u (from + j)
+
+-- the entries of the turns from one on up to another stand one before the other below a place
+pub record Below (u : LogState) (place from to : ℕ) : Type 0 where
+  pub within : from ≤ to
+  pub all : to ≤ u .control .length
+  pub room : entryWords * (to - from) ≤ place
+  pub most : place ≤ entryWords * u .entries
+  pub placed : (k : ℕ) → from + k < to → placeOf u (u .control .length - (from + k + 1)) + entryWords * (k + 1) ≡ place
+
+pub record TurnsReady (board : List ℕ) (u : LogState) (lines place from to : ℕ) : Type 0 where
+  pub ready : RecoverReady board u lines
+  pub below : Below u place from to
 
 -- the restoring of the entry at a place
 pub record RestoreReady (board : List ℕ) (u : LogState) (at : ℕ) : Type 0 where

@@ -1,9 +1,9 @@
--- A walk over the ring by places, which count from the log's first word: the steps from an entry's place to its neighbours',
--- and what the walk reads and stores there.
-use Prim.Native.Nat.{ℕ, _+_, _-_}
+-- A walk over the ring by places, which count from the log's first word: the step from an entry's place to that of the next, and
+-- what a walk reads and stores there.
+use Prim.Native.Nat.{ℕ, _+_}
 use mathlib.Core.Bool.{cond}
 use mathlib.Core.List.{List, []}
-use lib.Dec.{leb, eqb}
+use lib.Dec.{leb}
 use lib.ListN.{getD}
 use Rattle.board.specs.Stores.{Store, one}
 use Rattle.layout.specs.declared.Entry.{Entry}
@@ -14,9 +14,6 @@ use Rattle.undo.specs.declared.LogState.{LogState}
 -- end is the number of the ring's words
 unfoldable pub nextPlace : (end at : ℕ) → ℕ
 nextPlace end at = cond (leb end (at + 2)) 0 (at + 2)
-
-unfoldable pub previousPlace : (end at : ℕ) → ℕ
-previousPlace end at = cond (eqb at 0) (end - 2) (at - 2)
 
 abbrev pub entryAt : List ℕ → ℕ → Entry
 entryAt board at = decodeEntry (getD board (logAt + at) 0)

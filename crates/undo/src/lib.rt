@@ -1,22 +1,22 @@
 // The undo log on the board, and the undo buffer before it.
 mod filter;
+mod recovery;
 
-ghost use Prim.Native.Nat.{_+_, _-_, _*_, _%_, _^_, _<_, _≤_};
+ghost use Prim.Native.Nat.{_+_, _-_, _*_, _^_, _<_, _≤_};
 ghost use lib.Dec.{leb};
 ghost use lib.ListN.{length};
 ghost use mathlib.Core.Bool.{_&&_};
 ghost use mathlib.Core.Path.{_≡_};
+ghost use Rattle.base.specs.Walk.{first};
 ghost use Rattle.board.specs.Stores.{Ran, each};
 ghost use Rattle.layout.specs.Limits.{epochBits, mostLines, mostEntries, bufferPlaces};
 ghost use Rattle.layout.specs.Memory.{logAt, linesAt, bufferWords, entryWords};
 ghost use Rattle.layout.specs.Words.{decodeEntry};
 ghost use Rattle.undo.specs.Entries.{properBuffered};
-ghost use Rattle.undo.specs.Log.{Sound, Placed, firstImproper, bufferProper, bufferMarked};
+ghost use Rattle.undo.specs.Log.{Sound, Placed, properAt, firstImproper, bufferProper, bufferMarked};
 ghost use Rattle.undo.specs.Log.{DroppedBy, KeptBy, entryStores, counted, flushed, advanceStores};
-ghost use Rattle.undo.specs.Log.{restoreTurn, recoverStores};
-ghost use Rattle.undo.specs.Ring.{nextPlace, previousPlace, restoreAt};
-ghost use Rattle.undo.specs.Contracts.{properBetween, Flushes, FlushReady, Pushes, PushReady, AdvanceReady, RecoverReady, RestoreReady};
-ghost use Rattle.undo.specs.Contracts.{KeptFrom};
+ghost use Rattle.undo.specs.Ring.{nextPlace};
+ghost use Rattle.undo.specs.Contracts.{properBetween, SearchReady, KeptFrom, Flushes, FlushReady, Pushes, PushReady, AdvanceReady};
 use board::Meter;
 pub use filter::bits_set;
 pub use filter::is_hit;
@@ -26,6 +26,7 @@ use layout::ENTRY_WORDS;
 use layout::Entry;
 use layout::LOG_AT;
 use layout::MOST_AHEAD;
+pub use recovery::recover;
 
 // The undo log as a call carries it: what the control word says, how many entries the ring has place for (the paper's L)
 // and how many the buffer holds.
@@ -123,19 +124,41 @@ fn next(end: usize, at: usize) -> usize
     at + ENTRY_WORDS
 }
 
-// From an entry's place to that of the one before.
-fn previous(end: usize, at: usize) -> usize
-    requires { ⌜ 1 < end ⌝ }
-    requires { ⌜ at % 2 ≡ 0 ⌝ }
-    ensures { λ r. ⌜ r ≡ previousPlace end at ⌝ }
+// The first improper entry of those from an entry on up to another, which stand one behind the other from a place on; the other where all are proper.
+// No till among them may be below the bound, nor below that of the entry before.
+fn improper_from(
+    board: &[u64],
+    undo: LogState,
+    lines: u64,
+    from: u64,
+    place: usize,
+    bound: u64,
+    to: u64,
+) -> u64
+    requires { ⌜ SearchReady (now board) undo lines from place bound to ⌝ }
+    ensures { λ r. ⌜ r ≡ first (properAt (now (board .entry)) undo lines) to ⌝ }
 {
-    if at == 0 {
-        return end - ENTRY_WORDS;
-    }
-    at - ENTRY_WORDS
+    let mut i = from;
+    let mut at = place;
+    let mut least = bound;
+    let found = loop {
+        if i >= to {
+            break i;
+        }
+        let word = board[LOG_AT + at];
+        let most = undo.control.persisted + MOST_AHEAD;
+        if !is_proper_word(word, lines, least, most) {
+            break i;
+        }
+        least = Entry::decode(word).till;
+        at += ENTRY_WORDS;
+        i += 1;
+    };
+    found
 }
 
-// The place of the first improper entry of the log, the oldest counted 0, or the log's length where all are proper.
+// The place of the first improper entry of the log, the oldest counted 0, or the log's length where all are proper: first those before the ring's
+// end, then those from its beginning on.
 pub fn first_improper(board: &[u64], undo: LogState, lines: u64) -> u64
     requires { ⌜ Sound undo ⌝ }
     requires { ⌜ 1 ≤ lines ⌝ }
@@ -143,24 +166,19 @@ pub fn first_improper(board: &[u64], undo: LogState, lines: u64) -> u64
     requires { ⌜ linesAt (undo .entries) ≤ length (now board) ⌝ }
     ensures { λ r. ⌜ r ≡ firstImproper (now (board .entry)) undo lines ⌝ }
 {
-    let end = ENTRY_WORDS * undo.entries as usize;
-    let mut i: u64 = 0;
-    let mut at = place(undo, 0);
-    let mut least = undo.control.persisted + 1;
-    let most = undo.control.persisted + MOST_AHEAD;
-    let found = loop {
-        if i >= undo.control.length {
-            break i;
-        }
-        let word = board[LOG_AT + at];
-        if !is_proper_word(word, lines, least, most) {
-            break i;
-        }
-        least = Entry::decode(word).till;
-        at = next(end, at);
-        i += 1;
-    };
-    found
+    let start = ENTRY_WORDS * undo.control.start as usize;
+    let least = undo.control.persisted + 1;
+    let straight = undo.entries - undo.control.start;
+    if undo.control.length <= straight {
+        return improper_from(board, undo, lines, 0, start, least, undo.control.length);
+    }
+    let found = improper_from(board, undo, lines, 0, start, least, straight);
+    if found < straight {
+        return found;
+    }
+    let end = layout::lines_at(undo.entries);
+    let older = Entry::decode(board[end - ENTRY_WORDS]).till;
+    improper_from(board, undo, lines, straight, 0, older, undo.control.length)
 }
 
 // Of left entries that stand one behind the other from a place on, those are dropped that the target makes useless, up to the first that it does
@@ -336,50 +354,4 @@ pub fn advance(board: &mut [u64], undo: LogState, target: u64, meter: Meter) -> 
         length: undo.control.length - run,
     };
     board::put(board, CONTROL_AT, control.encode(), meter)
-}
-
-// The old data of the entry at a place to its line, if it covers the persisted epoch. The log is proper: no entry ends at that
-// epoch or before it.
-fn restore_entry(board: &mut [u64], undo: LogState, at: usize, meter: Meter) -> Meter
-    requires { ⌜ RestoreReady (now board) undo at ⌝ }
-    ensures { λ r. ⌜ Ran (now (board .entry)) meter (restoreAt (now (board .entry)) undo at) (now (board .exit)) r ⌝ }
-{
-    let entry = Entry::decode(board[LOG_AT + at]);
-    if entry.from > undo.control.persisted {
-        return meter;
-    }
-    let old = board[LOG_AT + at + 1];
-    let first_line = layout::lines_at(undo.entries);
-    board::put(&mut board[first_line..], entry.address as usize, old, meter)
-}
-
-// From the newest entry to the oldest, so that a line gets the data of its oldest covering entry.
-fn restore(board: &mut [u64], undo: LogState, lines: u64, meter: Meter) -> Meter
-    requires { ⌜ RecoverReady (now board) undo lines ⌝ }
-    ensures { λ r. ⌜ Ran (now (board .entry)) meter (each (restoreTurn (now (board .entry)) undo) (undo .control .length)) (now (board .exit)) r ⌝ }
-{
-    let end = ENTRY_WORDS * undo.entries as usize;
-    let mut last = meter;
-    let mut at = place(undo, undo.control.length);
-    let mut j: u64 = 0;
-    while j < undo.control.length {
-        at = previous(end, at);
-        last = restore_entry(board, undo, at, last);
-        j += 1;
-    }
-    last
-}
-
-// The lines as of the persisted epoch, and only then an empty log.
-pub fn recover(board: &mut [u64], undo: LogState, lines: u64, meter: Meter) -> Meter
-    requires { ⌜ RecoverReady (now board) undo lines ⌝ }
-    ensures { λ r. ⌜ Ran (now (board .entry)) meter (recoverStores (now (board .entry)) undo) (now (board .exit)) r ⌝ }
-{
-    let restored = restore(board, undo, lines, meter);
-    let control = Control {
-        persisted: undo.control.persisted,
-        start: 0,
-        length: 0,
-    };
-    board::put(board, CONTROL_AT, control.encode(), restored)
 }

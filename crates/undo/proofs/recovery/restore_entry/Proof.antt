@@ -1,7 +1,7 @@
 use borrow.Author.Needs.{needs}
 use Rattle.undo.proofs.Restoring.{restore-line, restore-skipped, restore-made}
-use Rattle.undo.proofs.restore_entry.Statement.{statement}
-use Rattle.undo.proofs.restore_entry.Tie as tie
+use Rattle.undo.proofs.recovery.restore_entry.Statement.{statement}
+use Rattle.undo.proofs.recovery.restore_entry.Tie as tie
 
 add-decode : tie.Need-add-decode
 add-decode c = search needs

@@ -1,7 +1,7 @@
 use Rattle.undo.proofs.Restoring.{recover-done}
 use borrow.Author.Needs.{needs}
-use Rattle.undo.proofs.recover.Statement.{statement}
-use Rattle.undo.proofs.recover.Tie as tie
+use Rattle.undo.proofs.recovery.recover.Statement.{statement}
+use Rattle.undo.proofs.recovery.recover.Tie as tie
 
 restore-requires : tie.Need-restore-requires
 restore-requires c κs = search needs
