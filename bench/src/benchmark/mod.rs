@@ -1,5 +1,6 @@
 //! The benchmark: both sides in one process, on the same inputs, through the same loop.
 
+mod aligned;
 mod region;
 mod rows;
 mod times;

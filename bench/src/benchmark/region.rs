@@ -1,5 +1,6 @@
 //! The measured part: a loop that makes the calls of a trace, or all records of an export, the same for both sides.
 
+use super::aligned::Aligned;
 use crate::call::Call;
 use crate::handwritten::hex::TEXT_BYTES;
 use crate::handwritten::HandWritten;
@@ -24,8 +25,8 @@ pub enum Piece<'a> {
 
 /// One side's own copy of them, and a text for records.
 pub struct Memories<C: CacheLog> {
-    board: Vec<u64>,
-    work: Vec<u64>,
+    board: Aligned,
+    work: Aligned,
     registers: C::Registers,
     text: [u8; TEXT_BYTES],
 }
@@ -33,37 +34,39 @@ pub struct Memories<C: CacheLog> {
 impl<C: CacheLog> Memories<C> {
     pub fn new(start: &Start) -> Self {
         Memories {
-            board: start.board.clone(),
-            work: start.work.clone(),
+            board: Aligned::new(&start.board),
+            work: Aligned::new(&start.work),
             registers: start.registers.into(),
             text: [0; TEXT_BYTES],
         }
     }
 
     pub fn restore(&mut self, start: &Start) {
-        self.board.copy_from_slice(&start.board);
-        self.work.copy_from_slice(&start.work);
+        self.board.words_mut().copy_from_slice(&start.board);
+        self.work.words_mut().copy_from_slice(&start.work);
         self.registers = start.registers.into();
     }
 
     pub fn into_start(self) -> Start {
         Start {
-            board: self.board,
-            work: self.work,
+            board: self.board.words().to_vec(),
+            work: self.work.words().to_vec(),
             registers: self.registers.into(),
         }
     }
 
     pub fn make(&mut self, call: Call) -> Answer {
-        call.make::<C>(&mut self.board, &mut self.work, &mut self.registers)
+        call.make::<C>(self.board.words_mut(), self.work.words_mut(), &mut self.registers)
     }
 
     /// Makes all calls of the trace and gives the sum of all answers, by which the two sides are compared.
     #[inline(always)]
     fn play(&mut self, trace: &[Call]) -> u64 {
+        let board = self.board.words_mut();
+        let work = self.work.words_mut();
         let mut sum: u64 = 0;
         for &call in trace {
-            let answer = call.make::<C>(&mut self.board, &mut self.work, &mut self.registers);
+            let answer = call.make::<C>(board, work, &mut self.registers);
             sum = with_answer(sum, answer);
         }
         sum
@@ -72,9 +75,10 @@ impl<C: CacheLog> Memories<C> {
     /// Exports the records, each into the same text, and gives the sum of all answers.
     #[inline(always)]
     fn export(&mut self, records: Range<u64>) -> u64 {
+        let board = self.board.words();
         let mut sum: u64 = 0;
         for record in records {
-            let answer = C::hex_out(&self.board, &mut self.text, record);
+            let answer = C::hex_out(board, &mut self.text, record);
             sum = with_answer(sum, answer);
         }
         sum

@@ -7,7 +7,7 @@ use crate::library::Library;
 use std::time::{Duration, Instant};
 
 /// Odd, so that the median is one of them.
-pub const REPETITIONS: usize = 301;
+pub const REPETITIONS: usize = 1_001;
 /// Repetitions before the first that counts.
 const WARMING: usize = 5;
 
@@ -30,12 +30,20 @@ pub fn take_times(row: &Prepared) -> Times {
     let mut library_times = Vec::new();
     let mut handwritten_times = Vec::new();
     for repetition in 0..WARMING + REPETITIONS {
-        let (library_time, library_sum) = time_once(row, &mut library, clock_cost);
-        let (handwritten_time, handwritten_sum) = time_once(row, &mut handwritten, clock_cost);
-        assert_eq!(library_sum, handwritten_sum, "the sides answer differently");
+        let mut time_library = || time_once(row, &mut library, clock_cost);
+        let mut time_handwritten = || time_once(row, &mut handwritten, clock_cost);
+        // Each side goes first every other time.
+        let (of_library, of_handwritten) = if repetition % 2 == 0 {
+            let of_library = time_library();
+            (of_library, time_handwritten())
+        } else {
+            let of_handwritten = time_handwritten();
+            (time_library(), of_handwritten)
+        };
+        assert_eq!(of_library.sum, of_handwritten.sum, "the sides answer differently");
         if repetition >= WARMING {
-            library_times.push(library_time);
-            handwritten_times.push(handwritten_time);
+            library_times.push(of_library.time);
+            handwritten_times.push(of_handwritten.time);
         }
     }
     assert!(
@@ -48,8 +56,14 @@ pub fn take_times(row: &Prepared) -> Times {
     }
 }
 
-/// The time of all measured calls together, in nanoseconds, and the sum of the answers.
-fn time_once<C: Measured>(row: &Prepared, memories: &mut Memories<C>, clock_cost: f64) -> (f64, u64) {
+struct Played {
+    /// Of all measured calls together, in nanoseconds.
+    time: f64,
+    /// Of all answers.
+    sum: u64,
+}
+
+fn time_once<C: Measured>(row: &Prepared, memories: &mut Memories<C>, clock_cost: f64) -> Played {
     memories.restore(&row.start);
     let mut sum: u64 = 0;
     let mut time = Duration::ZERO;
@@ -65,13 +79,22 @@ fn time_once<C: Measured>(row: &Prepared, memories: &mut Memories<C>, clock_cost
             sum = sum.wrapping_add(memories.play_unmeasured(piece));
         }
     });
-    (time.as_nanos() as f64 - pieces * clock_cost, sum)
+    Played {
+        time: time.as_nanos() as f64 - pieces * clock_cost,
+        sum,
+    }
 }
 
-/// What it costs to read the clock twice: it is taken off each time.
+/// What it costs to read the clock twice, in nanoseconds: it is taken off the time of each piece. It is the median of means, since a
+/// clock may go by steps that are as long as a short call.
 fn clock_cost() -> f64 {
-    let times = (0..10_001).map(|_| Instant::now().elapsed().as_nanos() as f64);
-    median(times.collect())
+    const MEANS: usize = 101;
+    const READINGS: u32 = 1_000;
+    let mean = |_| {
+        let sum: Duration = (0..READINGS).map(|_| Instant::now().elapsed()).sum();
+        sum.as_nanos() as f64 / f64::from(READINGS)
+    };
+    median((0..MEANS).map(mean).collect())
 }
 
 fn median(mut times: Vec<f64>) -> f64 {
