@@ -51,11 +51,7 @@ fn epoch_in_midst(order: Order, slots: usize, access: fn(u64) -> Call) -> (Start
         access: Call::load,
         scans_per_epoch: slots + 1,
     };
-    let without_scans = Work {
-        scans_per_epoch: 0,
-        ..before
-    };
-    let mut calls = without_scans.epoch(random);
+    let mut calls = before.without_scans().epoch(random);
     for _ in 0..2 {
         calls.extend(before.epoch(random));
     }

@@ -2,7 +2,6 @@
 //! either takes, from the same state.
 
 use super::controller::{Controller, Figures, Plan, EPOCHS_BEFORE, SEED};
-use super::workload::Work;
 use crate::call::Call;
 use crate::handwritten::layout::{MOST_LINES, MOST_WAITING};
 use crate::interface::OK;
@@ -55,16 +54,12 @@ fn with_backlog(plan: Plan) -> Result<Controller, String> {
     let random = &mut Random::new(SEED);
     let lines = plan.order.lines(random, MOST_LINES);
     let work = plan.work(&lines);
-    let without_scans = Work {
-        scans_per_epoch: 0,
-        ..work
-    };
     let mut controller = Controller::start(plan)?;
     for _ in 0..EPOCHS_BEFORE {
         controller.epoch(&work.epoch(random))?;
     }
     while controller.waiting() < MOST_WAITING {
-        controller.epoch(&without_scans.epoch(random))?;
+        controller.epoch(&work.without_scans().epoch(random))?;
     }
     controller.figures = Figures::default();
     Ok(controller)

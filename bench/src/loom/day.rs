@@ -3,7 +3,7 @@
 
 use super::backlog::scan_to_the_end;
 use super::controller::{Controller, Plan, SEED};
-use super::workload::{Order, Work, LINES_OF_A_LOOM, STORES_PER_EPOCH};
+use super::workload::{Order, LINES_OF_A_LOOM, STORES_PER_EPOCH};
 use crate::call::{Call, Kind};
 use crate::handwritten::layout::{MOST_LINES, MOST_WAITING};
 use crate::interface::{OK, WAITING};
@@ -85,12 +85,8 @@ fn work_through(scans_per_epoch: usize, epochs: Range<u64>, mut say: impl FnMut(
     let random = &mut Random::new(SEED);
     let lines = plan.order.lines(random, MOST_LINES);
     let work = plan.work(&lines);
-    let without_scans = Work {
-        scans_per_epoch: 0,
-        ..work
-    };
     // The stores are the same in each epoch, their data too: the library does not compare data.
-    let [usual, busy] = [work, without_scans].map(|work| work.epoch(random));
+    let [usual, busy] = [work, work.without_scans()].map(|work| work.epoch(random));
     let mut controller = Controller::start(plan)?;
     for epoch in epochs {
         let calls = if is_busy(epoch) { &busy } else { &usual };

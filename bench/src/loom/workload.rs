@@ -102,6 +102,13 @@ pub struct Work<'a> {
 }
 
 impl Work<'_> {
+    pub fn without_scans(self) -> Self {
+        Work {
+            scans_per_epoch: 0,
+            ..self
+        }
+    }
+
     /// The turns of an epoch, and a commit.
     pub fn epoch(self, random: &mut Random) -> Vec<Call> {
         let turns = (0..STORES_PER_EPOCH).flat_map(|turn| self.turn(random, turn));
