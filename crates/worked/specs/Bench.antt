@@ -1,6 +1,7 @@
 -- The bench of the worked examples: a board as the paper's replay formats it, "n 4 8 4", and one line in the cache. Every example
 -- is about line 3, which slot 1 of the only set holds; the board has 7 for it, and a store puts 9.
-use Prim.Native.Nat.{ℕ, _-_, _*_}
+use Prim.Native.Nat.{ℕ, _+_, _-_, _*_}
+use mathlib.Core.Path.{_≡_}
 use mathlib.Core.Bool.{Bool, true, false}
 use mathlib.Core.List.{List, [], _∷_, _++_}
 use lib.ListN.{length, replicate, set}
@@ -14,8 +15,8 @@ use Rattle.status.specs.declared.Status.the-variants as status
 use Rattle.checks.specs.declared.Registers.{Registers}
 use Rattle.checks.specs.Registers.{zero, given}
 use Rattle.picl.specs.declared.Answer.{Answer}
-use Rattle.picl.specs.Answers.{Verdict, answer}
-use Rattle.board.specs.Verdict.{due}
+use Rattle.picl.specs.Answers.{Verdict, answer, answerOf}
+use Rattle.board.specs.Verdict.{due, boardAfter}
 use Rattle.picl.specs.Calls.{storeVerdict, evictVerdict, commitVerdict, scanVerdict, powerUpVerdict}
 
 -- words by their fields
@@ -45,6 +46,10 @@ ending till₁ till₂ = undo 3 0 till₁ 4 ++ undo 3 1 till₂ 6
 -- one for it that ends in the last epoch
 abbrev pub endingLast : List ℕ
 endingLast = undo 3 0 lastEpoch 4
+
+-- two with W5's range, over the ring's end: the older, with the data 4, in the log's last place, the newer, with 6, in its first
+abbrev pub around : List ℕ
+around = undo 3 1 3 6 ++ (replicate 12 0 ++ undo 3 1 3 4)
 
 -- W6's log
 abbrev pub twice : List ℕ
@@ -86,6 +91,12 @@ quiet persisted = board (control persisted 0 0) [] 7
 -- power-up
 abbrev pub wake : Control → (log : List ℕ) → Verdict
 wake c log = powerUpVerdict (board c log 7) (work clean 7 [] unmarked)
+
+-- with W5's range in the log: a power-up makes so many stores, and leaves line 3 so
+abbrev pub WakesAs : (persisted stores line : ℕ) → Type 0
+WakesAs persisted stores line =
+    (answerOf stores zero (wake (control persisted 7 2) around) ≡ answer status.Ok 0 stores (given (persisted + 1) 0 0 0 0))
+    × (boardAfter stores (board (control persisted 7 2) around 7) (wake (control persisted 7 2) around) ≡ board (control persisted 0 0) around line)
 
 -- a store to line 3, as slot 1 holds it: the others are empty, so that slot 1 alone counts as dirty or not
 abbrev pub store : (persisted epoch : ℕ) → Slot → Verdict

@@ -43,7 +43,7 @@ use Rattle.text.specs.Text.{placesOf, decimalOf, numbersText, nameText}
 use Rattle.trace.specs.Run.{plus, begun, called, taken, turn, after, ran, lineText, printed}
 use Rattle.worked.specs.Recorded.{zeros, wrote, bad, listing, broken}
 use Rattle.worked.specs.Bench.{control, entry, slot, clean, dirty, undo, twice, board, work, quiet, unmarked, filter, marked1, marked3, marked13}
-use Rattle.worked.specs.Bench.{ending, endingLast, wake, store, evict, commit, scan, still, ok, improper}
+use Rattle.worked.specs.Bench.{around, ending, endingLast, wake, WakesAs, store, evict, commit, scan, still, ok, improper}
 use Rattle.worked.specs.Filtered.{buffer, full, store14, commit14, scan14, wide, evictShared}
 use Rattle.worked.specs.FourWays.{FourWays, four-ways}
 use Rattle.worked.specs.Hex.{Exported, exported}
@@ -59,9 +59,20 @@ pub record Worked : Type 0 where
   pub w3 : encodeShape (shapeFor 4 8) ≡ 0x0000000000400008
   -- "W4 slot valid, dirty, address 3, tag 2: C000C00000800000."
   pub w4 : encodeSlot (slot true true 3 2) ≡ 0xC000C00000800000
+  -- fields of ones, and counts of 65,536 = 10000: each in its place and in no other. Address 16, ValidFrom 24, ValidTill 24 ..
+  pub ones-entry : (encodeEntry (entry 65535 0 lastEpoch) ≡ 0xFFFF000000FFFFFF) × (encodeEntry (entry 0 lastEpoch 0) ≡ 0x0000FFFFFF000000)
+  -- .. P 24, start 20, length 20, and zero 24, N 20, L 20 ..
+  pub ones-control : encodeControl (control lastEpoch 65535 65536) ≡ 0xFFFFFF0FFFF10000
+  pub ones-shape : encodeShape (shapeFor 65536 65536) ≡ 0x0000001000010000
+  -- .. and 18 ones and 46 zeros; a one, 17 zeros, 24 ones and 22 zeros
+  pub ones-slot : (encodeSlot (slot true true 65535 0) ≡ 0xFFFFC00000000000) × (encodeSlot (slot true false 0 lastEpoch) ≡ 0x80003FFFFFC00000)
   -- "W5 range 1, 3 covers 1 and 2, not 0, not 3."
   pub w5-covers : (covers (entry 3 1 3) 1 ≡ true) × (covers (entry 3 1 3) 2 ≡ true)
   pub w5-not : (covers (entry 3 1 3) 0 ≡ false) × (covers (entry 3 1 3) 3 ≡ false)
+  -- .. so a power-up with P 0 leaves the line, which is 7. With P 1 and 2 it stores the newer entry's data to it, and then the older's. With P 3 such
+  -- an entry is refused: "P < ValidTill"
+  pub w5-wakes : WakesAs 0 1 7 × WakesAs 1 3 4 × WakesAs 2 3 4
+  pub w5-refused : answerOf 3 zero (wake (control 3 7 2) around) ≡ improper 0
   -- "W6 P = 1 and, oldest first, 0, 2 data 4 and 0, 2 data 6 for one line: it wakes as 4."
   pub w6-ok : answerOf 3 zero (wake (control 1 0 2) twice) ≡ ok 0 3 (given 2 0 0 0 0)
   pub w6-board : boardAfter 3 (board (control 1 0 2) twice 7) (wake (control 1 0 2) twice) ≡ board (control 1 0 0) twice 4
@@ -94,10 +105,11 @@ pub record Worked : Type 0 where
   -- "if dirty and tagged with the target": a line of another tag is left alone
   pub other-tag : scan 2 ≡ still (given 2 1 2 1 1) (work (dirty 2) 9 (undo 3 0 2 7) marked3)
   -- 3/13: "bit a mod 4,096 and bit (a × 40503 mod 65,536) divided by 16, rounded down": 4,095 × 40503 = 2,530 × 65,536 + 53,705, and
-  -- 65,535 × 40503 = 40,502 × 65,536 + 25,033
+  -- 65,535 × 40503 = 40,502 × 65,536 + 25,033, and 32,768 × 40503 = 20,251 × 65,536 + 32,768
   pub bits-3 : (firstBit 3 ≡ 3) × (secondBit 3 ≡ 3498)
   pub bits-4095 : (firstBit 4095 ≡ 4095) × (secondBit 4095 ≡ 3356)
   pub bits-65535 : (firstBit 65535 ≡ 4095) × (secondBit 65535 ≡ 1564)
+  pub bits-32768 : (firstBit 32768 ≡ 0) × (secondBit 32768 ≡ 2048)
   -- an address whose two bits are one, and two that share it, by their second and by their first
   pub bits-one : (firstBit 0 ≡ 0) × (secondBit 0 ≡ 0)
   pub bits-shared : (secondBit 233 ≡ 0) × (firstBit 4096 ≡ 0)
@@ -153,6 +165,8 @@ pub record Worked : Type 0 where
   pub record-evict : written evictKind 65535 0 ≡ wrote (0x9F ∷ 0xFF ∷ 0xE0 ∷ zeros 13)
   pub record-scan : written scanKind 0 0 ≡ wrote (0x60 ∷ zeros 15)
   pub record-back : reading (0x20 ∷ 0x00 ∷ 0xA0 ∷ zeros 12 ++ (9 ∷ [])) ≡ Recorded (Store 5 9)
+  -- a byte behind a record's sixteen is none of it
+  pub record-behind : reading (0x20 ∷ 0x00 ∷ 0xA0 ∷ zeros 12 ++ (9 ∷ 0xA0 ∷ [])) ≡ Recorded (Store 5 9)
   -- "from the writer, a kind, address or value with no place in it"
   pub no-kind : written 5 0 0 .status ≡ status.Trace
   pub no-address : (written loadKind 65536 0 .status ≡ status.Trace) × (written commitKind 1 0 .status ≡ status.Trace)
@@ -250,8 +264,14 @@ worked =
       w2 = refl;
       w3 = refl;
       w4 = refl;
+      ones-entry = (refl, refl);
+      ones-control = refl;
+      ones-shape = refl;
+      ones-slot = (refl, refl);
       w5-covers = (refl, refl);
       w5-not = (refl, refl);
+      w5-wakes = ((refl, refl), (refl, refl), (refl, refl));
+      w5-refused = refl;
       w6-ok = refl;
       w6-board = refl;
       w7 = refl;
@@ -273,6 +293,7 @@ worked =
       bits-3 = (refl, refl);
       bits-4095 = (refl, refl);
       bits-65535 = (refl, refl);
+      bits-32768 = (refl, refl);
       bits-one = (refl, refl);
       bits-shared = (refl, refl);
       corner-0 = refl;
@@ -312,6 +333,7 @@ worked =
       record-evict = refl;
       record-scan = refl;
       record-back = refl;
+      record-behind = refl;
       no-kind = refl;
       no-address = (refl, refl);
       no-value = refl;

@@ -206,6 +206,25 @@ fn the_number_of_the_end() {
     }
 }
 
+/// The paper's replay, with exports of record 1 between its calls: line 0 is 7 in epoch 1 and 9 in epoch 2.
+#[test]
+fn an_export_is_of_the_persisted_epoch_and_not_of_the_cache() {
+    let mut loom = Loom::new(4, 8, 4);
+    loom.store(0, 7);
+    assert_eq!(record(&loom.board, 1), format!(":10000000{}F0\n", "00".repeat(16)));
+    loom.commit();
+    loom.store(0, 9);
+    loom.commit();
+    for _ in 0..5 {
+        loom.scan();
+    }
+    // Epoch 1 is persisted, and the entry with its 7 is in the log: the board's line is not yet that.
+    assert_eq!(text_with_record(&loom.board, 44, 1).1, answer(18, 0, 0));
+    loom.power_up();
+    // 10 and 07 are 17.
+    assert_eq!(record(&loom.board, 1), ":1000000000000000000000070000000000000000E9\n");
+}
+
 /// Read as the laptops read it: the bytes at their addresses, and nothing else.
 #[test]
 fn the_bytes_come_back_from_the_digits() {

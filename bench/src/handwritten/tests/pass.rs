@@ -14,13 +14,20 @@ const S: u64 = 4;
 /// Lines 0 to 3 in slots 0 to 3, each stored to in an epoch of its own, 1 to 4. Epochs 1 to 3 wait, epoch 4 runs, and the four
 /// entries are buffered.
 fn four_epochs() -> Loom {
+    four_epochs_behind(0)
+}
+
+/// The same with a later epoch persisted, and the four behind it.
+fn four_epochs_behind(persisted: u64) -> Loom {
     let mut loom = Loom::new(8, 16, S);
+    loom.put_log(persisted, &[]);
+    loom.power_up();
     for (line, data) in [(0, 10), (1, 20), (2, 30)] {
         loom.store(line, data);
         loom.commit();
     }
     loom.store(3, 40);
-    assert_eq!(loom.registers, Registers::from([4, 4, 0, 4, 0]));
+    assert_eq!(loom.registers, Registers::from([persisted + 4, 4, 0, 4, 0]));
     loom
 }
 
@@ -273,6 +280,20 @@ fn fifteen_epochs_go_down_in_one_pass() {
     let lines: Vec<u64> = (0..16).map(|line| loom.line(line)).collect();
     let stored: Vec<u64> = (100..115).chain([0]).collect();
     assert_eq!(lines, stored);
+}
+
+#[test]
+fn a_pass_goes_over_a_carry() {
+    // The tags go from two below the target to one above it. Of all of them the target has the smallest low bits.
+    for target in [1 << 8, 1 << 16, 1 << 23] {
+        let mut loom = four_epochs_behind(target - 3);
+        assert_eq!(loom.begin(target), answer(0, 0, 0));
+        assert_eq!(loom.visits(4), [10, 1, 1, 0], "{target}");
+        assert_eq!(loom.scan(), answer(0, target, 1));
+        assert_eq!(loom.control(), control(target, 3, 1));
+        assert_eq!(loom.slot_word(3), SlotWord::dirty(3, target + 1));
+        assert_eq!(loom.lines(), [10, 20, 30, 0]);
+    }
 }
 
 #[test]
