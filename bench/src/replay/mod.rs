@@ -10,13 +10,13 @@ pub use line::line_of;
 use std::io::{self, Write};
 use std::path::Path;
 
-/// Prints what the replay of a script prints: how an expected output is made.
-pub fn print_output(script: &str) -> Result<(), String> {
-    let output = program::output_of(&read(Path::new(script))?);
+/// Prints what the scripts of a file print: how an expected output is made.
+pub fn print_output(scripts: &str) -> Result<(), String> {
+    let output = program::output_of(&read(Path::new(scripts))?);
     io::stdout().write_all(&output).map_err(|error| error.to_string())
 }
 
-/// Holds each script of the repository to its expected output. An error names the first that has another one, or none.
+/// Holds each file of scripts in the repository to its expected output. An error names the first that has another one, or none.
 pub fn compare_with_stored() -> Result<(), String> {
     let pairs = stored::pairs()?;
     for pair in &pairs {
@@ -27,6 +27,6 @@ pub fn compare_with_stored() -> Result<(), String> {
             return Err(format!("{}: in the output {difference}", pair.name));
         }
     }
-    println!("{} scripts replayed, each as expected", pairs.len());
+    println!("{} files of scripts replayed, each as expected", pairs.len());
     Ok(())
 }

@@ -22,8 +22,16 @@ enum Then {
     End,
 }
 
+/// Ends a script in a file, where another begins behind it.
+const BAR: u8 = b'|';
+
+/// What the scripts of a file print, one after the other, each on a bench of its own.
+pub fn output_of(scripts: &[u8]) -> Vec<u8> {
+    scripts.split(|&byte| byte == BAR).flat_map(replayed).collect()
+}
+
 /// What the replay of a script prints.
-pub fn output_of(script: &[u8]) -> Vec<u8> {
+fn replayed(script: &[u8]) -> Vec<u8> {
     let mut program = Program {
         loom: None,
         allowance: NO_CUT,

@@ -1,5 +1,5 @@
-// Replays the scripts of the data folder, one after the other, each on a bench of its own, and compares what each prints with its
-// file of expected output, byte for byte.
+// Replays the scripts of the data folder, one after the other, each on a bench of its own, and compares what those of a file print
+// with its file of expected output, byte for byte.
 ghost use Prim.Native.Nat.{_+_, _≤_};
 ghost use Rattle.io.specs.Counts.{Counts};
 ghost use lib.ListN.{length};
@@ -13,6 +13,12 @@ use transcript::Session;
 const NAME_BYTES: usize = 48;
 
 const SUFFIX_BYTES: usize = 16;
+
+// It ends a script, and another begins behind it in the same file.
+const BAR: u8 = b'|';
+
+// No place of a text.
+const NOWHERE: usize = usize::MAX;
 
 // No case prints as much as the buffer holds. One that did would lack its last lines here, and fail.
 fn replay_script(script: &[u8], board: &mut [u64], work: &mut [u64], out: &mut [u8]) -> Session
@@ -41,7 +47,9 @@ fn printed(script: &[u8], out: &mut [u8]) -> usize
 }
 
 // The first place at which two texts differ, or the length of the shorter one.
-fn first_difference(a: &[u8], b: &[u8]) -> usize {
+fn first_difference(a: &[u8], b: &[u8]) -> usize
+    ensures { λ r. ⌜ (r ≤ length (now (a .entry))) × (r ≤ length (now (b .entry))) ⌝ }
+{
     let mut i = 0;
     let place = loop {
         if i >= a.len() {
@@ -58,17 +66,36 @@ fn first_difference(a: &[u8], b: &[u8]) -> usize {
     place
 }
 
+// The first place at which what the scripts of a file print, one after the other, is not what is expected, or NOWHERE.
+fn difference(scripts: &[u8], expected: &[u8], out: &mut [u8]) -> usize
+    requires { ⌜ longest ≤ length (now out) ⌝ }
+{
+    let mut at = 0;
+    let mut agreed = 0;
+    while at <= scripts.len() {
+        let end = part_end(scripts, at, BAR);
+        let used = printed(&scripts[at..end], out);
+        let same = first_difference(&out[0..used], &expected[agreed..]);
+        agreed += same;
+        if same < used {
+            return agreed;
+        }
+        at = end + 1;
+    }
+    if agreed < expected.len() {
+        return agreed;
+    }
+    NOWHERE
+}
+
 // Prints the case's line, and answers 1 where the case passed.
-fn judge(name: &[u8], text: &[u8], expected: &[u8]) -> u64
+fn judge(name: &[u8], place: usize) -> u64
     ensures { λ r. ⌜ r ≤ 1 ⌝ }
 {
     io::write_all(STDOUT_FILENO, name);
-    let place = first_difference(text, expected);
-    if place == text.len() {
-        if place == expected.len() {
-            io::write_all(STDOUT_FILENO, b" ok\n");
-            return 1;
-        }
+    if place == NOWHERE {
+        io::write_all(STDOUT_FILENO, b" ok\n");
+        return 1;
     }
     io::write_all(STDOUT_FILENO, b" differs at byte ");
     io::print_decimal(STDOUT_FILENO, place as u64);
@@ -120,12 +147,16 @@ fn run_case(name: &[u8]) -> u64
     let expected_bytes = io::read_full(wanted, &mut expected);
     libc::close(from);
     libc::close(wanted);
-    let used = printed(&script[..script_bytes], &mut out);
-    judge(name, &out[0..used], &expected[..expected_bytes])
+    let place = difference(
+        &script[..script_bytes],
+        &expected[..expected_bytes],
+        &mut out,
+    );
+    judge(name, place)
 }
 
-// The end of the line that begins at a place: its line feed, or the end of the text.
-fn line_end(text: &[u8], from: usize) -> usize
+// The end of the part of a text that begins at a place: the byte that ends parts, or the end of the text.
+fn part_end(text: &[u8], from: usize, last: u8) -> usize
     requires { ⌜ from ≤ length (now text) ⌝ }
     ensures { λ r. ⌜ (from ≤ r) × (r ≤ length (now (text .entry))) ⌝ }
 {
@@ -134,7 +165,7 @@ fn line_end(text: &[u8], from: usize) -> usize
         if i >= text.len() {
             break i;
         }
-        if text[i] == b'\n' {
+        if text[i] == last {
             break i;
         }
         i += 1;
@@ -147,7 +178,7 @@ fn run_all(names: &[u8]) {
     let mut cases: u64 = 0;
     let mut passed: u64 = 0;
     while at < names.len() {
-        let end = line_end(names, at);
+        let end = part_end(names, at, b'\n');
         passed += run_case(&names[at..end]);
         cases += 1;
         at = end + 1;

@@ -5,7 +5,7 @@ use Rattle.replaycases.proofs.first_difference.Statement.{statement}
 use Rattle.replaycases.proofs.first_difference.Tie as tie
 
 abbrev Inv-loop : tie.InvT-loop
-Inv-loop a b i₀ i = i ≤ length a
+Inv-loop a b i₀ i = (i ≤ length a) × (i ≤ length b)
 
 abbrev μ-loop : tie.MeasureT-loop
 μ-loop a b i₀ i = length a - i

@@ -13,8 +13,8 @@ abbrev μ-loop : tie.MeasureT-loop
 loop-holds : tie.Need-loop-holds Inv-loop μ-loop
 loop-holds c = search needs
 
-line-end-requires : tie.Need-line-end-requires Inv-loop μ-loop
-line-end-requires c κs = search needs
+part-end-requires : tie.Need-part-end-requires Inv-loop μ-loop
+part-end-requires c κs = search needs
 
 sub-run-case : tie.Need-sub-run-case Inv-loop μ-loop
 sub-run-case c = search needs
@@ -71,7 +71,7 @@ run-all-spec =
     Inv-loop
     μ-loop
     loop-holds
-    line-end-requires
+    part-end-requires
     sub-run-case
     part-run-case-start
     part-run-case-end
