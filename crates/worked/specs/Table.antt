@@ -198,11 +198,11 @@ pub record Worked : Type 0 where
   pub named-18 : (nameOf 18 ≡ bytes "logheld") × (numberOf status.LogHeld ≡ 18)
   -- any other, the first behind the last, the number of an array too short, and the largest
   pub unnamed : (nameOf 19 ≡ []) × (nameOf 255 ≡ []) × (nameOf (2 ^ 64 - 1) ≡ [])
-  -- a text of four bytes, of three and of two for the three letters of `cut`; none are needed for no name
+  -- a text of four bytes, of three and of two for the three letters of `cut`; none are needed for no name, and eight, room for any, stay as they are
   pub text-behind : withName (nameOf 12) (1 ∷ 2 ∷ 3 ∷ 4 ∷ []) ≡ bytes "cut" ++ (4 ∷ [])
   pub text-filled : withName (nameOf 12) (1 ∷ 2 ∷ 3 ∷ []) ≡ bytes "cut"
   pub text-too-short : withName (nameOf 12) (1 ∷ 2 ∷ []) ≡ 1 ∷ 2 ∷ []
-  pub text-unnamed : (withName (nameOf 15) [] ≡ []) × (withName (nameOf 15) (1 ∷ []) ≡ 1 ∷ [])
+  pub text-unnamed : (withName (nameOf 255) [] ≡ []) × (withName (nameOf 255) (replicate 8 1) ≡ replicate 8 1)
   -- 5/13: "Registers are also improper when the count exceeds S": 5 does, 4 does not
   pub count-beyond : committing clean 5 ≡ refused status.Regs 0
   pub count-all : committing clean 4 ≡ still (given 3 0 0 4 0) (holding clean)
