@@ -1,242 +1,236 @@
-// What the calls do to the decoded state. A store to the board is noted as due, and made later.
+// What the calls do to the two lent memories, once their tests have passed. Behind a cut no board
+// store is made, and what is done to the work memory and the registers goes nowhere.
+use crate::Answer;
 use crate::Registers;
-use crate::filter::both_set;
-use crate::filter::filter_with;
-use crate::machine::*;
+use crate::filter::*;
+use crate::refusals::CUT;
+use crate::refusals::OK;
 use crate::refusals::undo_due;
 use crate::sets::*;
 use crate::words::*;
 
-// "stores each entry at the ring's end, packed word then data word": buffered entry i, as entry
-// length + i of the log.
-fn entry_logged(m: Machine, i: u64) -> Machine {
-    let entry = buffer_entry(m, i);
-    let end = sum(m.control.length, i);
-    let ring = ring_place(m.control.start, end, m.entry_count);
-    let packed = with_store(m, entry_place(ring), entry_word(entry));
-    let mut next = with_store(packed, sum(entry_place(ring), 1), entry.old_data);
-    let at = index(ring, LOG_CAPACITY);
-    next.log[at] = entry;
+// A call on its way: the registers, the value of its answer, the board stores due so far, and the
+// allowance, "the board stores it may make". "Values not named are 0."
+pub struct Run {
+    pub registers: Registers,
+    pub value: u64,
+    pub due: u64,
+    pub allowance: u64,
+}
+
+// A call whose tests have passed, with no store due yet.
+pub fn started(registers: Registers, allowance: u32) -> Run {
+    Run {
+        registers,
+        value: 0,
+        due: 0,
+        allowance: allowance as u64,
+    }
+}
+
+// "12 cut: more stores are due than the allowance": "exactly the first stores up to the allowance are
+// on the board, work memory and registers are all zero, value 0, and the stores reported are the
+// allowance. An allowance just enough gives 0."
+pub fn finished(work: &mut [u64], run: Run) -> Answer {
+    let registers = run.registers;
+    if run.due <= run.allowance {
+        return Answer {
+            number: OK,
+            value: run.value,
+            stores: run.due,
+            registers,
+        };
+    }
+    zero_from(work, 0);
+    Answer {
+        number: CUT,
+        value: 0,
+        stores: run.allowance,
+        registers: Registers::zero(),
+    }
+}
+
+// One board store: "each store of such a call is made by one function that is handed what is left of
+// it", that is of the allowance. It is due in any case.
+pub fn store_word(board: &mut [u64], run: Run, place: u64, word: u64) -> Run {
+    let mut next = run;
+    next.due = sum(run.due, 1);
+    if run.due >= run.allowance {
+        return next;
+    }
+    set_word(board, place, word);
     next
 }
 
-// The same of all b buffered entries, "oldest first".
-fn entries_logged(m: Machine) -> Machine {
-    let count = m.registers.buffered;
-    let mut next = m;
+// Both words of slot k. "Keep the count of dirty slots in the registers": one less where the slot was
+// dirty, one more where it is left dirty. The count's tests have seen to it that it passes neither 0
+// nor S.
+pub fn set_slot(work: &mut [u64], run: Run, k: u64, word: u64, line_data: u64) -> Run {
+    let before = slot_at(work, k);
+    let place = slot_place(k);
+    set_word(work, place, word);
+    set_word(work, sum(place, DATA_WORD), line_data);
+    let after = slot_at(work, k);
+    let dirty = sum(difference(run.registers.dirty, before.dirty), after.dirty);
+    let mut next = run;
+    next.registers.dirty = dirty;
+    next
+}
+
+// "stores each entry at the ring's end, packed word then data word": buffered entry i, as the entry
+// of the log that is given.
+fn entry_logged(board: &mut [u64], work: &[u64], run: Run, i: u64, log_entry: u64) -> Run {
+    let from = buffer_place(slot_count(work), i);
+    let to = log_place(board, log_entry);
+    let packed = store_word(board, run, to, word_at(work, from));
+    store_word(
+        board,
+        packed,
+        sum(to, DATA_WORD),
+        word_at(work, sum(from, DATA_WORD)),
+    )
+}
+
+// The same of all b buffered entries, "oldest first": entry i becomes entry length + i of the log.
+fn entries_logged(board: &mut [u64], work: &[u64], run: Run) -> Run {
+    let header = header_of(board);
+    let count = run.registers.buffered;
+    let mut next = run;
     for i in 0..count {
-        next = entry_logged(next, i);
+        next = entry_logged(board, work, next, i, sum(header.length, i));
     }
     next
 }
 
 // "A flush with b > 0 stores each entry at the ring's end, .., then the control word with
 // length + b: 2b + 1 stores; then b = 0 and the 64 buffer words are zero. With b = 0 it stores
-// nothing." And "The filter is cleared at each flush with b > 0."
-fn flushed(m: Machine) -> Machine {
-    let count = m.registers.buffered;
-    if count == 0 {
-        return m;
+// nothing." And "The filter is cleared at each flush with b > 0": its words follow the buffer's.
+fn flushed(board: &mut [u64], work: &mut [u64], run: Run) -> Run {
+    if run.registers.buffered == 0 {
+        return run;
     }
-    let control = Control {
-        persisted: m.control.persisted,
-        start: m.control.start,
-        length: sum(m.control.length, count),
-    };
-    let empty = [empty_entry(); BUFFER_ENTRIES];
-    let cleared = [0; FILTER_WORDS];
-    let mut next = with_control(entries_logged(m), control);
+    let header = header_of(board);
+    let length = sum(header.length, run.registers.buffered);
+    let control = control_word(header.persisted, header.start, length);
+    let logged = entries_logged(board, work, run);
+    let mut next = store_word(board, logged, CONTROL_PLACE, control);
+    let buffer = buffer_place(slot_count(work), 0);
+    zero_from(work, buffer);
     next.registers.buffered = 0;
-    next.buffer = empty;
-    next.filter = cleared;
     next
 }
 
-// "A write-out flushes exactly when b > 0 and both bits of its address are set."
-fn flush_due(m: Machine, address: u64) -> bool {
-    let filter = m.filter;
-    if m.registers.buffered == 0 {
-        return false;
+// Writing out the line of slot k: "A write-out flushes exactly when b > 0 and both bits of its address
+// are set"; "then one store to the line".
+fn written_out(board: &mut [u64], work: &mut [u64], run: Run, k: u64) -> Run {
+    let header = header_of(board);
+    let slot = slot_at(work, k);
+    let place = line_place(header.entries, slot.address);
+    if both_set(work, slot.address) {
+        let next = flushed(board, work, run);
+        return store_word(board, next, place, slot.line_data);
     }
-    both_set(filter, address)
-}
-
-// "Writing out a line: .. flush first; then one store to the line."
-fn written_out(m: Machine, slot: Slot) -> Machine {
-    if flush_due(m, slot.address) {
-        return with_line(flushed(m), slot.address, slot.line_data);
-    }
-    with_line(m, slot.address, slot.line_data)
+    store_word(board, run, place, slot.line_data)
 }
 
 // "Emptying a slot writes a dirty line out, then zeroes both slot words; an empty or clean slot
 // costs no store."
-fn emptied(m: Machine, k: u64) -> Machine {
-    let slot = slot_at(m, k);
-    if !slot.dirty {
-        return with_slot(m, k, empty_slot());
+pub fn emptied(board: &mut [u64], work: &mut [u64], run: Run, k: u64) -> Run {
+    let slot = slot_at(work, k);
+    if slot.dirty != SET {
+        return set_slot(work, run, k, EMPTY_SLOT, 0);
     }
-    with_slot(written_out(m, slot), k, empty_slot())
+    let next = written_out(board, work, run, k);
+    set_slot(work, next, k, EMPTY_SLOT, 0)
 }
 
-// "Otherwise the slot is emptied, then filled clean from memory": a line into slot k.
-fn filled(m: Machine, k: u64, address: u64) -> Machine {
-    let next = emptied(m, k);
-    let slot = Slot {
-        valid: true,
-        dirty: false,
-        address,
-        tag: 0,
-        zero: 0,
-        line_data: line_at(next, address),
-    };
-    with_slot(next, k, slot)
-}
-
-// A state that holds the line: as it is, or in the slot that the line takes in the set as it is.
-fn held(m: Machine, address: u64) -> Machine {
-    let holding = slot_holding(m, address);
-    match holding {
-        Found::At(_) => m,
-        Found::Nowhere => filled(m, slot_taken(m, address), address),
+// "a held line gives its data. Otherwise the slot is emptied, then filled clean from memory": slot k
+// then holds the line.
+pub fn brought_in(board: &mut [u64], work: &mut [u64], run: Run, k: u64, address: u64) -> Run {
+    if holds(work, k, address) {
+        return run;
     }
+    let next = emptied(board, work, run, k);
+    let header = header_of(board);
+    let line = word_at(board, line_place(header.entries, address));
+    set_slot(work, next, k, slot_word(UNSET, address, CLEAN_TAG), line)
 }
 
-// "Load (a): a held line gives its data. Otherwise the slot is emptied, then filled clean from
-// memory."
-pub fn loaded(m: Machine, address: u64) -> Machine {
-    let mut next = held(m, address);
-    let slot = slot_at(next, slot_for(next, address));
-    next.value = slot.line_data;
-    next
-}
-
-// "a clean line makes the entry P, s with the old data; a dirty line with tag t < s makes t, s".
-fn undo_entry(slot: Slot, persisted: u64, epoch: u64) -> Entry {
-    let valid_from = if slot.dirty { slot.tag } else { persisted };
-    Entry {
-        address: slot.address,
-        valid_from,
-        valid_till: epoch,
-        old_data: slot.line_data,
-    }
-}
-
-// "An entry goes to the buffer's end; at 32 the buffer is flushed at once." "A new entry for address
-// a sets" its two bits of the filter.
-fn buffered(m: Machine, entry: Entry) -> Machine {
-    let count = m.registers.buffered;
+// "An entry goes to the buffer's end": the entry of a slot's line, with the slot's data as the old
+// data. "A new entry for address a sets" its two bits of the filter.
+fn entry_buffered(work: &mut [u64], run: Run, slot: Slot, valid_from: u64) -> Run {
+    let count = run.registers.buffered;
+    let place = buffer_place(slot_count(work), count);
+    let word = entry_word(slot.address, valid_from, run.registers.epoch);
+    set_word(work, place, word);
+    set_word(work, sum(place, DATA_WORD), slot.line_data);
+    set_both(work, slot.address);
     let longer = sum(count, 1);
-    let at = index(count, BUFFER_ENTRIES);
-    let filter = m.filter;
-    let with_both = filter_with(filter, entry.address);
-    let mut next = m;
-    next.buffer[at] = entry;
-    next.filter = with_both;
+    let mut next = run;
     next.registers.buffered = longer;
-    if longer == BUFFER_ENTRIES as u64 {
-        return flushed(next);
-    }
     next
 }
 
-// The undo entry of a store to a line that is held, where one is due.
-fn undo_made(m: Machine, address: u64) -> Machine {
-    if !undo_due(m, address) {
-        return m;
+// The undo entry of a store to the line that slot k holds, where one is due: "a clean line makes the
+// entry P, s with the old data; a dirty line with tag t < s makes t, s"; "at 32 the buffer is flushed
+// at once".
+fn undo_made(board: &mut [u64], work: &mut [u64], run: Run, k: u64) -> Run {
+    let header = header_of(board);
+    let slot = slot_at(work, k);
+    let registers = run.registers;
+    if !undo_due(work, registers, slot.address) {
+        return run;
     }
-    let slot = slot_at(m, slot_for(m, address));
-    buffered(m, undo_entry(slot, m.control.persisted, m.registers.epoch))
+    let valid_from = if slot.dirty == SET {
+        slot.tag
+    } else {
+        header.persisted
+    };
+    let next = entry_buffered(work, run, slot, valid_from);
+    if next.registers.buffered == BUFFER_ENTRIES {
+        return flushed(board, work, next);
+    }
+    next
 }
 
 // "Store (a, value): as load if not held. Then a clean line makes the entry ..; tag s makes none.
-// The line is then dirty with tag s."
-pub fn stored(m: Machine, address: u64, value: u64) -> Machine {
-    let next = undo_made(held(m, address), address);
-    let slot = Slot {
-        valid: true,
-        dirty: true,
-        address,
-        tag: next.registers.epoch,
-        zero: 0,
-        line_data: value,
-    };
-    with_slot(next, slot_for(next, address), slot)
+// The line is then dirty with tag s." The slot is chosen in the set as the call found it.
+pub fn stored(board: &mut [u64], work: &mut [u64], run: Run, address: u64, value: u64) -> Run {
+    let k = slot_for(work, address);
+    let held = brought_in(board, work, run, k, address);
+    let logged = undo_made(board, work, held, k);
+    let word = slot_word(SET, address, run.registers.epoch);
+    set_slot(work, logged, k, word, value)
 }
 
-// "Evict (a): empties the slot if it holds a; otherwise nothing, value 0. Value 1 if held."
-pub fn evicted(m: Machine, address: u64) -> Machine {
-    let holding = slot_holding(m, address);
-    match holding {
-        Found::At(k) => with_value(emptied(m, k), 1),
-        Found::Nowhere => m,
-    }
-}
-
-fn with_value(m: Machine, value: u64) -> Machine {
-    let mut next = m;
-    next.value = value;
-    next
-}
-
-// "Commit: s becomes s + 1."
-pub fn committed(m: Machine) -> Machine {
-    let epoch = sum(m.registers.epoch, 1);
-    let mut next = m;
-    next.registers.epoch = epoch;
-    next
-}
-
-// "A begin call takes a target ..; it visits no slot": "The registers gain the target".
-pub fn begun(m: Machine, target: u64) -> Machine {
-    let mut next = m;
-    next.registers.target = target;
-    next
-}
-
-// "A scan call outside a pass begins one with P + 1."
-fn in_pass(m: Machine) -> Machine {
-    if m.registers.target != 0 {
-        return m;
-    }
-    begun(m, sum(m.control.persisted, 1))
-}
-
-// "the pass then writes out dirty lines with tags up to the target".
-fn scan_writes(slot: Slot, target: u64) -> bool {
-    if !slot.dirty {
-        return false;
-    }
-    slot.tag <= target
-}
-
-// "the line is written out and becomes clean, tag 0".
-fn cleaned(m: Machine, k: u64) -> Machine {
-    let mut slot = slot_at(m, k);
-    let next = written_out(m, slot);
-    slot.dirty = false;
-    slot.tag = 0;
-    with_slot(next, k, slot)
-}
-
-// "With c < S it visits slot c: if dirty and tagged with the target" or below it, "the line is written
-// out and becomes clean, tag 0; c rises by one."
-fn slot_scanned(m: Machine) -> Machine {
-    let k = m.registers.cursor;
+// "With c < S it visits slot c: if dirty and tagged with the target, the line is written out and
+// becomes clean, tag 0; c rises by one." Now "the pass then writes out dirty lines with tags up to the
+// target".
+fn slot_scanned(board: &mut [u64], work: &mut [u64], run: Run) -> Run {
+    let k = run.registers.cursor;
     let cursor = sum(k, 1);
-    let mut next = m;
-    if scan_writes(slot_at(m, k), m.registers.target) {
-        next = cleaned(m, k);
-    }
+    let slot = slot_at(work, k);
+    let mut next = run;
     next.registers.cursor = cursor;
-    next
+    if slot.dirty != SET || slot.tag > run.registers.target {
+        return next;
+    }
+    let written = written_out(board, work, next, k);
+    set_slot(
+        work,
+        written,
+        k,
+        slot_word(UNSET, slot.address, CLEAN_TAG),
+        slot.line_data,
+    )
 }
 
 // "the oldest run of entries with ValidTill <= target": how many they are.
-fn run_length(m: Machine, target: u64) -> u64 {
-    let length = m.control.length;
+fn run_length(board: &[u64], target: u64) -> u64 {
+    let header = header_of(board);
+    let length = header.length;
     for i in 0..length {
-        let entry = log_entry(m, i);
+        let entry = entry_at(board, log_place(board, i));
         if entry.valid_till > target {
             return i;
         }
@@ -247,79 +241,54 @@ fn run_length(m: Machine, target: u64) -> u64 {
 // "With c = S it flushes, then stores one control word with P = target and the oldest run of
 // entries with ValidTill <= target dropped, start going up by their number, mod L; c = 0; value is
 // the new P." The pass is over then, and the target "0 outside a pass".
-fn pass_finished(m: Machine) -> Machine {
-    let target = m.registers.target;
-    let whole = flushed(m);
-    let dropped = run_length(whole, target);
-    let control = Control {
-        persisted: target,
-        start: ring_place(whole.control.start, dropped, whole.entry_count),
-        length: difference(whole.control.length, dropped),
-    };
-    let mut next = with_control(whole, control);
+fn pass_finished(board: &mut [u64], work: &mut [u64], run: Run) -> Run {
+    let target = run.registers.target;
+    let whole = flushed(board, work, run);
+    let header = header_of(board);
+    let dropped = run_length(board, target);
+    let left = difference(header.length, dropped);
+    let control = control_word(target, ring_place(board, dropped), left);
+    let mut next = store_word(board, whole, CONTROL_PLACE, control);
     next.registers.cursor = 0;
     next.registers.target = 0;
     next.value = target;
     next
 }
 
-// "Scan: .. With c < S it visits slot c .. With c = S it flushes .." The call that begins a pass visits
-// slot 0 too: it is the first of the S + 1 that persist an epoch.
-pub fn scanned(m: Machine) -> Machine {
-    let passing = in_pass(m);
-    if passing.registers.cursor < passing.slot_count {
-        return slot_scanned(passing);
+// "Scan: .. With c < S it visits slot c .. With c = S it flushes .." "A scan call outside a pass begins
+// one with P + 1." The call that begins a pass visits slot 0 too: it is the first of the S + 1 that
+// persist an epoch.
+pub fn scanned(board: &mut [u64], work: &mut [u64], run: Run) -> Run {
+    let mut passing = run;
+    if run.registers.target == 0 {
+        let header = header_of(board);
+        let target = sum(header.persisted, 1);
+        passing.registers.target = target;
     }
-    pass_finished(passing)
+    if run.registers.cursor < slot_count(work) {
+        return slot_scanned(board, work, passing);
+    }
+    pass_finished(board, work, passing)
 }
 
-// "each entry with ValidFrom <= P < ValidTill": W5's cover.
-pub fn covers(entry: Entry, persisted: u64) -> bool {
-    if entry.valid_from > persisted {
-        return false;
+// Entry i of the log: "each entry with ValidFrom <= P < ValidTill has its data stored to its line".
+fn entry_restored(board: &mut [u64], run: Run, i: u64) -> Run {
+    let header = header_of(board);
+    let entry = entry_at(board, log_place(board, i));
+    if entry.valid_from > header.persisted || header.persisted >= entry.valid_till {
+        return run;
     }
-    persisted < entry.valid_till
+    let place = line_place(header.entries, entry.address);
+    store_word(board, run, place, entry.old_data)
 }
 
-// Entry i of the log "has its data stored to its line" where it covers P.
-fn entry_restored(m: Machine, i: u64) -> Machine {
-    let entry = log_entry(m, i);
-    if !covers(entry, m.control.persisted) {
-        return m;
+// The same of the whole log, "from the newest log entry to the oldest".
+pub fn lines_restored(board: &mut [u64], run: Run) -> Run {
+    let header = header_of(board);
+    let count = header.length;
+    let mut next = run;
+    for newer in 0..count {
+        next = entry_restored(board, next, count - 1 - newer);
     }
-    with_line(m, entry.address, entry.old_data)
-}
-
-// "from the newest log entry to the oldest".
-fn entries_restored(m: Machine) -> Machine {
-    let length = m.control.length;
-    let mut next = m;
-    for newer in 0..length {
-        next = entry_restored(next, length - 1 - newer);
-    }
-    next
-}
-
-// "Power-up: from the newest log entry to the oldest, each entry .. has its data stored to its
-// line. Then the control word: same P, start 0, length 0, always stored. Then work memory all
-// zero, s = P + 1, b = 0, c = 0." No slot is dirty then, so their count is 0; and no pass has begun, so
-// the target is 0.
-pub fn powered_up(m: Machine) -> Machine {
-    let persisted = m.control.persisted;
-    let control = Control {
-        persisted,
-        start: 0,
-        length: 0,
-    };
-    let slots = [empty_slot(); MOST_SLOTS];
-    let buffer = [empty_entry(); BUFFER_ENTRIES];
-    let filter = [0; FILTER_WORDS];
-    let mut registers = Registers::zero();
-    registers.epoch = sum(persisted, 1);
-    let mut next = with_control(entries_restored(m), control);
-    next.slots = slots;
-    next.buffer = buffer;
-    next.filter = filter;
-    next.registers = registers;
     next
 }

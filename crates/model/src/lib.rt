@@ -1,48 +1,24 @@
 // A second model of the cache log, written from the paper "PiCL cache log for loom controller
 // boards" and the requests of document 02 alone, for a test program to compare with the library.
-// Each call decodes the lent words into a `Machine`, tests it, works on it, and last makes the
-// board stores that are due. The comments quote the paper. The model takes boards of up to
-// words::BOARD_CAPACITY words; for a larger one each call answers refusals::TOO_LARGE and touches
-// nothing. The export alone, which decodes no board, takes every one.
+// Each call makes its tests in the paper's order and then works on the lent words, which are decoded
+// where they are asked for. The comments quote the paper.
 mod effects;
-mod export;
 mod filter;
-mod finish;
-mod machine;
-mod names;
-mod record;
-mod record_runs;
 mod reference_machine;
 mod refusals;
-mod register_tests;
 mod registers;
 mod sets;
-mod slot_tests;
 mod words;
 
 use effects::*;
-pub use export::export_record;
-use filter::bits_set;
-pub use filter::filter_with;
-use finish::*;
-use machine::decoded;
-use machine::decoded_filter;
-pub use names::put_name;
-pub use record::Read;
-pub use record::Record;
-pub use record::Written;
-pub use record::read_record;
-pub use record::write_record;
-pub use record_runs::RecordRun;
-pub use record_runs::Totals;
-pub use record_runs::TraceRun;
-pub use record_runs::run_fresh;
-pub use record_runs::run_record;
-pub use record_runs::run_trace;
 pub use reference_machine::Reference;
 use refusals::*;
 pub use registers::Registers;
+use sets::*;
 use words::*;
+
+// "Value 1 if held."
+const HELD: u64 = 1;
 
 // A call's answer: its number in the table, its value, the board stores made, the registers.
 pub struct Answer {
@@ -52,51 +28,54 @@ pub struct Answer {
     pub registers: Registers,
 }
 
+// An answer that reports no store. "Numbers 1 to 11 return value 0 (3 excepted), 0 stores, registers
+// as given (power-up: all zero), both memories as given."
+fn answered(number: u64, value: u64, registers: Registers) -> Answer {
+    Answer {
+        number,
+        value,
+        stores: 0,
+        registers,
+    }
+}
+
 // "Format (N, L): every board word zero, but for the shape word. Not protected against a cut;
 // reports 0 stores."
 pub fn format(board: &mut [u64], lines: u64, entries: u64) -> Answer {
-    if board.len() > BOARD_CAPACITY {
-        return refused(TOO_LARGE, Registers::zero());
+    if !size_good(board, lines, entries) {
+        return answered(SHAPE, 0, Registers::zero());
     }
-    if !size_good(board.len() as u64, lines, entries) {
-        return refused(SHAPE, Registers::zero());
-    }
-    zero_all(board);
+    zero_from(board, 0);
     set_word(board, SHAPE_PLACE, shape_word(lines, entries));
-    Answer {
-        number: OK,
-        value: 0,
-        stores: 0,
-        registers: Registers::zero(),
-    }
+    answered(OK, 0, Registers::zero())
 }
 
-// "3 entry: .. value is i of the first"; "registers as given (power-up: all zero)".
-fn entry_refused(i: u64) -> Answer {
-    Answer {
-        number: ENTRY,
-        value: i,
-        stores: 0,
-        registers: Registers::zero(),
-    }
-}
-
-// Power-up: rows 1, 2, 3 and 12 of the table. Of the registers "Power-up takes none and returns
-// them"; refused, it returns them "all zero".
+// "Power-up: from the newest log entry to the oldest, each entry .. has its data stored to its
+// line. Then the control word: same P, start 0, length 0, always stored. Then work memory all
+// zero, s = P + 1, b = 0, c = 0." No slot is dirty then, so their count is 0; and no pass has begun, so
+// the target is 0. Its rows are 1, 2, 3, "value is i of the first", and 12. Of the registers "Power-up
+// takes none and returns them"; refused, it returns them "all zero".
 pub fn power_up(board: &mut [u64], work: &mut [u64], allowance: u32) -> Answer {
     let number = memory_refusal(board, work);
     if number != OK {
-        return refused(number, Registers::zero());
+        return answered(number, 0, Registers::zero());
     }
-    let m = decoded(board, work, Registers::zero());
-    let improper = first_improper(m);
-    if improper < m.control.length {
-        return entry_refused(improper);
+    let improper = first_improper(board);
+    let header = header_of(board);
+    if improper < header.length {
+        return answered(ENTRY, improper, Registers::zero());
     }
-    finished(board, work, powered_up(m), allowance)
+    let mut registers = Registers::zero();
+    registers.epoch = sum(header.persisted, 1);
+    let restored = lines_restored(board, started(registers, allowance));
+    let control = control_word(header.persisted, 0, 0);
+    let run = store_word(board, restored, CONTROL_PLACE, control);
+    zero_from(work, 0);
+    finished(work, run)
 }
 
-// Load (a): rows 1, 2, 4 to 6, the count's test, 7, 14 and 12; then what `loaded` says.
+// "Load (a): a held line gives its data. Otherwise the slot is emptied, then filled clean from
+// memory." The slot is chosen in the set as the call found it.
 pub fn load(
     board: &mut [u64],
     work: &mut [u64],
@@ -104,19 +83,18 @@ pub fn load(
     address: u64,
     allowance: u32,
 ) -> Answer {
-    let number = memory_refusal(board, work);
+    let number = line_refusal(board, work, registers, address);
     if number != OK {
-        return refused(number, registers);
+        return answered(number, 0, registers);
     }
-    let m = decoded(board, work, registers);
-    let number = line_refusal(m, address);
-    if number != OK {
-        return refused(number, registers);
-    }
-    finished(board, work, loaded(m, address), allowance)
+    let k = slot_for(work, address);
+    let mut run = brought_in(board, work, started(registers, allowance), k, address);
+    let slot = slot_at(work, k);
+    run.value = slot.line_data;
+    finished(work, run)
 }
 
-// Store (a, value): rows 1, 2, 4 to 6, the count's test, 7, 14, 8 and 12; then what `stored` says.
+// Store: its tests, then what `stored` says.
 pub fn store(
     board: &mut [u64],
     work: &mut [u64],
@@ -125,19 +103,15 @@ pub fn store(
     value: u64,
     allowance: u32,
 ) -> Answer {
-    let number = memory_refusal(board, work);
+    let number = store_refusal(board, work, registers, address);
     if number != OK {
-        return refused(number, registers);
+        return answered(number, 0, registers);
     }
-    let m = decoded(board, work, registers);
-    let number = store_refusal(m, address);
-    if number != OK {
-        return refused(number, registers);
-    }
-    finished(board, work, stored(m, address, value), allowance)
+    let run = stored(board, work, started(registers, allowance), address, value);
+    finished(work, run)
 }
 
-// Evict (a): rows 1, 2, 4 to 6, the count's test, 7, 14 and 12; then what `evicted` says.
+// "Evict (a): empties the slot if it holds a; otherwise nothing, value 0. Value 1 if held."
 pub fn evict(
     board: &mut [u64],
     work: &mut [u64],
@@ -145,121 +119,88 @@ pub fn evict(
     address: u64,
     allowance: u32,
 ) -> Answer {
-    let number = memory_refusal(board, work);
+    let number = line_refusal(board, work, registers, address);
     if number != OK {
-        return refused(number, registers);
+        return answered(number, 0, registers);
     }
-    let m = decoded(board, work, registers);
-    let number = line_refusal(m, address);
-    if number != OK {
-        return refused(number, registers);
+    let k = slot_for(work, address);
+    if !holds(work, k, address) {
+        return answered(OK, 0, registers);
     }
-    finished(board, work, evicted(m, address), allowance)
+    let mut run = emptied(board, work, started(registers, allowance), k);
+    run.value = HELD;
+    finished(work, run)
 }
 
-// Commit: rows 1, 2, 4, 7, 14, 9 and 10, and no store is ever due; then what `committed` says.
-pub fn commit(board: &mut [u64], work: &mut [u64], registers: Registers, allowance: u32) -> Answer {
-    let number = memory_refusal(board, work);
+// "Commit: s becomes s + 1." No store is ever due, so that no allowance is too small.
+pub fn commit(
+    board: &mut [u64],
+    work: &mut [u64],
+    registers: Registers,
+    _allowance: u32,
+) -> Answer {
+    let number = commit_refusal(board, work, registers);
     if number != OK {
-        return refused(number, registers);
+        return answered(number, 0, registers);
     }
-    let m = decoded(board, work, registers);
-    let number = commit_refusal(m);
-    if number != OK {
-        return refused(number, registers);
-    }
-    finished(board, work, committed(m), allowance)
+    let mut next = registers;
+    next.epoch = sum(registers.epoch, 1);
+    answered(OK, 0, next)
 }
 
-// "A begin call takes a target from P + 1 to s - 1": rows 1, 2, 4, 7, 14 and 15; then what `begun` says.
-// "like every later call without board stores, it takes no allowance and reports 0".
+// "A begin call takes a target from P + 1 to s - 1; it visits no slot": "The registers gain the
+// target". "like every later call without board stores, it takes no allowance and reports 0".
 pub fn begin(board: &[u64], work: &[u64], registers: Registers, target: u64) -> Answer {
-    let number = memory_refusal(board, work);
+    let number = begin_refusal(board, work, registers, target);
     if number != OK {
-        return refused(number, registers);
+        return answered(number, 0, registers);
     }
-    let m = decoded(board, work, registers);
-    let number = begin_refusal(m, target);
-    if number != OK {
-        return refused(number, registers);
-    }
-    let after = begun(m, target);
-    let left = after.registers;
-    Answer {
-        number: OK,
-        value: 0,
-        stores: 0,
-        registers: left,
-    }
+    let mut next = registers;
+    next.target = target;
+    answered(OK, 0, next)
 }
 
-// Scan: rows 1, 2, 4, 6, the count's test, 7, 14, 11 and 12; then what `scanned` says.
+// Scan: its tests, then what `scanned` says.
 pub fn scan(board: &mut [u64], work: &mut [u64], registers: Registers, allowance: u32) -> Answer {
-    let number = memory_refusal(board, work);
+    let number = scan_refusal(board, work, registers);
     if number != OK {
-        return refused(number, registers);
+        return answered(number, 0, registers);
     }
-    let m = decoded(board, work, registers);
-    let number = scan_refusal(m);
-    if number != OK {
-        return refused(number, registers);
-    }
-    finished(board, work, scanned(m), allowance)
-}
-
-// One slot word of the old count: "whose valid and dirty bits are both 1, whatever else they hold".
-fn tallied(word: u64) -> u64 {
-    let slot = slot_of(word, 0);
-    if !slot.valid {
-        return 0;
-    }
-    if !slot.dirty {
-        return 0;
-    }
-    1
+    let run = scanned(board, work, started(registers, allowance));
+    finished(work, run)
 }
 
 // "the old count", as the tally was before request 5/13: "the number of slot words whose valid and
-// dirty bits are both 1".
+// dirty bits are both 1, whatever else they hold".
 pub fn dirty_count(work: &[u64]) -> u64 {
-    let slots = slot_count(work.len() as u64);
     let mut count = 0;
-    for k in 0..slots {
-        count = sum(count, tallied(word_at(work, slot_place(k))));
+    for k in 0..slot_count(work) {
+        let slot = slot_at(work, k);
+        count = sum(count, slot.valid & slot.dirty);
     }
     count
 }
 
-// Tally: rows 1, 2 and 4. "The tally is then read from the registers". It returns none: those of its
-// answer are zero.
+// Tally: "The tally is then read from the registers". It returns none: those of its answer are zero.
 pub fn tally(board: &[u64], work: &[u64], registers: Registers) -> Answer {
-    let number = memory_refusal(board, work);
+    let number = state_refusal(board, work, registers);
     if number != OK {
-        return refused(number, Registers::zero());
+        return answered(number, 0, Registers::zero());
     }
-    let number = tally_refusal(decoded(board, work, registers));
-    if number != OK {
-        return refused(number, Registers::zero());
-    }
-    Answer {
-        number: OK,
-        value: registers.dirty,
-        stores: 0,
-        registers: Registers::zero(),
-    }
+    answered(OK, registers.dirty, Registers::zero())
 }
 
 // "A status question gives the number of filter bits set, and refuses only by number 2; like every
 // later call without board stores, it takes no allowance and reports 0."
 pub fn filter_bits(work: &[u64]) -> Answer {
-    let words = work.len() as u64;
-    if !work_good(words) {
-        return refused(WORK, Registers::zero());
+    if !work_good(work) {
+        return answered(WORK, 0, Registers::zero());
     }
-    Answer {
-        number: OK,
-        value: bits_set(decoded_filter(work, slot_count(words))),
-        stores: 0,
-        registers: Registers::zero(),
+    let slots = slot_count(work);
+    let mut count: u32 = 0;
+    for i in 0..FILTER_WORDS {
+        let word = word_at(work, filter_place(slots, i));
+        count = std::num::wrapping_add_u32(count, u64::count_ones(word));
     }
+    answered(OK, count as u64, Registers::zero())
 }

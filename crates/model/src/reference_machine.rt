@@ -1,10 +1,10 @@
 // "The uncached loom", in the field's term a reference machine: it has neither cache nor log, and
 // recovery is judged by its copies of the lines.
 use crate::refusals::OK;
-use crate::words::LINE_CAPACITY;
-use crate::words::index;
 use crate::words::sum;
-ghost use Prim.Native.Nat.{_≤_};
+
+// The most lines that the machine has: those of a board of 300 words with one log entry.
+const LINE_CAPACITY: usize = 296;
 
 // Copies are kept of the epochs p to e - 1, at most 16 since s - P is at most 16: that of an epoch
 // at its number modulo 16, in one array, 296 words to a copy.
@@ -21,37 +21,6 @@ pub struct Reference {
     pub copies: [u64; COPY_WORDS],
 }
 
-// Where the copy of an epoch begins.
-fn copy_start(epoch: u64) -> usize
-    ensures { λ r. ⌜ r ≤ 4440 ⌝ }
-{
-    (epoch % COPIES) as usize * LINE_CAPACITY
-}
-
-// The copies, with the lines as the copy of an epoch.
-fn with_copy(
-    copies: [u64; COPY_WORDS],
-    lines: [u64; LINE_CAPACITY],
-    epoch: u64,
-) -> [u64; COPY_WORDS] {
-    let start = copy_start(epoch);
-    let mut next = copies;
-    for i in 0..LINE_CAPACITY {
-        next[start + i] = lines[i];
-    }
-    next
-}
-
-// The copy of an epoch.
-fn copy_of(copies: [u64; COPY_WORDS], epoch: u64) -> [u64; LINE_CAPACITY] {
-    let start = copy_start(epoch);
-    let mut lines = [0; LINE_CAPACITY];
-    for i in 0..LINE_CAPACITY {
-        lines[i] = copies[start + i];
-    }
-    lines
-}
-
 impl Reference {
     // "A fresh one, as format leaves the board: lines zero, e = 1, p = 0, copy 0 the lines."
     pub fn fresh(lines: u64) -> Reference {
@@ -66,13 +35,13 @@ impl Reference {
 
     // "Store: line a becomes the value." "All else, refused and cut calls too, changes nothing."
     pub fn store(self, number: u64, address: u64, value: u64) -> Reference {
-        if number != OK {
+        let at = address as usize;
+        if number != OK || address >= self.line_count {
             return self;
         }
-        if address >= self.line_count {
+        if at >= LINE_CAPACITY {
             return self;
         }
-        let at = index(address, LINE_CAPACITY);
         let mut next = self;
         next.lines[at] = value;
         next
@@ -83,21 +52,18 @@ impl Reference {
         if number != OK {
             return self;
         }
-        let old = self.copies;
-        let lines = self.lines;
-        let copies = with_copy(old, lines, self.running_epoch);
+        let start = (self.running_epoch % COPIES) as usize * LINE_CAPACITY;
         let mut next = self;
-        next.copies = copies;
+        for i in 0..LINE_CAPACITY {
+            next.copies[start + i] = self.lines[i];
+        }
         next.running_epoch = sum(self.running_epoch, 1);
         next
     }
 
     // "Scan with a value not 0: p is that value."
     pub fn scan(self, number: u64, value: u64) -> Reference {
-        if number != OK {
-            return self;
-        }
-        if value == 0 {
+        if number != OK || value == 0 {
             return self;
         }
         let mut next = self;
@@ -111,20 +77,21 @@ impl Reference {
         if number != OK {
             return self;
         }
-        let copies = self.copies;
-        let lines = copy_of(copies, self.persisted_epoch);
+        let start = (self.persisted_epoch % COPIES) as usize * LINE_CAPACITY;
         let mut next = self;
-        next.lines = lines;
+        for i in 0..LINE_CAPACITY {
+            next.lines[i] = self.copies[start + i];
+        }
         next.running_epoch = sum(self.persisted_epoch, 1);
         next
     }
 
     // The word of a line now; 0 where there is no such line.
     pub fn line(self, address: u64) -> u64 {
-        if address >= self.line_count {
+        let at = address as usize;
+        if address >= self.line_count || at >= LINE_CAPACITY {
             return 0;
         }
-        let at = index(address, LINE_CAPACITY);
         self.lines[at]
     }
 

@@ -1,107 +1,65 @@
 // The sets of slots and a line's place in its set, by document 02's request 6/13, "Four ways", which
 // the comments quote.
-use crate::machine::*;
 use crate::words::*;
 
-// Which slot of a set was looked for and found first; `Nowhere` where the set has none.
-pub enum Found {
-    At(u64),
-    Nowhere,
-}
+// What a slot is to a line that is looked for or brought in, the least first: `slot_for` takes the
+// slot of least rank. A dirty slot's rank grows with its tag.
+const HOLDS_IT: u64 = 0;
 
-// "address a belongs in any slot of set a mod S/4": the slot at a way, 0 to 3, of the set of an
-// address.
-pub fn way_slot(m: Machine, address: u64, way: u64) -> u64 {
-    sum(first_slot(home_set(address, m.slot_count)), way)
+const IS_EMPTY: u64 = 1;
+
+const IS_CLEAN: u64 = 2;
+
+const IS_DIRTY: u64 = 3;
+
+// "Set g is slots 4g to 4g + 3; address a belongs in any slot of set a mod S/4": the first slot of
+// the set of an address.
+pub fn first_slot(work: &[u64], address: u64) -> u64 {
+    let sets = slot_count(work) / WAYS;
+    if sets == 0 {
+        return 0;
+    }
+    let set = address % sets;
+    sum(sum(set, set), sum(set, set))
 }
 
 // Whether slot k holds a line.
-pub fn holds(m: Machine, k: u64, address: u64) -> bool {
-    let slot = slot_at(m, k);
-    if !slot.valid {
-        return false;
-    }
-    slot.address == address
+pub fn holds(work: &[u64], k: u64, address: u64) -> bool {
+    let slot = slot_at(work, k);
+    slot.valid == SET && slot.address == address
 }
 
-// "A held line": it is in one of the slots of its set.
-pub fn slot_holding(m: Machine, address: u64) -> Found {
-    for way in 0..WAYS {
-        let k = way_slot(m, address, way);
-        if holds(m, k, address) {
-            return Found::At(k);
-        }
+// The rank of slot k for a line. Test 6 has passed, so that a slot which is not valid is empty.
+fn rank(work: &[u64], k: u64, address: u64) -> u64 {
+    if holds(work, k, address) {
+        return HOLDS_IT;
     }
-    Found::Nowhere
+    let slot = slot_at(work, k);
+    if slot.valid != SET {
+        return IS_EMPTY;
+    }
+    if slot.dirty != SET {
+        return IS_CLEAN;
+    }
+    sum(IS_DIRTY, slot.tag)
 }
 
-// "the first empty slot": the first whose slot word is zero.
-fn first_empty(m: Machine, address: u64) -> Found {
-    for way in 0..WAYS {
-        let k = way_slot(m, address, way);
-        if slot_word(slot_at(m, k)) == 0 {
-            return Found::At(k);
-        }
-    }
-    Found::Nowhere
-}
-
-// "the first clean one", where no slot of the set is empty.
-fn first_clean(m: Machine, address: u64) -> Found {
-    for way in 0..WAYS {
-        let k = way_slot(m, address, way);
-        let slot = slot_at(m, k);
-        if !slot.dirty {
-            return Found::At(k);
-        }
-    }
-    Found::Nowhere
-}
-
-// Of two slots the one with the smaller tag, the lower "among equals".
-fn smaller_tag(m: Machine, lower: u64, higher: u64) -> u64 {
-    let lower_slot = slot_at(m, lower);
-    let higher_slot = slot_at(m, higher);
-    if higher_slot.tag < lower_slot.tag {
+// Of two slots the one of the lesser rank: the "lowest slot among equals".
+fn preferred(work: &[u64], address: u64, lower: u64, higher: u64) -> u64 {
+    if rank(work, higher, address) < rank(work, lower, address) {
         return higher;
     }
     lower
 }
 
-// "the dirty one with the smallest tag, lowest slot among equals", where every slot of the set is
-// dirty.
-fn smallest_tag(m: Machine, address: u64) -> u64 {
-    let mut smallest = way_slot(m, address, 0);
-    for way in 1..WAYS {
-        smallest = smaller_tag(m, smallest, way_slot(m, address, way));
-    }
-    smallest
-}
-
-// "the first clean one, else the dirty one with the smallest tag".
-fn clean_or_dirty(m: Machine, address: u64) -> u64 {
-    let clean = first_clean(m, address);
-    match clean {
-        Found::At(k) => k,
-        Found::Nowhere => smallest_tag(m, address),
-    }
-}
-
-// "A line not held takes the first empty slot, else the first clean one, else the dirty one with the
-// smallest tag, lowest slot among equals."
-pub fn slot_taken(m: Machine, address: u64) -> u64 {
-    let empty = first_empty(m, address);
-    match empty {
-        Found::At(k) => k,
-        Found::Nowhere => clean_or_dirty(m, address),
-    }
-}
-
-// The slot of a line: the one that holds it, else the one that it takes.
-pub fn slot_for(m: Machine, address: u64) -> u64 {
-    let holding = slot_holding(m, address);
-    match holding {
-        Found::At(k) => k,
-        Found::Nowhere => slot_taken(m, address),
-    }
+// The slot of a line: the one that holds it, if any. "A line not held takes the first empty slot,
+// else the first clean one, else the dirty one with the smallest tag, lowest slot among equals."
+pub fn slot_for(work: &[u64], address: u64) -> u64 {
+    let first = first_slot(work, address);
+    let second = sum(first, 1);
+    let third = sum(first, 2);
+    let fourth = sum(first, 3);
+    let of_two = preferred(work, address, first, second);
+    let of_three = preferred(work, address, of_two, third);
+    preferred(work, address, of_three, fourth)
 }

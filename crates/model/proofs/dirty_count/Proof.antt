@@ -5,10 +5,10 @@ use Rattle.model.proofs.dirty_count.Statement.{statement}
 use Rattle.model.proofs.dirty_count.Tie as tie
 
 abbrev Inv-loop : tie.InvT-loop
-Inv-loop work slots count₀ k₀ count k = Unit {0}
+Inv-loop work count₀ k₀ k-end count k = Unit {0}
 
 abbrev μ-loop : tie.MeasureT-loop
-μ-loop work slots count₀ k₀ count k = slots - k
+μ-loop work count₀ k₀ k-end count k = k-end - k
 
 slot-count-requires : tie.Need-slot-count-requires Inv-loop μ-loop
 slot-count-requires c κs = search needs
@@ -16,14 +16,8 @@ slot-count-requires c κs = search needs
 loop-holds : tie.Need-loop-holds Inv-loop μ-loop
 loop-holds c = search needs
 
-slot-place-requires : tie.Need-slot-place-requires Inv-loop μ-loop
-slot-place-requires c κs = search needs
-
-word-at-requires : tie.Need-word-at-requires Inv-loop μ-loop
-word-at-requires c κs = search needs
-
-tallied-requires : tie.Need-tallied-requires Inv-loop μ-loop
-tallied-requires c κs = search needs
+slot-at-requires : tie.Need-slot-at-requires Inv-loop μ-loop
+slot-at-requires c κs = search needs
 
 sum-requires : tie.Need-sum-requires Inv-loop μ-loop
 sum-requires c κs = search needs
@@ -48,9 +42,7 @@ dirty-count-spec =
     μ-loop
     slot-count-requires
     loop-holds
-    slot-place-requires
-    word-at-requires
-    tallied-requires
+    slot-at-requires
     sum-requires
     add-k
     loop-less

@@ -5,16 +5,22 @@ use Rattle.model.proofs.effects.run_length.Statement.{statement}
 use Rattle.model.proofs.effects.run_length.Tie as tie
 
 abbrev Inv-loop : tie.InvT-loop
-Inv-loop m target length i₀ i = Unit {0}
+Inv-loop board target length i₀ i = Unit {0}
 
 abbrev μ-loop : tie.MeasureT-loop
-μ-loop m target length i₀ i = length - i
+μ-loop board target length i₀ i = length - i
+
+header-of-requires : tie.Need-header-of-requires Inv-loop μ-loop
+header-of-requires c κs = search needs
 
 loop-holds : tie.Need-loop-holds Inv-loop μ-loop
 loop-holds c = search needs
 
-log-entry-requires : tie.Need-log-entry-requires Inv-loop μ-loop
-log-entry-requires c κs = search needs
+log-place-requires : tie.Need-log-place-requires Inv-loop μ-loop
+log-place-requires c κs = search needs
+
+entry-at-requires : tie.Need-entry-at-requires Inv-loop μ-loop
+entry-at-requires c κs = search needs
 
 returns : tie.Need-returns Inv-loop μ-loop
 returns c = search needs
@@ -37,8 +43,10 @@ run-length-spec =
     (tie.spec
     Inv-loop
     μ-loop
+    header-of-requires
     loop-holds
-    log-entry-requires
+    log-place-requires
+    entry-at-requires
     returns
     add-i
     loop-less

@@ -1,0 +1,60 @@
+-- `model::effects::lines_restored` is safe and ends. The invariant: the board keeps its length. The measure is the turns left. Assumes nothing.
+use borrow.Author.Needs.{needs}
+use Prim.Native.Nat.{_-_}
+use lib.ListN.{length}
+use mathlib.Core.Path.{_≡_}
+use Rattle.model.proofs.effects.lines_restored.Statement.{statement}
+use Rattle.model.proofs.effects.lines_restored.Tie as tie
+
+abbrev Inv-loop : tie.InvT-loop
+Inv-loop board₀ count next₀ newer₀ board next newer = length board ≡ length board₀
+
+abbrev μ-loop : tie.MeasureT-loop
+μ-loop board₀ count next₀ newer₀ board next newer = count - newer
+
+header-of-requires : tie.Need-header-of-requires Inv-loop μ-loop
+header-of-requires c κs = search needs
+
+loop-holds : tie.Need-loop-holds Inv-loop μ-loop
+loop-holds c = search needs
+
+sub-entry-restored : tie.Need-sub-entry-restored Inv-loop μ-loop
+sub-entry-restored c = search needs
+
+sub-entry-restored-2 : tie.Need-sub-entry-restored-2 Inv-loop μ-loop
+sub-entry-restored-2 c = search needs
+
+entry-restored-requires : tie.Need-entry-restored-requires Inv-loop μ-loop
+entry-restored-requires c κs = search needs
+
+add-newer : tie.Need-add-newer Inv-loop μ-loop
+add-newer c = search needs
+
+loop-less : tie.Need-loop-less Inv-loop μ-loop
+loop-less c = search needs
+
+loop-again : tie.Need-loop-again Inv-loop μ-loop
+loop-again c = search needs
+
+same-length : tie.Need-same-length Inv-loop μ-loop
+same-length c = search needs
+
+returns : tie.Need-returns Inv-loop μ-loop
+returns c = search needs
+
+pub lines-restored-spec : {M : Type 1} → statement M
+lines-restored-spec =
+    tie.close
+    (tie.spec
+    Inv-loop
+    μ-loop
+    header-of-requires
+    loop-holds
+    sub-entry-restored
+    sub-entry-restored-2
+    entry-restored-requires
+    add-newer
+    loop-less
+    loop-again
+    same-length
+    returns)
