@@ -1,37 +1,31 @@
-// A call made on both sides, and what differs.
-use crate::calls::*;
-use crate::filter_words::is_false_hit;
-use crate::packing::*;
+// A call made on both sides, what differs, and which numbers each call has answered.
 use crate::print;
-use crate::turns::TURNS;
+use crate::random::sum;
+use crate::sides::*;
 
-// Of how many differences of a group each is printed; all are counted.
-const SHOWN: u64 = 3;
+// Of how many differences each is printed; all are counted.
+const SHOWN: u64 = 5;
 
 // The numbers that are counted are below this; an answer with another one is a difference.
-pub const NUMBERS: usize = 32;
+pub const NUMBERS: u64 = 32;
+
+const COUNTS: usize = KINDS as usize * NUMBERS as usize;
+
+pub const CUT: u64 = 12;
 
 pub enum Part {
-    Nothing,
     Number,
-    LargeNumber,
     Value,
     Stores,
     Register,
     Board,
     Work,
-    Count,
+    DirtySlots,
     Persisted,
     Line,
-    Record,
-    Total,
-    Name,
-    Hex,
-    Planned,
-    Turn,
 }
 
-// The first word that differs: what the library has, and what the model or the reference machine
+// Two numbers that ought to be the same: what the library has, and what the model or the reference machine
 // has.
 pub struct Difference {
     pub part: Part,
@@ -40,23 +34,13 @@ pub struct Difference {
     pub wanted: u64,
 }
 
-// What a group has seen.
+// What the test has seen: calls, differences, the most stores of a call that is no power-up, and how
+// often each call has answered each number.
 pub struct Score {
-    pub group: u64,
     pub calls: u64,
     pub differences: u64,
-    // How often each number was answered.
-    pub numbers: [u64; NUMBERS],
-    // The most stores of one call, power-up left out.
     pub most_stores: u64,
-    // How many scans persisted an epoch.
-    pub persisted: u64,
-    // How many accepted calls left a log that goes on past the ring's end.
-    pub wrapped: u64,
-    // How many accepted calls flushed for a line that no buffered entry is of.
-    pub false_hits: u64,
-    // How often each turn was taken, in the groups that have turns.
-    pub turns: [u64; TURNS],
+    pub answers: [u64; COUNTS],
 }
 
 pub struct Step {
@@ -65,21 +49,26 @@ pub struct Step {
     pub score: Score,
 }
 
-pub fn new_score(group: u64) -> Score {
+pub fn new_score() -> Score {
     Score {
-        group,
         calls: 0,
         differences: 0,
-        numbers: [0; NUMBERS],
         most_stores: 0,
-        persisted: 0,
-        wrapped: 0,
-        false_hits: 0,
-        turns: [0; TURNS],
+        answers: [0; COUNTS],
     }
 }
 
-pub fn differing(part: Part, place: u64, found: u64, wanted: u64) -> Difference {
+fn place_of(kind: u64, number: u64) -> u64 {
+    kind % KINDS * NUMBERS + number % NUMBERS
+}
+
+// How often a call has answered a number.
+pub fn answered(score: Score, kind: u64, number: u64) -> u64 {
+    let at = index(place_of(kind, number), COUNTS);
+    score.answers[at]
+}
+
+pub fn between(part: Part, place: u64, found: u64, wanted: u64) -> Difference {
     Difference {
         part,
         place,
@@ -89,15 +78,11 @@ pub fn differing(part: Part, place: u64, found: u64, wanted: u64) -> Difference 
 }
 
 pub fn no_difference() -> Difference {
-    differing(Part::Nothing, 0, 0, 0)
+    between(Part::Number, 0, 0, 0)
 }
 
 pub fn is_same(d: Difference) -> bool {
-    let part = d.part;
-    match part {
-        Part::Nothing => true,
-        _ => false,
-    }
+    d.found == d.wanted
 }
 
 fn first_different(x: &[u64], y: &[u64]) -> usize {
@@ -112,6 +97,7 @@ fn first_different(x: &[u64], y: &[u64]) -> usize {
     x.len()
 }
 
+// Of two lists of words, as far as both go.
 pub fn between_words(part: Part, x: &[u64], y: &[u64]) -> Difference {
     let at = first_different(x, y);
     if at >= x.len() {
@@ -120,66 +106,40 @@ pub fn between_words(part: Part, x: &[u64], y: &[u64]) -> Difference {
     if at >= y.len() {
         return no_difference();
     }
-    differing(part, at as u64, x[at], y[at])
-}
-
-fn between_registers(x: Outcome, y: Outcome) -> Difference {
-    let a = x.registers;
-    let b = y.registers;
-    between_words(Part::Register, &a, &b)
+    between(part, at as u64, x[at], y[at])
 }
 
 fn between_outcomes(x: Outcome, y: Outcome) -> Difference {
+    let found = x.registers;
+    let wanted = y.registers;
     if x.number != y.number {
-        return differing(Part::Number, 0, x.number, y.number);
-    }
-    if x.number >= NUMBERS as u64 {
-        return differing(Part::LargeNumber, 0, x.number, NUMBERS as u64 - 1);
+        return between(Part::Number, 0, x.number, y.number);
     }
     if x.value != y.value {
-        return differing(Part::Value, 0, x.value, y.value);
+        return between(Part::Value, 0, x.value, y.value);
     }
     if x.stores != y.stores {
-        return differing(Part::Stores, 0, x.stores, y.stores);
+        return between(Part::Stores, 0, x.stores, y.stores);
     }
-    between_registers(x, y)
+    between_words(Part::Register, &found, &wanted)
 }
 
-fn between_boards(x: Reply, y: Reply) -> Difference {
-    let a = x.board;
-    let b = y.board;
-    between_words(Part::Board, &a, &b)
-}
-
-fn between_works(x: Reply, y: Reply) -> Difference {
-    let a = x.work;
-    let b = y.work;
-    between_words(Part::Work, &a, &b)
-}
-
-pub fn between_replies(x: Reply, y: Reply) -> Difference {
+fn between_replies(x: Reply, y: Reply) -> Difference {
     let found = x.outcome;
     let wanted = y.outcome;
+    let board = x.board;
+    let work = x.work;
+    let model_board = y.board;
+    let model_work = y.work;
     let first = between_outcomes(found, wanted);
     if !is_same(first) {
         return first;
     }
-    let second = between_boards(x, y);
+    let second = between_words(Part::Board, &board, &model_board);
     if !is_same(second) {
         return second;
     }
-    between_works(x, y)
-}
-
-// Whether the next difference of a group is printed.
-pub fn is_shown(score: Score) -> bool {
-    score.differences < SHOWN
-}
-
-pub fn with_difference(score: Score) -> Score {
-    let mut next = score;
-    next.differences = sum(score.differences, 1);
-    next
+    between_words(Part::Work, &work, &model_work)
 }
 
 // The score with a difference more, where there is one.
@@ -187,106 +147,31 @@ pub fn noted(score: Score, s: State, c: Call, d: Difference) -> Score {
     if is_same(d) {
         return score;
     }
-    if is_shown(score) {
-        print::difference_line(score.group, score.calls, s, c, d);
-    }
-    with_difference(score)
-}
-
-// Whether a board's log goes on past the ring's end: start + length > L.
-fn is_wrapped(control: u64, shape: u64) -> bool {
-    sum(start_of(control), length_of(control)) > entries_of(shape)
-}
-
-fn with_wrapped(score: Score, s: State, number: u64) -> Score {
-    if number != 0 {
-        return score;
-    }
-    if !is_wrapped(s.board[CONTROL], s.board[SHAPE]) {
-        return score;
+    if score.differences < SHOWN {
+        print::difference_line(score.calls, s, c, d);
     }
     let mut next = score;
-    next.wrapped = sum(score.wrapped, 1);
+    next.differences = sum(score.differences, 1);
     next
 }
 
-fn with_false_hit(score: Score, s: State, c: Call, number: u64, left: State) -> Score {
-    if number != 0 {
-        return score;
-    }
-    if !is_false_hit(s, c, left) {
-        return score;
-    }
-    let mut next = score;
-    next.false_hits = sum(score.false_hits, 1);
-    next
-}
-
-pub fn is_power_up(c: Call) -> bool {
-    let kind = c.kind;
-    match kind {
-        Kind::PowerUp => true,
-        _ => false,
-    }
-}
-
-fn with_stores(score: Score, c: Call, stores: u64) -> Score {
-    if is_power_up(c) {
-        return score;
-    }
-    if stores <= score.most_stores {
-        return score;
-    }
-    let mut next = score;
-    next.most_stores = stores;
-    next
-}
-
-pub fn is_scan(c: Call) -> bool {
-    let kind = c.kind;
-    match kind {
-        Kind::Scan => true,
-        _ => false,
-    }
-}
-
-// A scan's value is the epoch that it persisted, or 0.
-fn with_persisted(score: Score, c: Call, value: u64) -> Score {
-    if !is_scan(c) {
-        return score;
-    }
-    if value == 0 {
-        return score;
-    }
-    let mut next = score;
-    next.persisted = sum(score.persisted, 1);
-    next
-}
-
-// One answer more.
-pub fn counted(score: Score, number: u64) -> Score {
+// One answer more. A number past those that are counted is a difference.
+fn counted(score: Score, c: Call, o: Outcome) -> Score {
     let mut next = score;
     next.calls = sum(score.calls, 1);
-    if number >= NUMBERS as u64 {
+    if o.number >= NUMBERS {
+        next.differences = sum(score.differences, 1);
         return next;
     }
-    let at = number as usize;
-    let seen = score.numbers[at];
-    next.numbers[at] = sum(seen, 1);
-    next
-}
-
-fn after(s: State, reply: Reply) -> State {
-    let board = reply.board;
-    let work = reply.work;
-    let registers = reply.outcome.registers;
-    State {
-        board,
-        work,
-        board_words: s.board_words,
-        work_words: s.work_words,
-        registers,
+    let at = index(place_of(c.kind, o.number), COUNTS);
+    let seen = score.answers[at];
+    next.answers[at] = sum(seen, 1);
+    if c.kind != POWER_UP {
+        if o.stores > score.most_stores {
+            next.most_stores = o.stores;
+        }
     }
+    next
 }
 
 // One call, made on both sides and compared. It goes on from the library's state, so that one
@@ -294,16 +179,20 @@ fn after(s: State, reply: Reply) -> State {
 pub fn compared(s: State, c: Call, score: Score) -> Step {
     let found = library_reply(s, c);
     let wanted = model_reply(s, c);
+    let board = found.board;
+    let work = found.work;
     let outcome = found.outcome;
-    let state = after(s, found);
+    let registers = outcome.registers;
     let judged = noted(score, s, c, between_replies(found, wanted));
-    let with_number = counted(judged, outcome.number);
-    let with_most = with_stores(with_number, c, outcome.stores);
-    let with_epoch = with_persisted(with_most, c, outcome.value);
-    let with_hit = with_false_hit(with_epoch, s, c, outcome.number, state);
     Step {
-        state,
+        state: State {
+            board,
+            work,
+            board_words: s.board_words,
+            work_words: s.work_words,
+            registers,
+        },
         outcome,
-        score: with_wrapped(with_hit, state, outcome.number),
+        score: counted(judged, c, outcome),
     }
 }

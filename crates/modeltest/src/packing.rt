@@ -1,8 +1,7 @@
 // The packed words of the two memories and their places, by this program's own numbers and not by
 // those of `layout`: a wrong layout must show, not be shared. A layout that changes changes this
 // file, and no other of this program.
-use crate::calls::at_most;
-use crate::calls::sum;
+use crate::random::sum;
 
 // A board: the control word, the shape word, the log's entries of two words each, the lines.
 pub const CONTROL: usize = 0;
@@ -15,36 +14,43 @@ const LOG: u64 = 2;
 // 64 words.
 pub const BUFFER_ENTRIES: u64 = 32;
 
-const BUFFER_WORDS: usize = 64;
-
 pub const FILTER_WORDS: u64 = 64;
 
-const BEHIND_SLOTS: usize = BUFFER_WORDS + FILTER_WORDS as usize;
+const BEHIND_SLOTS: u64 = 2 * BUFFER_ENTRIES + FILTER_WORDS;
 
-// The model takes boards of up to 300 words. The work memory has room for S = 260, which is refused,
-// and for two words more.
-pub const BOARD_ROOM: usize = 300;
+// The slots of a set, and the most sets that there may be.
+const WAYS: u64 = 4;
 
-pub const WORK_ROOM: usize = 2 * 260 + BEHIND_SLOTS + 2;
+pub const MOST_SETS: u64 = 64;
 
-// N and L, in fields of 20 bits, are at most 65,536.
 pub const MOST_LINES: u64 = 65536;
-
-pub const MOST_COUNT: u64 = 0xFFFFF;
 
 pub const LAST_EPOCH: u64 = 0xFFFFFF;
 
-pub const LAST_ADDRESS: u64 = 0xFFFF;
+// The largest board of a test has 300 words, the largest work memory those of 256 slots. Behind both
+// there is room for more, which no call may touch that is not lent it.
+pub const BOARD_ROOM: usize = 304;
 
-pub fn board_words(lines: u64, entries: u64) -> usize {
-    at_most(sum(entry_place(entries), lines) as usize, BOARD_ROOM)
+pub const WORK_ROOM: usize = 656;
+
+pub fn board_words(lines: u64, entries: u64) -> u64 {
+    sum(entry_place(entries), lines)
 }
 
-pub fn work_words(slots: u64) -> usize {
-    at_most(
-        sum(slot_place(slots), BEHIND_SLOTS as u64) as usize,
-        WORK_ROOM,
-    )
+pub fn work_words(slots: u64) -> u64 {
+    sum(slot_place(slots), BEHIND_SLOTS)
+}
+
+pub fn slots_of(sets: u64) -> u64 {
+    sets % (MOST_SETS + 1) * WAYS
+}
+
+// S of a work memory of so many words.
+pub fn slots_in(words: u64) -> u64 {
+    if words < BEHIND_SLOTS {
+        return 0;
+    }
+    (words - BEHIND_SLOTS) / 2
 }
 
 // The place on a board of the packed word of an entry of the ring.
@@ -52,7 +58,8 @@ pub fn entry_place(ring_place: u64) -> u64 {
     sum(LOG, sum(ring_place, ring_place))
 }
 
-// The places in a work memory of a slot word, and of the packed word of a buffered entry.
+// The places in a work memory of a slot word, of the packed word of a buffered entry, and of a word of
+// the filter.
 pub fn slot_place(k: u64) -> u64 {
     sum(k, k)
 }
@@ -65,245 +72,95 @@ pub fn filter_place(slots: u64, i: u64) -> u64 {
     sum(buffer_place(slots, BUFFER_ENTRIES), i)
 }
 
-// S of a work memory of so many words.
-pub fn slots_in(work_words: usize) -> u64 {
-    if work_words < BEHIND_SLOTS {
-        return 0;
+// A field of a packed word: where it begins, counted from the least significant bit, and its mask.
+pub struct Field {
+    pub shift: u64,
+    pub mask: u64,
+}
+
+// The words that have fields. A word of the filter, and a register, is a field as a whole.
+pub const CONTROL_WORD: u64 = 0;
+
+pub const SHAPE_WORD: u64 = 1;
+
+pub const ENTRY_WORD: u64 = 2;
+
+pub const SLOT_WORD: u64 = 3;
+
+pub const FILTER_WORD: u64 = 4;
+
+pub const REGISTER_WORD: u64 = 5;
+
+// The fields of a word are numbered from its most significant one; past the last one it is meant again.
+pub const MOST_FIELDS: u64 = 5;
+
+fn field_of(shift: u64, mask: u64) -> Field {
+    Field { shift, mask }
+}
+
+// Control word: P 24, start 20, length 20. Shape word: zero 24, N 20, L 20.
+fn counts_field(n: u64) -> Field {
+    match n {
+        0 => field_of(40, 0xFFFFFF),
+        1 => field_of(20, 0xFFFFF),
+        _ => field_of(0, 0xFFFFF),
     }
-    ((work_words - BEHIND_SLOTS) / 2) as u64
 }
 
-// The slots of a set. Set g begins at slot 4g, and a line belongs in the set of its address modulo
-// S/4.
-pub const WAYS: u64 = 4;
-
-pub fn first_of_set(set: u64) -> u64 {
-    sum(sum(set, set), sum(set, set))
-}
-
-pub fn set_of_line(address: u64, slots: u64) -> u64 {
-    let sets = slots / WAYS;
-    if sets == 0 {
-        return 0;
+// Entry: address 16, ValidFrom 24, ValidTill 24.
+fn entry_field(n: u64) -> Field {
+    match n {
+        0 => field_of(48, 0xFFFF),
+        1 => field_of(24, 0xFFFFFF),
+        _ => field_of(0, 0xFFFFFF),
     }
-    address % sets
 }
 
-// The first and the second bit of an address in the filter.
-pub fn address_bit(address: u64, is_second: bool) -> u64 {
-    if is_second {
-        return address % 65536 * 40503 % 65536 / 16;
+// Slot: valid 1, dirty 1, address 16, tag 24, zero 22.
+fn slot_field(n: u64) -> Field {
+    match n {
+        0 => field_of(63, 1),
+        1 => field_of(62, 1),
+        2 => field_of(46, 0xFFFF),
+        3 => field_of(22, 0xFFFFFF),
+        _ => field_of(0, 0x3FFFFF),
     }
-    address % 4096
 }
 
-// A mask of a bit of the filter, for its word.
-pub fn filter_mask(bit: u64) -> u64 {
-    1 << (63 - bit % 64)
+pub fn field_in(word_kind: u64, n: u64) -> Field {
+    match word_kind {
+        CONTROL_WORD | SHAPE_WORD => counts_field(n),
+        ENTRY_WORD => entry_field(n),
+        SLOT_WORD => slot_field(n),
+        _ => field_of(0, 0xFFFFFFFFFFFFFFFF),
+    }
 }
 
+pub fn value_in(word: u64, f: Field) -> u64 {
+    (word >> (f.shift % 64)) & f.mask
+}
+
+// The word with another value in a field, as far as that fits it.
+pub fn replaced(word: u64, f: Field, value: u64) -> u64 {
+    let shift = f.shift % 64;
+    (word & !(f.mask << shift)) | ((value & f.mask) << shift)
+}
+
+// P, by a board's control word.
 pub fn persisted_of(control: u64) -> u64 {
-    control >> 40
+    value_in(control, counts_field(0))
 }
 
-pub fn start_of(control: u64) -> u64 {
-    (control >> 20) & MOST_COUNT
+// The control word of an empty log that starts at the ring's first place.
+pub fn control_word(persisted: u64) -> u64 {
+    replaced(0, counts_field(0), persisted)
 }
 
-pub fn length_of(control: u64) -> u64 {
-    control & MOST_COUNT
+// N and L, by its shape word.
+pub fn lines_of(shape: u64) -> u64 {
+    value_in(shape, counts_field(1))
 }
 
 pub fn entries_of(shape: u64) -> u64 {
-    shape & MOST_COUNT
-}
-
-pub fn control_word(persisted: u64, start: u64, length: u64) -> u64 {
-    (persisted << 40) | (start << 20) | length
-}
-
-pub fn shape_word(lines: u64, entries: u64) -> u64 {
-    (lines << 20) | entries
-}
-
-pub fn entry_word(address: u64, from: u64, till: u64) -> u64 {
-    (address << 48) | ((from & LAST_EPOCH) << 24) | (till & LAST_EPOCH)
-}
-
-pub fn entry_address(word: u64) -> u64 {
-    word >> 48
-}
-
-pub fn entry_till(word: u64) -> u64 {
-    word & LAST_EPOCH
-}
-
-pub fn slot_address(word: u64) -> u64 {
-    (word >> 46) & LAST_ADDRESS
-}
-
-pub fn slot_tag(word: u64) -> u64 {
-    (word >> 22) & LAST_EPOCH
-}
-
-pub fn is_dirty(word: u64) -> bool {
-    (word >> 62) & 1 == 1
-}
-
-pub fn clean_word(address: u64) -> u64 {
-    (1 << 63) | (address << 46)
-}
-
-// A clean one that has a tag is not proper.
-pub fn tagged_word(address: u64, tag: u64) -> u64 {
-    clean_word(address) | ((tag & LAST_EPOCH) << 22)
-}
-
-pub fn dirty_word(address: u64, tag: u64) -> u64 {
-    tagged_word(address, tag) | (1 << 62)
-}
-
-// A valid one that is not valid any more.
-pub fn not_valid(word: u64) -> u64 {
-    word ^ (1 << 63)
-}
-
-// A field of a word: where it begins and its greatest value; 0 where there is no such field.
-pub struct Field {
-    pub shift: u64,
-    pub most: u64,
-}
-
-// No word has more fields.
-pub const MOST_FIELDS: u64 = 5;
-
-fn bits_from(shift: u64, most: u64) -> Field {
-    Field { shift, most }
-}
-
-fn no_field() -> Field {
-    bits_from(0, 0)
-}
-
-// The fields of the control word and of the shape word.
-fn header_field(n: u64) -> Field {
-    match n {
-        0 => bits_from(40, LAST_EPOCH),
-        1 => bits_from(20, MOST_COUNT),
-        2 => bits_from(0, MOST_COUNT),
-        _ => no_field(),
-    }
-}
-
-fn entry_field(n: u64) -> Field {
-    match n {
-        0 => bits_from(48, LAST_ADDRESS),
-        1 => bits_from(24, LAST_EPOCH),
-        2 => bits_from(0, LAST_EPOCH),
-        _ => no_field(),
-    }
-}
-
-fn slot_field(n: u64) -> Field {
-    match n {
-        0 => bits_from(63, 1),
-        1 => bits_from(62, 1),
-        2 => bits_from(46, LAST_ADDRESS),
-        3 => bits_from(22, LAST_EPOCH),
-        _ => bits_from(0, 0x3FFFFF),
-    }
-}
-
-// Field n of a board's word: of the two before the log, or of an entry's packed word.
-pub fn board_field(place: u64, entries: u64, n: u64) -> Field {
-    if place < LOG {
-        return header_field(n);
-    }
-    if place >= entry_place(entries) {
-        return no_field();
-    }
-    if place % 2 == 0 {
-        return entry_field(n);
-    }
-    no_field()
-}
-
-// Field n of a word of a work memory: of a slot word, or of a buffered entry's packed word. A filter
-// word has none.
-pub fn work_field(place: u64, slots: u64, n: u64) -> Field {
-    if place % 2 != 0 {
-        return no_field();
-    }
-    if place < slot_place(slots) {
-        return slot_field(n);
-    }
-    if place >= filter_place(slots, 0) {
-        return no_field();
-    }
-    entry_field(n)
-}
-
-// The word with another value in a field.
-pub fn replaced(word: u64, f: Field, value: u64) -> u64 {
-    let shift = f.shift % 64;
-    let old = word & (f.most << shift);
-    (word ^ old) | (value << shift)
-}
-
-// A record of a trace: two words, most significant byte first. The first has a kind of 3 bits, an
-// address of 16 and 45 bits that are zero; the second is the value.
-const WORD_BYTES: usize = 8;
-
-pub const RECORD_BYTES: usize = 2 * WORD_BYTES;
-
-pub const WORD_BITS: u64 = 64;
-
-pub const ADDRESS_BITS: u64 = 16;
-
-pub const ZERO_BITS: u64 = 45;
-
-pub const LOAD: u64 = 0;
-
-pub const STORE: u64 = 1;
-
-pub const COMMIT: u64 = 2;
-
-pub const SCAN: u64 = 3;
-
-pub const EVICT: u64 = 4;
-
-pub const KINDS: u64 = 5;
-
-// The fields of a record, in range or not.
-pub struct RecordFields {
-    pub kind: u64,
-    pub address: u64,
-    pub zero: u64,
-    pub value: u64,
-}
-
-pub fn record(kind: u64, address: u64, value: u64) -> RecordFields {
-    RecordFields {
-        kind,
-        address,
-        zero: 0,
-        value,
-    }
-}
-
-// The first word of a record whose fields are in range.
-pub fn record_word(r: RecordFields) -> u64 {
-    (r.kind << (ADDRESS_BITS + ZERO_BITS)) | (r.address << ZERO_BITS) | r.zero
-}
-
-fn record_byte(first: u64, value: u64, i: usize) -> u8 {
-    let word = if i < WORD_BYTES { first } else { value };
-    ((word >> (56 - 8 * (i % WORD_BYTES))) % 256) as u8
-}
-
-// Sets the first bytes to those of a record, as many as there are.
-pub fn put_record(bytes: &mut [u8], first: u64, value: u64) {
-    for i in 0..at_most(RECORD_BYTES, bytes.len()) {
-        bytes[i] = record_byte(first, value, i);
-    }
+    value_in(shape, counts_field(2))
 }

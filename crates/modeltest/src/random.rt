@@ -1,161 +1,99 @@
-// Pseudo-random calls. Every list has a fixed seed, so each run makes the same calls.
-use crate::calls::*;
-use crate::packing::WORK_ROOM;
-use crate::plans::MANY_LINES;
-use crate::plans::SHARED_LINES;
-use crate::plans::shared_line;
+// Pseudo-random numbers: each is a hash of a seed and of what it is drawn for, so that every run of the
+// program draws the same numbers, and no draw moves another.
 
-// A step of Marsaglia's xorshift generator: from a word that is not 0 to the next.
-pub fn scrambled(x: u64) -> u64 {
-    let a = x ^ (x << 13);
-    let b = a ^ (a >> 7);
-    b ^ (b << 17)
+// What numbers are drawn for: those of a list, ..
+pub const LINES: u64 = 1;
+
+pub const ENTRIES: u64 = 2;
+
+pub const SETS: u64 = 3;
+
+pub const START: u64 = 4;
+
+pub const EPOCHS_BEHIND: u64 = 5;
+
+pub const CHOICES: u64 = 6;
+
+// The first of eight cards.
+pub const DECK: u64 = 8;
+
+// .. of a call and of what a power-up is lent, ..
+pub const IS_AWAKE: u64 = 16;
+
+pub const IS_RARE: u64 = 17;
+
+pub const CARD: u64 = 18;
+
+pub const IS_FAR: u64 = 19;
+
+pub const ADDRESS: u64 = 20;
+
+pub const VALUE: u64 = 21;
+
+pub const TARGET_CHOICE: u64 = 22;
+
+pub const IS_CUT: u64 = 23;
+
+pub const IS_SMALL: u64 = 24;
+
+pub const ALLOWANCE: u64 = 25;
+
+pub const IS_ODD: u64 = 26;
+
+pub const IS_OTHER_SIZE: u64 = 27;
+
+pub const SLOTS: u64 = 28;
+
+// .. and of damage.
+pub const TIMES: u64 = 32;
+
+pub const REGION: u64 = 33;
+
+pub const PLACE: u64 = 34;
+
+pub const OTHER_PLACE: u64 = 35;
+
+pub const CHANGE: u64 = 36;
+
+pub const FIELD: u64 = 37;
+
+pub const EDGE: u64 = 38;
+
+pub const BIT: u64 = 39;
+
+pub fn sum(a: u64, b: u64) -> u64 {
+    std::num::wrapping_add_u64(a, b)
 }
 
-// Three steps: a call takes up to three words.
-pub fn advanced(x: u64) -> u64 {
-    scrambled(scrambled(scrambled(x)))
+pub fn difference(a: u64, b: u64) -> u64 {
+    std::num::wrapping_sub_u64(a, b)
 }
 
-// A number below a bound, from a random word.
-pub fn below(word: u64, bound: u64) -> u64 {
+// Wang's hash of 64 bits. It has sums between its shifts, so that words for several purposes from one
+// seed have nothing to do with each other.
+pub fn hashed(word: u64) -> u64 {
+    let a = sum(!word, word << 21);
+    let b = a ^ (a >> 24);
+    let c = sum(sum(b, b << 3), b << 8);
+    let d = c ^ (c >> 14);
+    let e = sum(sum(d, d << 2), d << 4);
+    let f = e ^ (e >> 28);
+    sum(f, f << 31)
+}
+
+pub fn word(seed: u64, purpose: u64) -> u64 {
+    hashed(seed ^ (purpose << 56))
+}
+
+// A number below a bound; 0 where there is none.
+pub fn below(seed: u64, purpose: u64, bound: u64) -> u64 {
     if bound == 0 {
         return 0;
     }
-    (word >> 16) % bound
+    word(seed, purpose) % bound
 }
 
-// How many of 64 calls are of each kind; the rest are tallies and status questions by turns. One call
-// in `cut_every` gets a small allowance.
-pub struct Mix {
-    pub stores: u64,
-    pub loads: u64,
-    pub evicts: u64,
-    pub commits: u64,
-    pub scans: u64,
-    pub power_ups: u64,
-    pub begins: u64,
-    pub cut_every: u64,
-}
-
-fn quiet_kind(mix: Mix, n: u64) -> Kind {
-    let commits = mix.commits;
-    let scans = sum(commits, mix.scans);
-    let power_ups = sum(scans, mix.power_ups);
-    if n < commits {
-        return Kind::Commit;
-    }
-    if n < scans {
-        return Kind::Scan;
-    }
-    if n < power_ups {
-        return Kind::PowerUp;
-    }
-    if n < sum(power_ups, mix.begins) {
-        return Kind::Begin;
-    }
-    if n % 2 == 0 {
-        return Kind::Tally;
-    }
-    Kind::FilterBits
-}
-
-fn kind_of(mix: Mix, n: u64) -> Kind {
-    let loads = sum(mix.stores, mix.loads);
-    let evicts = sum(loads, mix.evicts);
-    if n < mix.stores {
-        return Kind::Store;
-    }
-    if n < loads {
-        return Kind::Load;
-    }
-    if n < evicts {
-        return Kind::Evict;
-    }
-    quiet_kind(mix, difference(n, evicts))
-}
-
-// Registers that are zero are refused until a power-up, so that is then the likeliest call.
-fn likely_kind(mix: Mix, word: u64, epoch: u64) -> Kind {
-    if epoch == 0 {
-        if word % 4 != 0 {
-            return Kind::PowerUp;
-        }
-    }
-    kind_of(mix, below(word, 64))
-}
-
-fn small_allowance(word: u64) -> u32 {
-    if word % 2 == 0 {
-        return (word / 2 % 4) as u32;
-    }
-    (word / 2 % 80) as u32
-}
-
-fn allowance(word: u64, cut_every: u64) -> u32 {
-    if below(word, cut_every) != 0 {
-        return ALL;
-    }
-    small_allowance(word >> 40)
-}
-
-// An address on a board of so many lines; one in lines + 1 is out of range. With many lines it is one
-// of those that share bits of the filter.
-fn address(word: u64, lines: u64) -> u64 {
-    if lines < MANY_LINES {
-        return below(word, sum(lines, 1));
-    }
-    shared_line(below(word, SHARED_LINES))
-}
-
-// A target about the range: P, s, 0, or any word.
-fn odd_target(word: u64, persisted: u64, epoch: u64) -> u64 {
-    match word % 4 {
-        0 => persisted,
-        1 => epoch,
-        2 => 0,
-        _ => word,
-    }
-}
-
-// A target of begin, mostly in the range of epochs that wait: the first of them, the last, any.
-fn target(word: u64, persisted: u64, epoch: u64) -> u64 {
-    let first = sum(persisted, 1);
-    let choice = below(word, 8);
-    match choice {
-        0 => first,
-        1 | 2 => difference(epoch, 1),
-        3 => odd_target(word, persisted, epoch),
-        _ => sum(first, below(word >> 8, difference(epoch, first))),
-    }
-}
-
-// The value of a call of some kind, where P and s are as given.
-fn value(word: u64, kind: Kind, persisted: u64, epoch: u64) -> u64 {
-    match kind {
-        Kind::Begin => target(word, persisted, epoch),
-        _ => word,
-    }
-}
-
-pub fn call(word: u64, mix: Mix, lines: u64, persisted: u64, epoch: u64) -> Call {
-    let second = scrambled(word);
-    let third = scrambled(second);
-    let kind = likely_kind(mix, word, epoch);
-    Call {
-        kind,
-        address: address(second, lines),
-        value: value(third, kind, persisted, epoch),
-        allowance: allowance(third, mix.cut_every),
-    }
-}
-
-pub fn filled(words: [u64; WORK_ROOM], seed: u64) -> [u64; WORK_ROOM] {
-    let mut next = words;
-    let mut word = seed;
-    for i in 0..WORK_ROOM {
-        word = scrambled(word);
-        next[i] = word;
-    }
-    next
+// Whether something happens that happens once in so many times.
+pub fn once_in(seed: u64, purpose: u64, times: u64) -> bool {
+    below(seed, purpose, times) == 0
 }

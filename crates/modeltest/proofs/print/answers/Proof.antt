@@ -5,25 +5,25 @@ use Rattle.modeltest.proofs.print.answers.Statement.{statement}
 use Rattle.modeltest.proofs.print.answers.Tie as tie
 
 abbrev Inv-loop : tie.InvT-loop
-Inv-loop numbers i₀ i = Unit {0}
+Inv-loop score kind number₀ t4 number = Unit {0}
 
 abbrev μ-loop : tie.MeasureT-loop
-μ-loop numbers i₀ i = 32 - i
+μ-loop score kind number₀ t4 number = 32 - number
 
 loop-holds : tie.Need-loop-holds Inv-loop μ-loop
 loop-holds c = search needs
 
-mul-answer : tie.Need-mul-answer Inv-loop μ-loop
-mul-answer c = search needs
+answered-requires : tie.Need-answered-requires Inv-loop μ-loop
+answered-requires c κs = search needs
 
-array-read-answer : tie.Need-array-read-answer Inv-loop μ-loop
-array-read-answer c = search needs
+slice-aggregate-named : tie.Need-slice-aggregate-named Inv-loop μ-loop
+slice-aggregate-named c = search needs
 
-answer-requires : tie.Need-answer-requires Inv-loop μ-loop
-answer-requires c κs = search needs
+named-requires : tie.Need-named-requires Inv-loop μ-loop
+named-requires c κs = search needs
 
-add-i : tie.Need-add-i Inv-loop μ-loop
-add-i c = search needs
+add-number : tie.Need-add-number Inv-loop μ-loop
+add-number c = search needs
 
 loop-less : tie.Need-loop-less Inv-loop μ-loop
 loop-less c = search needs
@@ -41,10 +41,10 @@ answers-spec =
     Inv-loop
     μ-loop
     loop-holds
-    mul-answer
-    array-read-answer
-    answer-requires
-    add-i
+    answered-requires
+    slice-aggregate-named
+    named-requires
+    add-number
     loop-less
     loop-again
     returns)

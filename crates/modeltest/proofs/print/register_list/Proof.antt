@@ -5,10 +5,16 @@ use Rattle.modeltest.proofs.print.register_list.Statement.{statement}
 use Rattle.modeltest.proofs.print.register_list.Tie as tie
 
 abbrev Inv-loop : tie.InvT-loop
-Inv-loop registers i₀ t4 i = Unit {0}
+Inv-loop registers i₀ t5 i = Unit {0}
 
 abbrev μ-loop : tie.MeasureT-loop
-μ-loop registers i₀ t4 i = 5 - i
+μ-loop registers i₀ t5 i = 5 - i
+
+slice-aggregate-text : tie.Need-slice-aggregate-text Inv-loop μ-loop
+slice-aggregate-text c = search needs
+
+text-requires : tie.Need-text-requires Inv-loop μ-loop
+text-requires c κs = search needs
 
 loop-holds : tie.Need-loop-holds Inv-loop μ-loop
 loop-holds c = search needs
@@ -43,6 +49,8 @@ register-list-spec =
     (tie.spec
     Inv-loop
     μ-loop
+    slice-aggregate-text
+    text-requires
     loop-holds
     slice-aggregate-named
     mul-named
