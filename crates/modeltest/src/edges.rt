@@ -7,6 +7,9 @@ use crate::sides::State;
 
 pub const EDGES: u64 = 26;
 
+// How far s and an entry's ValidTill may be ahead of P.
+const MOST_AHEAD: u64 = 16;
+
 fn size_edge(s: State, n: u64) -> u64 {
     let lines = lines_of(s.board[SHAPE]);
     let entries = entries_of(s.board[SHAPE]);
@@ -40,8 +43,8 @@ pub fn edge(s: State, n: u64) -> u64 {
         2 => difference(persisted, 1),
         3 => persisted,
         4 => sum(persisted, 1),
-        5 => sum(persisted, 16),
-        6 => sum(persisted, 17),
+        5 => sum(persisted, MOST_AHEAD),
+        6 => sum(persisted, MOST_AHEAD + 1),
         7 => difference(epoch, 1),
         8 => epoch,
         9 => sum(epoch, 1),

@@ -17,15 +17,15 @@ pub struct List {
     pub choices: u64,
 }
 
-// The P that a list starts from: one with a carry into another bit among the next epochs, one near the
-// last epoch, or the first.
+// The P that a list starts from: one with a carry into bit 8, 16 or the uppermost among the next epochs, one
+// near the last epoch, or one of the first.
 fn started(seed: u64) -> u64 {
     let behind = below(seed, EPOCHS_BEHIND, 20);
     match below(seed, START, 8) {
-        0 => 0xFF - behind % 20,
-        1 => 0xFFFF - behind % 20,
-        2 => LAST_EPOCH / 2 - behind % 20,
-        3 | 4 => LAST_EPOCH - 1 - behind % 20,
+        0 => difference(0xFF, behind),
+        1 => difference(0xFFFF, behind),
+        2 => difference(LAST_EPOCH / 2, behind),
+        3 | 4 => difference(LAST_EPOCH - 1, behind),
         5 => behind,
         _ => 0,
     }
@@ -52,17 +52,16 @@ fn sized(seed: u64, lines: u64, entries: u64, sets: u64) -> List {
     }
 }
 
-// A short log; a longer one; one that holds epochs for all to wait; a buffer that fills before a line is
-// written out; the most slots; lines that share bits of the filter, all of one set.
+// By N, L and the number of sets: a log that soon fills; one on which epochs wait; a buffer that fills before
+// a line is written out; the most slots; lines that share bits of the filter, all of one set.
 pub fn list_at(n: u64) -> List {
     let seed = hashed(n);
-    let lines = below(seed, LINES, 12);
+    let lines = sum(1, below(seed, LINES, 16));
     let entries = below(seed, ENTRIES, 60);
     let sets = sum(1, below(seed, SETS, 3));
     match n % 6 {
-        0 => sized(seed, sum(1, lines), sum(1, entries % 8), 1),
-        1 => sized(seed, sum(5, lines), sum(8, entries), sets),
-        2 => sized(seed, sum(4, lines), sum(30, entries), sets),
+        0 => sized(seed, lines, sum(1, entries % 8), 1),
+        1 | 2 => sized(seed, lines, sum(8, entries), sets),
         3 => sized(seed, 80, sum(48, entries), 10),
         4 => sized(seed, 190, 50, MOST_SETS),
         _ => sized(seed, SHARING_LINES, sum(3, entries % 6), 1),
