@@ -77,11 +77,11 @@ pub fn set_slot(work: &mut [u64], run: Run, k: u64, word: u64, line_data: u64) -
     next
 }
 
-// "stores each entry at the ring's end, packed word then data word": buffered entry i, as the entry
-// of the log that is given.
-fn entry_logged(board: &mut [u64], work: &[u64], run: Run, i: u64, log_entry: u64) -> Run {
+// "stores each entry at the ring's end, packed word then data word": buffered entry i, as entry
+// length + i of the log.
+fn entry_logged(board: &mut [u64], work: &[u64], run: Run, header: Header, i: u64) -> Run {
     let from = buffer_place(slot_count(work), i);
-    let to = log_place(board, log_entry);
+    let to = log_place(header, sum(header.length, i));
     let packed = store_word(board, run, to, word_at(work, from));
     store_word(
         board,
@@ -91,13 +91,12 @@ fn entry_logged(board: &mut [u64], work: &[u64], run: Run, i: u64, log_entry: u6
     )
 }
 
-// The same of all b buffered entries, "oldest first": entry i becomes entry length + i of the log.
-fn entries_logged(board: &mut [u64], work: &[u64], run: Run) -> Run {
-    let header = header_of(board);
+// The same of all b buffered entries, "oldest first".
+fn entries_logged(board: &mut [u64], work: &[u64], run: Run, header: Header) -> Run {
     let count = run.registers.buffered;
     let mut next = run;
     for i in 0..count {
-        next = entry_logged(board, work, next, i, sum(header.length, i));
+        next = entry_logged(board, work, next, header, i);
     }
     next
 }
@@ -112,7 +111,7 @@ fn flushed(board: &mut [u64], work: &mut [u64], run: Run) -> Run {
     let header = header_of(board);
     let length = sum(header.length, run.registers.buffered);
     let control = control_word(header.persisted, header.start, length);
-    let logged = entries_logged(board, work, run);
+    let logged = entries_logged(board, work, run, header);
     let mut next = store_word(board, logged, CONTROL_PLACE, control);
     let buffer = buffer_place(slot_count(work), 0);
     zero_from(work, buffer);
@@ -120,11 +119,14 @@ fn flushed(board: &mut [u64], work: &mut [u64], run: Run) -> Run {
     next
 }
 
-// Writing out the line of slot k: "A write-out flushes exactly when b > 0 and both bits of its address
-// are set"; "then one store to the line".
+// Writing out the line of slot k, where it is dirty: "A write-out flushes exactly when b > 0 and both
+// bits of its address are set"; "then one store to the line". "an empty or clean slot costs no store".
 fn written_out(board: &mut [u64], work: &mut [u64], run: Run, k: u64) -> Run {
-    let header = header_of(board);
     let slot = slot_at(work, k);
+    if slot.dirty != SET {
+        return run;
+    }
+    let header = header_of(board);
     let place = line_place(header.entries, slot.address);
     if both_set(work, slot.address) {
         let next = flushed(board, work, run);
@@ -133,13 +135,8 @@ fn written_out(board: &mut [u64], work: &mut [u64], run: Run, k: u64) -> Run {
     store_word(board, run, place, slot.line_data)
 }
 
-// "Emptying a slot writes a dirty line out, then zeroes both slot words; an empty or clean slot
-// costs no store."
+// "Emptying a slot writes a dirty line out, then zeroes both slot words".
 pub fn emptied(board: &mut [u64], work: &mut [u64], run: Run, k: u64) -> Run {
-    let slot = slot_at(work, k);
-    if slot.dirty != SET {
-        return set_slot(work, run, k, EMPTY_SLOT, 0);
-    }
     let next = written_out(board, work, run, k);
     set_slot(work, next, k, EMPTY_SLOT, 0)
 }
@@ -156,9 +153,15 @@ pub fn brought_in(board: &mut [u64], work: &mut [u64], run: Run, k: u64, address
     set_slot(work, next, k, slot_word(UNSET, address, CLEAN_TAG), line)
 }
 
-// "An entry goes to the buffer's end": the entry of a slot's line, with the slot's data as the old
-// data. "A new entry for address a sets" its two bits of the filter.
-fn entry_buffered(work: &mut [u64], run: Run, slot: Slot, valid_from: u64) -> Run {
+// The undo entry of a store to a slot's line: "a clean line makes the entry P, s with the old data; a
+// dirty line with tag t < s makes t, s". "An entry goes to the buffer's end", and "A new entry for
+// address a sets" its two bits of the filter.
+fn entry_buffered(work: &mut [u64], run: Run, slot: Slot, persisted: u64) -> Run {
+    let valid_from = if slot.dirty == SET {
+        slot.tag
+    } else {
+        persisted
+    };
     let count = run.registers.buffered;
     let place = buffer_place(slot_count(work), count);
     let word = entry_word(slot.address, valid_from, run.registers.epoch);
@@ -171,9 +174,8 @@ fn entry_buffered(work: &mut [u64], run: Run, slot: Slot, valid_from: u64) -> Ru
     next
 }
 
-// The undo entry of a store to the line that slot k holds, where one is due: "a clean line makes the
-// entry P, s with the old data; a dirty line with tag t < s makes t, s"; "at 32 the buffer is flushed
-// at once".
+// The undo entry of a store to the line that slot k holds, where one is due; "at 32 the buffer is
+// flushed at once".
 fn undo_made(board: &mut [u64], work: &mut [u64], run: Run, k: u64) -> Run {
     let header = header_of(board);
     let slot = slot_at(work, k);
@@ -181,12 +183,7 @@ fn undo_made(board: &mut [u64], work: &mut [u64], run: Run, k: u64) -> Run {
     if !undo_due(work, registers, slot.address) {
         return run;
     }
-    let valid_from = if slot.dirty == SET {
-        slot.tag
-    } else {
-        header.persisted
-    };
-    let next = entry_buffered(work, run, slot, valid_from);
+    let next = entry_buffered(work, run, slot, header.persisted);
     if next.registers.buffered == BUFFER_ENTRIES {
         return flushed(board, work, next);
     }
@@ -230,7 +227,7 @@ fn run_length(board: &[u64], target: u64) -> u64 {
     let header = header_of(board);
     let length = header.length;
     for i in 0..length {
-        let entry = entry_at(board, log_place(board, i));
+        let entry = entry_at(board, log_place(header, i));
         if entry.valid_till > target {
             return i;
         }
@@ -247,7 +244,7 @@ fn pass_finished(board: &mut [u64], work: &mut [u64], run: Run) -> Run {
     let header = header_of(board);
     let dropped = run_length(board, target);
     let left = difference(header.length, dropped);
-    let control = control_word(target, ring_place(board, dropped), left);
+    let control = control_word(target, ring_place(header, dropped), left);
     let mut next = store_word(board, whole, CONTROL_PLACE, control);
     next.registers.cursor = 0;
     next.registers.target = 0;
@@ -272,9 +269,8 @@ pub fn scanned(board: &mut [u64], work: &mut [u64], run: Run) -> Run {
 }
 
 // Entry i of the log: "each entry with ValidFrom <= P < ValidTill has its data stored to its line".
-fn entry_restored(board: &mut [u64], run: Run, i: u64) -> Run {
-    let header = header_of(board);
-    let entry = entry_at(board, log_place(board, i));
+fn entry_restored(board: &mut [u64], run: Run, header: Header, i: u64) -> Run {
+    let entry = entry_at(board, log_place(header, i));
     if entry.valid_from > header.persisted || header.persisted >= entry.valid_till {
         return run;
     }
@@ -282,13 +278,19 @@ fn entry_restored(board: &mut [u64], run: Run, i: u64) -> Run {
     store_word(board, run, place, entry.old_data)
 }
 
-// The same of the whole log, "from the newest log entry to the oldest".
-pub fn lines_restored(board: &mut [u64], run: Run) -> Run {
+// "from the newest log entry to the oldest, each entry .. has its data stored to its line. Then the
+// control word: same P, start 0, length 0, always stored."
+pub fn log_undone(board: &mut [u64], run: Run) -> Run {
     let header = header_of(board);
     let count = header.length;
     let mut next = run;
     for newer in 0..count {
-        next = entry_restored(board, next, count - 1 - newer);
+        next = entry_restored(board, next, header, count - 1 - newer);
     }
-    next
+    store_word(
+        board,
+        next,
+        CONTROL_PLACE,
+        control_word(header.persisted, 0, 0),
+    )
 }

@@ -50,8 +50,7 @@ pub fn format(board: &mut [u64], lines: u64, entries: u64) -> Answer {
     answered(OK, 0, Registers::zero())
 }
 
-// "Power-up: from the newest log entry to the oldest, each entry .. has its data stored to its
-// line. Then the control word: same P, start 0, length 0, always stored. Then work memory all
+// "Power-up: from the newest log entry to the oldest ..", as `log_undone` says. "Then work memory all
 // zero, s = P + 1, b = 0, c = 0." No slot is dirty then, so their count is 0; and no pass has begun, so
 // the target is 0. Its rows are 1, 2, 3, "value is i of the first", and 12. Of the registers "Power-up
 // takes none and returns them"; refused, it returns them "all zero".
@@ -67,9 +66,7 @@ pub fn power_up(board: &mut [u64], work: &mut [u64], allowance: u32) -> Answer {
     }
     let mut registers = Registers::zero();
     registers.epoch = sum(header.persisted, 1);
-    let restored = lines_restored(board, started(registers, allowance));
-    let control = control_word(header.persisted, 0, 0);
-    let run = store_word(board, restored, CONTROL_PLACE, control);
+    let run = log_undone(board, started(registers, allowance));
     zero_from(work, 0);
     finished(work, run)
 }

@@ -99,7 +99,7 @@ pub fn first_improper(board: &[u64]) -> u64 {
     let latest = sum(header.persisted, MOST_AHEAD);
     let mut older_till = 0;
     for i in 0..length {
-        let entry = entry_at(board, log_place(board, i));
+        let entry = entry_at(board, log_place(header, i));
         let till = entry.valid_till;
         if !entry_proper(entry, header.lines) || till <= header.persisted {
             return i;

@@ -232,8 +232,7 @@ pub fn slot_word(dirty: u64, address: u64, tag: u64) -> u64 {
 }
 
 // "The log is a ring: entry i of the log, 0 the oldest, is at place (start + i) mod L."
-pub fn ring_place(board: &[u64], i: u64) -> u64 {
-    let header = header_of(board);
+pub fn ring_place(header: Header, i: u64) -> u64 {
     let entries = header.entries;
     if entries == 0 {
         return 0;
@@ -242,8 +241,8 @@ pub fn ring_place(board: &[u64], i: u64) -> u64 {
 }
 
 // The place on the board of the packed word of entry i of the log; its old data is one further.
-pub fn log_place(board: &[u64], i: u64) -> u64 {
-    let ring = ring_place(board, i);
+pub fn log_place(header: Header, i: u64) -> u64 {
+    let ring = ring_place(header, i);
     sum(LOG_PLACE, sum(ring, ring))
 }
 

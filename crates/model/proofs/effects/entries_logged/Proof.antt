@@ -12,14 +12,8 @@ Inv-loop board₀ work header count next₀ i₀ board next i = (length board �
 abbrev μ-loop : tie.MeasureT-loop
 μ-loop board₀ work header count next₀ i₀ board next i = count - i
 
-header-of-requires : tie.Need-header-of-requires Inv-loop μ-loop
-header-of-requires c κs = search needs
-
 loop-holds : tie.Need-loop-holds Inv-loop μ-loop
 loop-holds c = search needs
-
-sum-requires : tie.Need-sum-requires Inv-loop μ-loop
-sum-requires c κs = search needs
 
 entry-logged-requires : tie.Need-entry-logged-requires Inv-loop μ-loop
 entry-logged-requires c κs = search needs
@@ -45,9 +39,7 @@ entries-logged-spec =
     (tie.spec
     Inv-loop
     μ-loop
-    header-of-requires
     loop-holds
-    sum-requires
     entry-logged-requires
     add-i
     loop-less

@@ -5,10 +5,10 @@ use Rattle.model.proofs.effects.run_length.Statement.{statement}
 use Rattle.model.proofs.effects.run_length.Tie as tie
 
 abbrev Inv-loop : tie.InvT-loop
-Inv-loop board target length i₀ i = Unit {0}
+Inv-loop board target header length i₀ i = Unit {0}
 
 abbrev μ-loop : tie.MeasureT-loop
-μ-loop board target length i₀ i = length - i
+μ-loop board target header length i₀ i = length - i
 
 header-of-requires : tie.Need-header-of-requires Inv-loop μ-loop
 header-of-requires c κs = search needs
