@@ -11,8 +11,8 @@ use Rattle.picl.specs.declared.Answer.{Answer}
 use Rattle.picl.specs.declared.Report.{Report}
 use Rattle.picl.specs.Calls.{powerUpVerdict}
 use Rattle.picl.specs.Contracts.{Answers, Calls, Formats}
-use Rattle.benchcalls.specs.declared.Call.{Call}
-use Rattle.benchboard.specs.Calls.{fullAllowance, callOf, woken, Leaves}
+use Rattle.records.specs.declared.Call.{Call}
+use Rattle.benchboard.specs.Calls.{fullAllowance, callOf, started, Leaves}
 
 -- a call by its variant
 pub performed : (c d : Call) (allowance : ℕ) (r : Registers) (board work board′ work′ : List ℕ) (a : Answer) → c ≡ d
@@ -20,14 +20,14 @@ pub performed : (c d : Call) (allowance : ℕ) (r : Registers) (board work board
 performed c d allowance r board work board′ work′ a e p = rw e p
 
 module _ (lines entries : ℕ) (board work board′ : List ℕ) (r : Report) (t : Bool) (f : Formats board lines entries board′ r) (is : t ≡ isOk (r .status)) where
-  pub woken-refused : (z : Registers) → not t ≡ true → z ≡ registers.zero
-      → Leaves (woken lines entries board work) board′ work (record { status = r .status; value = r .value; stores = r .stores; registers = z })
-  unfolding woken
-  woken-refused z h e = rw (← (f .report), ← is, not-true t h) (record { answer = rw e; board-left = f .board-left; work-left = refl })
+  pub started-refused : (z : Registers) → not t ≡ true → z ≡ registers.allZero
+      → Leaves (started lines entries board work) board′ work (record { status = r .status; value = r .value; stores = r .stores; registers = z })
+  unfolding started
+  started-refused z h e = rw (← (f .report), ← is, not-true t h) (record { answer = rw e; board-left = f .board-left; work-left = refl })
 
-  pub woken-through : (board″ work′ : List ℕ) (a : Answer) → not t ≡ false
-      → Answers fullAllowance registers.zero board′ work (powerUpVerdict board′ work) board″ work′ a
-      → Leaves (woken lines entries board work) board″ work′ a
-  unfolding woken
-  woken-through board″ work′ a h p =
+  pub started-through : (board″ work′ : List ℕ) (a : Answer) → not t ≡ false
+      → Answers fullAllowance registers.allZero board′ work (powerUpVerdict board′ work) board″ work′ a
+      → Leaves (started lines entries board work) board″ work′ a
+  unfolding started
+  started-through board″ work′ a h p =
       rw (← (f .report), ← is, not-false t h, ← (f .board-left)) (record { answer = p .answer; board-left = p .board-left; work-left = p .work-left })

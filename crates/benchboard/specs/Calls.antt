@@ -1,4 +1,4 @@
--- Waking a fresh board and performing a call: what each answers, and leaves on the two memories that it is lent.
+-- Starting on a fresh board and performing a call: what each answers, and leaves on the two memories that it is lent.
 use Prim.Native.Nat.{ℕ, _-_, _^_}
 use mathlib.Core.Path.{_≡_}
 use mathlib.Core.Bool.{cond}
@@ -11,8 +11,8 @@ use Rattle.picl.specs.declared.Answer.{Answer}
 use Rattle.picl.specs.declared.Report.{Report}
 use Rattle.picl.specs.Answers.{Verdict, answerOf}
 use Rattle.picl.specs.Calls as picl
-use Rattle.benchcalls.specs.declared.Call.{Call}
-use Rattle.benchcalls.specs.declared.Call.the-variants.{Load, Store, Evict, Commit, Scan}
+use Rattle.records.specs.declared.Call.{Call}
+use Rattle.records.specs.declared.Call.the-variants.{Load, Store, Evict, Commit, Scan}
 
 -- "otherwise 2^32 − 1"
 abbrev pub fullAllowance : ℕ
@@ -42,17 +42,13 @@ pub record Leaves (l : Left) (board′ work′ : List ℕ) (a : Answer) : Type 0
   pub board-left : board′ ≡ l .board
   pub work-left : work′ ≡ l .work
 
--- power-up takes no registers
-abbrev pub powered : (allowance : ℕ) → (board work : List ℕ) → Left
-powered allowance board work = left allowance registers.zero board work (picl.powerUpVerdict board work)
-
 -- a report as an answer: format neither takes nor returns registers, which are zero
 abbrev pub reported : Report → Answer
-reported r = record { status = r .status; value = r .value; stores = r .stores; registers = registers.zero }
+reported r = record { status = r .status; value = r .value; stores = r .stores; registers = registers.allZero }
 
 -- "`n N L S` (first, once: format and power-up; its line is power-up's, or format's if that refuses)"
-unfoldable pub woken : (lines entries : ℕ) → (board work : List ℕ) → Left
-woken lines entries board work =
+unfoldable pub started : (lines entries : ℕ) → (board work : List ℕ) → Left
+started lines entries board work =
     let r = picl.formatReport board lines entries in
     let b = picl.formatAfter board lines entries in
-    cond (isOk (r .status)) (powered fullAllowance b work) (record { answer = reported r; board = b; work = work })
+    cond (isOk (r .status)) (left fullAllowance registers.allZero b work (picl.powerUpVerdict b work)) (record { answer = reported r; board = b; work = work })

@@ -1,13 +1,13 @@
-// What bench programs share: the largest sizes and the memories that these take, waking a fresh board, and performing a call.
+// What bench programs share: the largest sizes and the memories that these take, starting on a fresh board, and performing a call.
 ghost use mathlib.Core.Path.{_≡_};
 ghost use Rattle.picl.specs.Contracts.{Calls};
 ghost use Rattle.benchboard.specs.Sizes.{benchSized};
-ghost use Rattle.benchboard.specs.Calls.{callOf, woken, Leaves};
-use benchcalls::Call;
+ghost use Rattle.benchboard.specs.Calls.{callOf, started, Leaves};
 use checks::Registers;
 use layout::BUFFER_WORDS;
 use layout::SLOT_WORDS;
 use picl::Answer;
+use records::Call;
 
 // The largest sizes.
 const MOST_LINES: u64 = 2048;
@@ -38,8 +38,8 @@ pub fn is_bench_sized(lines: u64, entries: u64, slots: u64) -> bool
 
 // Format and power-up, on the words that are the board and the work memory. The answer is power-up's, or format's where that
 // refuses.
-pub fn wake(board: &mut [u64], work: &mut [u64], lines: u64, entries: u64) -> Answer
-    ensures { λ r. ⌜ Leaves (woken lines entries (now (board .entry)) (now (work .entry))) (now (board .exit)) (now (work .exit)) r ⌝ }
+pub fn start(board: &mut [u64], work: &mut [u64], lines: u64, entries: u64) -> Answer
+    ensures { λ r. ⌜ Leaves (started lines entries (now (board .entry)) (now (work .entry))) (now (board .exit)) (now (work .exit)) r ⌝ }
 {
     let report = picl::format(board, lines, entries);
     let status = report.status;
@@ -48,7 +48,7 @@ pub fn wake(board: &mut [u64], work: &mut [u64], lines: u64, entries: u64) -> An
             status,
             value: report.value,
             stores: report.stores,
-            registers: Registers::zero(),
+            registers: Registers::all_zero(),
         };
     }
     picl::power_up(board, work, FULL_ALLOWANCE)

@@ -10,22 +10,21 @@ use lib.ListN.{length}
 use Rattle.layout.specs.Limits.{mostStores}
 use Rattle.layout.specs.Memory.{controlIn}
 use Rattle.status.specs.declared.Status.{Status}
-use Rattle.undo.specs.Log.{firstImproper}
 use Rattle.slots.specs.Sets.{spotOf}
 use Rattle.checks.specs.declared.Checked.{Checked}
 use Rattle.checks.specs.declared.Checked.the-variants.{Refused, Passed}
 use Rattle.checks.specs.declared.Registers.{Registers}
 use Rattle.checks.specs.declared.View.{View}
-use Rattle.checks.specs.Laws.{line-running, store-line, scan-running, memories-shaped}
-use Rattle.checks.specs.Refusals.{memoriesChecked, runningChecked, lineChecked, storeChecked, commitChecked, beginChecked, scanChecked}
-use Rattle.checks.specs.Registers.{zero, scanTarget}
+use Rattle.checks.specs.Laws.{line-running, store-line, scan-running, entries-shaped}
+use Rattle.checks.specs.Refusals.{powerUpChecked, runningChecked, lineChecked, storeChecked, commitChecked, beginChecked, scanChecked}
+use Rattle.checks.specs.Registers.{committed, begun, allZero, scanTarget}
 use Rattle.checks.specs.View.{viewOf, goodWork, undoOf}
 use Rattle.picl.specs.Answers.{Outcome, Verdict, success, cutOff, answerOf}
 use Rattle.board.specs.Verdict.{refused, due}
 use Rattle.picl.specs.Calls as calls
-use Rattle.picl.specs.Calls.{Call, verdictOf, unstored, tallyVerdict, filterBitsVerdict, judged, loadAt, loadOutcome, loadVerdict, storeAt, storeOutcome, storeVerdict}
-use Rattle.picl.specs.Calls.{evictAt, evictOutcome, evictVerdict, commitOutcome, commitVerdict, beginOutcome, beginVerdict, scanAt, scanOutcome, scanVerdict}
-use Rattle.picl.specs.Calls.{wakeJudged, wakeAt, wakeVerdict, powerUpVerdict}
+use Rattle.picl.specs.Calls.{Call, verdictOf, unstored, filterBitsVerdict, judged, loadAt, loadOutcome, storeAt, storeOutcome}
+use Rattle.picl.specs.Calls.{evictAt, evictOutcome, scanAt, scanOutcome}
+use Rattle.picl.specs.Calls.{powerUpOutcome, powerUpVerdict}
 use Rattle.base.specs.Cases.{either}
 use Rattle.bounds.specs.Costs.{owed-most, loading-cost, evicting-cost, visiting-cost}
 use Rattle.bounds.specs.Costs.{storing-most, persisting-most, recover-most}
@@ -57,56 +56,53 @@ due-bounded n o h =
 
 judged-bounded : (n : ℕ) (k : Checked) (f : View → Outcome) → ((v : View) → Passed v ≡ k → length (f v .stores) ≤ n)
     → Bounded n (judged k f)
-judged-bounded n (Refused why) f h = refused-bounded n why 0
+judged-bounded n (Refused why value) f h = refused-bounded n why value
 judged-bounded n (Passed v) f h = due-bounded n (f v) (h v refl)
 
 module _ (board work : List ℕ) (r : Registers) where
-  load-bounded : (address : ℕ) → Bounded mostStores (loadVerdict board work r address)
-  unfolding loadVerdict loadOutcome loadAt
+  load-bounded : (address : ℕ) → Bounded mostStores (verdictOf board work r (calls.load address))
+  unfolding loadOutcome loadAt
   load-bounded address =
       judged-bounded mostStores (lineChecked board work r address) (loadOutcome board work r address)
       (λ v p.
-      let most = owed-most (r .buffered) (line-running board work r address v p .buffered) in
+      let most = owed-most (r .buffered) (line-running board work r address v p .proper .buffered) in
       omega (arith, most, loading-cost board (undoOf v r) work address (spotOf work (v .slots) address)))
 
-  store-bounded : (address value : ℕ) → Bounded mostStores (storeVerdict board work r address value)
-  unfolding storeVerdict storeOutcome storeAt
+  store-bounded : (address value : ℕ) → Bounded mostStores (verdictOf board work r (calls.store address value))
+  unfolding storeOutcome storeAt
   store-bounded address value =
       judged-bounded mostStores (storeChecked board work r address) (storeOutcome board work r address value)
       (λ v p.
-      let most = owed-most (r .buffered) (line-running board work r address v (store-line board work r address v p) .buffered) in
+      let most = owed-most (r .buffered) (line-running board work r address v (store-line board work r address v p) .proper .buffered) in
       omega (arith, most, storing-most board (undoOf v r) work address (spotOf work (v .slots) address) (r .epoch) value))
 
-  evict-bounded : (address : ℕ) → Bounded mostStores (evictVerdict board work r address)
-  unfolding evictVerdict evictOutcome evictAt
+  evict-bounded : (address : ℕ) → Bounded mostStores (verdictOf board work r (calls.evict address))
+  unfolding evictOutcome evictAt
   evict-bounded address =
       judged-bounded mostStores (lineChecked board work r address) (evictOutcome work r address)
       (λ v p.
-      let most = owed-most (r .buffered) (line-running board work r address v p .buffered) in
+      let most = owed-most (r .buffered) (line-running board work r address v p .proper .buffered) in
       omega (arith, most, evicting-cost (undoOf v r) work (spotOf work (v .slots) address)))
 
-  commit-bounded : Bounded mostStores (commitVerdict board work r)
-  unfolding commitVerdict commitOutcome
-  commit-bounded = judged-bounded mostStores (commitChecked board work r) (λ v. commitOutcome work r) (λ v p. omega arith)
+  commit-bounded : Bounded mostStores (verdictOf board work r calls.commit)
+  commit-bounded = judged-bounded mostStores (commitChecked board work r) (λ v. unstored 0 (committed r) work) (λ v p. omega arith)
 
-  begin-bounded : (target : ℕ) → Bounded mostStores (beginVerdict board work r target)
-  unfolding beginVerdict beginOutcome
+  begin-bounded : (target : ℕ) → Bounded mostStores (verdictOf board work r (calls.begin target))
   begin-bounded target =
-      judged-bounded mostStores (beginChecked board work r target) (λ v. beginOutcome work r target) (λ v p. omega arith)
+      judged-bounded mostStores (beginChecked board work r target) (λ v. unstored 0 (begun r target) work) (λ v p. omega arith)
 
-  scan-bounded : Bounded mostStores (scanVerdict board work r)
-  unfolding scanVerdict scanOutcome scanAt
+  scan-bounded : Bounded mostStores (verdictOf board work r calls.scan)
+  unfolding scanOutcome scanAt
   scan-bounded =
       judged-bounded mostStores (scanChecked board work r) (scanOutcome board work r)
       (λ v p.
-      let most = owed-most (r .buffered) (scan-running board work r v p .buffered) in
+      let most = owed-most (r .buffered) (scan-running board work r v p .proper .buffered) in
       let target = scanTarget r (v .control .persisted) in
       either (λ (o : Outcome). length (o .stores) ≤ mostStores) (ltb (r .cursor) (v .slots))
       (omega (arith, most, visiting-cost (undoOf v r) work (r .cursor) target))
       (omega (arith, most, persisting-most board (undoOf v r) work target)))
 
-  tally-bounded : Bounded mostStores (tallyVerdict board work r)
-  unfolding tallyVerdict
+  tally-bounded : Bounded mostStores (verdictOf board work r calls.tally)
   tally-bounded = judged-bounded mostStores (runningChecked board work r) (λ v. unstored (r .dirty) r work) (λ v p. omega arith)
 
   filter-bits-bounded : Bounded mostStores (filterBitsVerdict work r)
@@ -126,14 +122,9 @@ module _ (board work : List ℕ) (r : Registers) where
   call-bounded calls.filterBits = filter-bits-bounded
 
 pub power-up-bounded : (board work : List ℕ) → Bounded (controlIn board .length + 1) (powerUpVerdict board work)
-unfolding powerUpVerdict wakeVerdict wakeAt viewOf
-power-up-bounded board work = go (memoriesChecked board work) refl
-  where
-    go : (k : Checked) → k ≡ memoriesChecked board work → Bounded (controlIn board .length + 1) (wakeJudged board work k)
-    go (Refused why) e = refused-bounded _ why 0
-    go (Passed v) e =
-        let same : v .control .length ≡ controlIn board .length = ap (λ (x : View). x .control .length) (memories-shaped board work v e .is) in
-        either (Bounded (controlIn board .length + 1))
-        (ltb (firstImproper board (undoOf v zero) (v .shape .lines)) (v .control .length))
-        (refused-bounded _ _ _)
-        (due-bounded _ _ (omega (arith, recover-most board (undoOf v zero))))
+unfolding powerUpVerdict powerUpOutcome viewOf
+power-up-bounded board work =
+    judged-bounded _ (powerUpChecked board work) (powerUpOutcome board work)
+    (λ v p.
+    let same : v .control .length ≡ controlIn board .length = ap (λ (x : View). x .control .length) (entries-shaped board work v p .is) in
+    omega (arith, recover-most board (undoOf v allZero)))

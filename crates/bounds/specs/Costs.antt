@@ -13,14 +13,15 @@ use lib.ListN.{length, length-append}
 use Rattle.base.specs.Cases.{either}
 use Rattle.board.specs.Parts.{length-shifted}
 use Rattle.board.specs.Stores.{Store, one, each, shifted}
+use Rattle.ranges.specs.Ranges.{covers}
 use Rattle.layout.specs.Limits.{bufferPlaces, mostStores}
-use Rattle.layout.specs.Memory.{controlAt, logAt, bufferIn, slotIn, dataIn}
+use Rattle.layout.specs.Memory.{controlAt, logAt, linesAt, bufferIn, slotIn, dataIn}
 use Rattle.layout.specs.Words.{encodeControl}
 use Rattle.undo.specs.declared.LogState.{LogState}
-use Rattle.undo.specs.Entries.{covers}
 use Rattle.undo.specs.Filter.{hits}
-use Rattle.undo.specs.Log.{entryIn, counted, entryStores, flushed, flushStores, advanceStores}
-use Rattle.undo.specs.Log.{restoreStores, restoreTurn, recoverStores}
+use Rattle.undo.specs.Recovery.{Log, restoreStores, restoreTurn, restoreAll}
+use Rattle.undo.specs.Log.{logIn, counted, entryStores, flushed, flushStores, advanceStores}
+use Rattle.undo.specs.Log.{recoverStores}
 use Rattle.slots.specs.declared.Spot.{Spot}
 use Rattle.steps.specs.Effects.{Effect, nothing, flushing, flushingIf, writingOut, writingBack, emptying, bringing, loading}
 use Rattle.slots.specs.Slots.{entryDue}
@@ -126,12 +127,16 @@ unfolding persisting advanceStores
 persisting-most board u work target = rw length-append (omega (arith, flushing-cost true u work))
 
 -- power-up: a store for each entry at most, and the control word
-pub recover-most : (board : List ℕ) (u : LogState) → length (recoverStores board u) ≤ u .control .length + 1
-unfolding recoverStores restoreTurn restoreStores
-recover-most board u = rw length-append (omega (arith, each-most (restoreTurn board u) turn (u .control .length)))
+restore-most : (log : Log) (lineAt : ℕ) → length (restoreAll log lineAt) ≤ log .count
+unfolding restoreTurn restoreStores
+restore-most log lineAt = omega (arith, each-most (restoreTurn log lineAt) turn (log .count))
   where
-    turn : (j : ℕ) → length (restoreTurn board u j) ≤ 1
+    turn : (j : ℕ) → length (restoreTurn log lineAt j) ≤ 1
     turn j =
-        either (λ (ss : List Store). length ss ≤ 1) (covers (entryIn board u (u .control .length - (j + 1))) (u .control .persisted))
+        either (λ (ss : List Store). length ss ≤ 1) (covers (log .range (log .count - (j + 1))) (log .persisted))
         (omega arith)
         (omega arith)
+
+pub recover-most : (board : List ℕ) (u : LogState) → length (recoverStores board u) ≤ u .control .length + 1
+unfolding recoverStores
+recover-most board u = rw length-append (omega (arith, restore-most (logIn board u) (linesAt (u .entries))))

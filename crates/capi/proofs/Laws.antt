@@ -3,7 +3,7 @@ use Prim.Native.Nat.{ℕ, _<_, _≤_}
 use native.Mathlib.Omega.{arith}
 use mathlib.Core.Path.{_≡_, refl, sym, _∙_}
 use mathlib.Core.Bool.{Bool, true, false, not}
-use mathlib.Core.List.{List}
+use mathlib.Core.List.{List, [], _∷_}
 use borrow.Author.Tests.{leb-true, not-true, not-false}
 use lib.Dec.{leb}
 use lib.ListN.{length, set, length-set}
@@ -11,14 +11,20 @@ use Rattle.base.specs.Tests.{and-left, and-right}
 use Rattle.checks.specs.declared.Registers.{Registers}
 use Rattle.picl.specs.declared.Answer.{Answer}
 use Rattle.picl.specs.declared.Report.{Report}
-use Rattle.picl.specs.Answers.{Verdict}
-use Rattle.picl.specs.Calls.{formatReport, formatAfter, tallyReport}
+use Rattle.board.specs.Stores.{applied}
+use Rattle.board.specs.Verdict.{boardAfter, workAfter}
+use Rattle.checks.specs.declared.Checked.{Checked}
+use Rattle.checks.specs.declared.Checked.the-variants.{Refused, Passed}
+use Rattle.checks.specs.Refusals.{runningChecked}
+use Rattle.picl.specs.Answers.{Verdict, answerOf}
+use Rattle.picl.specs.Calls as call
+use Rattle.picl.specs.Calls.{verdictOf, noAllowance, judged, unstored, formatReport, formatAfter, reportOf, tallyReport}
 use Rattle.picl.specs.Contracts.{Answers, Formats}
 use Rattle.hex.specs.Export.{exportReport, exportText, Exports}
-use Rattle.capi.specs.Places.{epochAt, bufferedAt, cursorAt, dirtyAt, registerWords, answerWords, hasAnswer, hasPlaces, readRegisters}
+use Rattle.capi.specs.Places.{epochAt, bufferedAt, cursorAt, dirtyAt, registerWords, answerWords, hasAnswer, hasPlaces, readRegisters, writeRegisters}
 use Rattle.capi.specs.Contracts.{Gives, Reports}
-use Rattle.capi.specs.Crossing.{tooShort, back, crossing, tallyCrossing}
-use Rattle.capi.specs.Crossing.{reported, reporting, formatCrossing, hexCrossing}
+use Rattle.capi.specs.Crossing.{tooShort, back, crossing, callCrossing}
+use Rattle.capi.specs.Crossing.{reported, reporting}
 
 -- each register has its place when those before it are written
 module _ (registers : List ℕ) (epoch : ℕ) (lent : registerWords ≤ length registers) where
@@ -88,13 +94,14 @@ module _ (r : Report) (memory memory′ answer : List ℕ) (t : Bool) (is : t �
 module _ (answer answer′ : List ℕ) (t : Bool) (is : t ≡ hasAnswer answer) (lent : not t ≡ false) (given : Report) (number : ℕ)
     (gave : Reports answer given answer′ number) where
   pub format-made : (board board′ : List ℕ) (lines entries : ℕ) → Formats board lines entries board′ given
-      → reported number board′ answer′ ≡ formatCrossing board answer lines entries
+      → reported number board′ answer′ ≡ reporting (formatReport board lines entries) board (formatAfter board lines entries) answer
   format-made board board′ lines entries x =
       reporting-made (formatReport board lines entries) board (formatAfter board lines entries) answer t is given board′ answer′ number lent
       (x .report) (x .board-left) gave
 
   -- a record of a board's file
-  pub hex-made : (board text text′ : List ℕ) (k : ℕ) → Exports board k text text′ given → reported number text′ answer′ ≡ hexCrossing board text answer k
+  pub hex-made : (board text text′ : List ℕ) (k : ℕ) → Exports board k text text′ given
+      → reported number text′ answer′ ≡ reporting (exportReport board k text) text (exportText board k text) answer
   hex-made board text text′ k x =
       reporting-made (exportReport board k text) text (exportText board k text) answer t is given text′ answer′ number lent
       (x .report) (x .text-left) gave
@@ -103,16 +110,50 @@ module _ (answer answer′ : List ℕ) (t : Bool) (is : t ≡ hasAnswer answer) 
   pub asked-made : (work : List ℕ) (told : Report) → given ≡ told → reported number work answer′ ≡ reporting told work work answer
   asked-made work told x = reporting-made told work work answer t is given work answer′ number lent x refl gave
 
--- the tally
-module _ (board work registers answer : List ℕ) (t : Bool) (is : t ≡ hasPlaces registers answer) where
-  pub tally-short : not t ≡ true → back tooShort board work registers answer ≡ tallyCrossing board work registers answer
-  unfolding tallyCrossing
-  tally-short e = let p = sym is ∙ not-true t e in rw p
+-- the tally: it leaves both memories and the registers as they were
+written-again : (words : List ℕ) → registerWords ≤ length words → writeRegisters words (readRegisters words) ≡ words
+unfolding readRegisters
+written-again [] h = absurd (omega arith)
+written-again (a ∷ []) h = absurd (omega arith)
+written-again (a ∷ b ∷ []) h = absurd (omega arith)
+written-again (a ∷ b ∷ c ∷ []) h = absurd (omega arith)
+written-again (a ∷ b ∷ c ∷ d ∷ []) h = absurd (omega arith)
+written-again (a ∷ b ∷ c ∷ d ∷ e ∷ rest) h = refl
 
+tally-answers : (board work : List ℕ) (r : Registers)
+    → let v = verdictOf board work r call.tally in
+    (answerOf noAllowance r v .registers ≡ r) × (boardAfter noAllowance board v ≡ board) × (workAfter noAllowance work v ≡ work)
+unfolding answerOf boardAfter workAfter applied
+tally-answers board work r = go (runningChecked board work r)
+  where
+    go : (k : Checked)
+        → let v = judged k (λ w. unstored (r .dirty) r work) in
+        (answerOf noAllowance r v .registers ≡ r) × (boardAfter noAllowance board v ≡ board) × (workAfter noAllowance work v ≡ work)
+    go (Refused why value) = (refl, refl, refl)
+    go (Passed w) = (refl, refl, refl)
+
+tally-reports : (board work : List ℕ) (r : Registers)
+    → let a = answerOf noAllowance r (verdictOf board work r call.tally) in
+    tallyReport board work r ≡ record { status = a .status; value = a .value; stores = a .stores }
+unfolding tallyReport answerOf
+tally-reports board work r = go (runningChecked board work r)
+  where
+    go : (k : Checked)
+        → let a = answerOf noAllowance r (judged k (λ w. unstored (r .dirty) r work)) in
+        reportOf (judged k (λ w. unstored (r .dirty) r work)) ≡ record { status = a .status; value = a .value; stores = a .stores }
+    go (Refused why value) = refl
+    go (Passed w) = refl
+
+module _ (board work registers answer : List ℕ) (t : Bool) (is : t ≡ hasPlaces registers answer) where
   pub tally-made : (given : Report) (answer′ : List ℕ) (number : ℕ) → not t ≡ false → given ≡ tallyReport board work (readRegisters registers)
-      → Reports answer given answer′ number → back number board work registers answer′ ≡ tallyCrossing board work registers answer
-  unfolding tallyCrossing
-  tally-made given answer′ number e x g = let p = sym is ∙ not-false t e in rw (p, g .number-is, g .answer-left, x)
+      → Reports answer given answer′ number → back number board work registers answer′ ≡ callCrossing call.tally noAllowance board work registers answer
+  unfolding crossing
+  tally-made given answer′ number e x g =
+      let p = sym is ∙ not-false t e in
+      let r = readRegisters registers in
+      let kept = tally-answers board work r in
+      let told = x ∙ tally-reports board work r in
+      rw (p, g .number-is, g .answer-left, told, kept .0, kept .1, kept .2, written-again registers (registers-lent registers answer p))
 
   pub tally-lent : not t ≡ false → hasAnswer answer ≡ true
   unfolding hasPlaces

@@ -1,12 +1,13 @@
 -- The calls on one line, load, store and evict, leave s, c and the target as they were.
-use Prim.Native.Nat.{ℕ}
-use mathlib.Core.Path.{_≡_, refl, sym, _∙_}
+use Prim.Native.Nat.{ℕ, _≤_, _<_}
+use mathlib.Core.Path.{_≡_, refl, sym, ap, _∙_}
 use mathlib.Core.Bool.{Bool, true, false, cond, false≢true}
-use mathlib.Core.List.{List}
+use mathlib.Core.List.{List, [], _∷_}
+use native.Mathlib.Omega.{arith}
 use lib.Dec.{leb}
-use lib.ListN.{length}
+use lib.ListN.{length, set, length-set}
 use Rattle.board.specs.Verdict.{refused, due}
-use Rattle.status.specs.Numbers.{isCut}
+use Rattle.status.specs.Numbers.{numberOf, isCut}
 use Rattle.checks.specs.declared.Checked.{Checked}
 use Rattle.checks.specs.declared.Checked.the-variants.{Refused, Passed}
 use Rattle.checks.specs.declared.Registers.{Registers}
@@ -15,9 +16,11 @@ use Rattle.checks.specs.Refusals.{lineChecked, storeChecked}
 use Rattle.picl.specs.declared.Answer.{Answer}
 use Rattle.picl.specs.Answers.{Outcome, Verdict, answerOf, success, cutOff}
 use Rattle.picl.specs.Calls as call
-use Rattle.picl.specs.Calls.{judged, loadAt, loadOutcome, loadVerdict, storeAt, storeOutcome, storeVerdict, evictAt, evictOutcome, evictVerdict}
+use Rattle.picl.specs.Calls.{verdictOf, judged, loadAt, loadOutcome, storeAt, storeOutcome, evictAt, evictOutcome}
 use Rattle.picl.specs.Contracts.{Answers, Calls}
 use Rattle.capi.specs.Contracts.{Gives, withPass, LeavesPass}
+use Rattle.capi.proofs.Laws.{registers-lent}
+use Rattle.capi.specs.Places.{bufferedAt, dirtyAt, registerWords, hasPlaces, readRegisters, writeRegisters, writeAnswer}
 
 abbrev Steady : Registers → Verdict → Type 0
 Steady r (refused why value) = Unit {0}
@@ -25,7 +28,7 @@ Steady r (due o) = withPass r (o .registers) ≡ o .registers
 
 judged-steady : (r : Registers) (k : Checked) (outcome : View → Outcome) → ((v : View) → withPass r (outcome v .registers) ≡ outcome v .registers)
     → Steady r (judged k outcome)
-judged-steady r (Refused why) outcome h = tt
+judged-steady r (Refused why value) outcome h = tt
 judged-steady r (Passed v) outcome h = h v
 
 module _ (allowance : ℕ) (r : Registers) where
@@ -46,28 +49,50 @@ module _ (allowance : ℕ) (r : Registers) where
 
   module _ (board work board′ work′ : List ℕ) (address : ℕ) (a : Answer) where
     pub load-leaves : Calls (call.load address) allowance r board work board′ work′ a → LeavesPass r a
-    unfolding loadVerdict loadOutcome loadAt
+    unfolding loadOutcome loadAt
     load-leaves =
-        steady-leaves (loadVerdict board work r address) board work board′ work′ a
+        steady-leaves (verdictOf board work r (call.load address)) board work board′ work′ a
         (judged-steady r (lineChecked board work r address) (loadOutcome board work r address) (λ v. refl))
 
     pub store-leaves : (value : ℕ) → Calls (call.store address value) allowance r board work board′ work′ a → LeavesPass r a
-    unfolding storeVerdict storeOutcome storeAt
+    unfolding storeOutcome storeAt
     store-leaves value =
-        steady-leaves (storeVerdict board work r address value) board work board′ work′ a
+        steady-leaves (verdictOf board work r (call.store address value)) board work board′ work′ a
         (judged-steady r (storeChecked board work r address) (storeOutcome board work r address value) (λ v. refl))
 
     pub evict-leaves : Calls (call.evict address) allowance r board work board′ work′ a → LeavesPass r a
-    unfolding evictVerdict evictOutcome evictAt
+    unfolding evictOutcome evictAt
     evict-leaves =
-        steady-leaves (evictVerdict board work r address) board work board′ work′ a
+        steady-leaves (verdictOf board work r (call.evict address)) board work board′ work′ a
         (judged-steady r (lineChecked board work r address) (evictOutcome work r address) (λ v. refl))
 
--- so what is read again is what the call returned
-pub gives-again : (registers answer : List ℕ) (r left : Registers) (a : Answer) (t : Bool) (registers′ answer′ : List ℕ) (number : ℕ) → LeavesPass r a
-    → t ≡ isCut (a .status) → t ≡ false → left ≡ withPass r (a .registers)
-    → Gives registers answer (record { status = a .status; value = a .value; stores = a .stores; registers = left }) registers′ answer′ number
-    → Gives registers answer a registers′ answer′ number
-gives-again registers answer r left a t registers′ answer′ number keeps is uncut again g =
-    let same : left ≡ a .registers = again ∙ keeps .same (sym is ∙ uncut) in
-    record { number-is = g .number-is; registers-left = rw same at (g .registers-left); answer-left = g .answer-left }
+-- so it is enough to write b and the count
+words-left : (words : List ℕ) (r : Registers) → registerWords ≤ length words
+    → set (set words bufferedAt (r .buffered)) dirtyAt (r .dirty) ≡ writeRegisters words (withPass (readRegisters words) r)
+unfolding readRegisters
+words-left [] r h = absurd (omega arith)
+words-left (a ∷ []) r h = absurd (omega arith)
+words-left (a ∷ b ∷ []) r h = absurd (omega arith)
+words-left (a ∷ b ∷ c ∷ []) r h = absurd (omega arith)
+words-left (a ∷ b ∷ c ∷ d ∷ []) r h = absurd (omega arith)
+words-left (a ∷ b ∷ c ∷ d ∷ e ∷ rest) r h = refl
+
+module _ (registers answer : List ℕ) (has : hasPlaces registers answer ≡ true) where
+  lent : registerWords ≤ length registers
+  lent = registers-lent registers answer has
+
+  pub buffered-within : bufferedAt < length registers
+  buffered-within = omega (arith, lent)
+
+  pub dirty-within : (b : ℕ) → dirtyAt < length (set registers bufferedAt b)
+  dirty-within b = simp length-set (omega (arith, lent))
+
+  pub line-given : (a : Answer) (t : Bool) (answer′ : List ℕ) (number : ℕ) → LeavesPass (readRegisters registers) a → t ≡ isCut (a .status) → t ≡ false
+      → answer′ ≡ writeAnswer answer (a .value) (a .stores) → number ≡ numberOf (a .status)
+      → Gives registers answer a (set (set registers bufferedAt (a .registers .buffered)) dirtyAt (a .registers .dirty)) answer′ number
+  line-given a t answer′ number keeps is uncut left n =
+      record {
+        number-is = n;
+        registers-left = words-left registers (a .registers) lent ∙ ap (writeRegisters registers) (keeps .same (sym is ∙ uncut));
+        answer-left = left;
+      }

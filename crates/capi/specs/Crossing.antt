@@ -9,12 +9,10 @@ use Rattle.status.specs.declared.Status.the-variants.{Ok}
 use Rattle.status.specs.Numbers.{numberOf, isOk}
 use Rattle.status.specs.Names.{nameOf, withName}
 use Rattle.checks.specs.declared.Registers.{Registers}
-use Rattle.checks.specs.Registers.{zero}
 use Rattle.picl.specs.declared.Report.{Report}
 use Rattle.picl.specs.Answers.{Verdict, answerOf}
 use Rattle.board.specs.Verdict.{boardAfter, workAfter}
-use Rattle.picl.specs.Calls.{Call, verdictOf, powerUpVerdict, formatReport, formatAfter, tallyReport, filterBitsReport}
-use Rattle.hex.specs.Export.{exportReport, exportText}
+use Rattle.picl.specs.Calls.{Call, verdictOf}
 use Rattle.records.specs.declared.Written.{Written}
 use Rattle.records.specs.Records.{recordBytes, written}
 use Rattle.capi.specs.Places.{hasAnswer, hasPlaces, hasRecordPlaces, readRegisters, writeRegisters, writeAnswer}
@@ -44,23 +42,12 @@ crossing allowance given v board work registers answer =
     (writeAnswer answer (a .value) (a .stores)))
     (back tooShort board work registers answer)
 
+-- A call that only reads leaves what C lends `const` as it was.
 abbrev pub callCrossing : Call → (allowance : ℕ) → (board work registers answer : List ℕ) → Crossing
 callCrossing c allowance board work registers answer =
     let r = readRegisters registers in crossing allowance r (verdictOf board work r c) board work registers answer
 
--- "Power-up takes none and returns them"; a refused one returns "all zero"
-abbrev pub powerUpCrossing : (allowance : ℕ) → (board work registers answer : List ℕ) → Crossing
-powerUpCrossing allowance board work registers answer =
-    crossing allowance zero (powerUpVerdict board work) board work registers answer
-
--- request 5/13: the tally reads board, work memory and registers, and leaves all three as they are
-unfoldable pub tallyCrossing : (board work registers answer : List ℕ) → Crossing
-tallyCrossing board work registers answer =
-    let a = tallyReport board work (readRegisters registers) in
-    cond (hasPlaces registers answer) (back (numberOf (a .status)) board work registers (writeAnswer answer (a .value) (a .stores)))
-    (back tooShort board work registers answer)
-
--- format, the status question and the export leave one memory and no registers
+-- format, the status question and the export (in a text; the board cannot be written) leave one memory and no registers
 pub record Reported : Type 0 where
   pub number : ℕ
   pub memory : List ℕ
@@ -72,17 +59,6 @@ reported number memory answer = record { number = number; memory = memory; answe
 unfoldable pub reporting : Report → (memory memory′ answer : List ℕ) → Reported
 reporting r memory memory′ answer =
     cond (hasAnswer answer) (reported (numberOf (r .status)) memory′ (writeAnswer answer (r .value) (r .stores))) (reported tooShort memory answer)
-
-abbrev pub formatCrossing : (board answer : List ℕ) → (lines entries : ℕ) → Reported
-formatCrossing board answer lines entries =
-    reporting (formatReport board lines entries) board (formatAfter board lines entries) answer
-
-abbrev pub filterBitsCrossing : (work answer : List ℕ) → Reported
-filterBitsCrossing work answer = reporting (filterBitsReport work) work work answer
-
--- request 7/13: a record of the board's file, in a text; the board cannot be written
-abbrev pub hexCrossing : (board text answer : List ℕ) → (number : ℕ) → Reported
-hexCrossing board text answer number = reporting (exportReport board number text) text (exportText board number text) answer
 
 -- The writer of records: the first sixteen bytes, or the refusal and no byte touched. It has no value and makes no stores.
 unfoldable pub recordPut : (bytes : List ℕ) → Written → List ℕ

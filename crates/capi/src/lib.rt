@@ -6,9 +6,11 @@ mod recording;
 
 ghost use mathlib.Core.Path.{_≡_};
 ghost use Rattle.picl.specs.Calls as call;
-ghost use Rattle.picl.specs.Calls.{noAllowance};
+ghost use Rattle.checks.specs.Registers.{allZero};
+ghost use Rattle.picl.specs.Calls.{noAllowance, powerUpVerdict, formatReport, formatAfter, filterBitsReport};
 ghost use Rattle.capi.specs.Crossing.{back, callCrossing};
-ghost use Rattle.capi.specs.Crossing.{powerUpCrossing, reported, formatCrossing, tallyCrossing, filterBitsCrossing, hexCrossing, recordCrossing, nameCrossing};
+ghost use Rattle.capi.specs.Crossing.{crossing, reported, reporting, recordCrossing, nameCrossing};
+ghost use Rattle.hex.specs.Export.{exportReport, exportText};
 use picl::Report;
 use places::TOO_SHORT;
 use places::give;
@@ -27,7 +29,8 @@ pub extern "C" fn picl_format(
     entries: u64,
     answer: &mut [u64],
 ) -> u64
-    ensures { λ r. ⌜ reported r (now (board .exit)) (now (answer .exit)) ≡ formatCrossing (now (board .entry)) (now (answer .entry)) lines entries ⌝ }
+    ensures { λ r. ⌜ reported r (now (board .exit)) (now (answer .exit))
+        ≡ reporting (formatReport (now (board .entry)) lines entries) (now (board .entry)) (formatAfter (now (board .entry)) lines entries) (now (answer .entry)) ⌝ }
 {
     if !has_answer(answer) {
         return TOO_SHORT;
@@ -36,6 +39,7 @@ pub extern "C" fn picl_format(
     report(answer, made)
 }
 
+// It takes no registers and returns them; where it is refused they are all zero.
 #[no_mangle]
 pub extern "C" fn picl_power_up(
     board: &mut [u64],
@@ -45,7 +49,7 @@ pub extern "C" fn picl_power_up(
     answer: &mut [u64],
 ) -> u64
     ensures { λ r. ⌜ back r (now (board .exit)) (now (work .exit)) (now (registers .exit)) (now (answer .exit))
-        ≡ powerUpCrossing allowance (now (board .entry)) (now (work .entry)) (now (registers .entry)) (now (answer .entry)) ⌝ }
+        ≡ crossing allowance allZero (powerUpVerdict (now (board .entry)) (now (work .entry))) (now (board .entry)) (now (work .entry)) (now (registers .entry)) (now (answer .entry)) ⌝ }
 {
     if !has_places(registers, answer) {
         return TOO_SHORT;
@@ -174,7 +178,7 @@ pub extern "C" fn picl_tally(
     answer: &mut [u64],
 ) -> u64
     ensures { λ r. ⌜ back r (now (board .entry)) (now (work .entry)) (now (registers .entry)) (now (answer .exit))
-        ≡ tallyCrossing (now (board .entry)) (now (work .entry)) (now (registers .entry)) (now (answer .entry)) ⌝ }
+        ≡ callCrossing call.tally noAllowance (now (board .entry)) (now (work .entry)) (now (registers .entry)) (now (answer .entry)) ⌝ }
 {
     if !has_places(registers, answer) {
         return TOO_SHORT;
@@ -185,7 +189,8 @@ pub extern "C" fn picl_tally(
 
 #[no_mangle]
 pub extern "C" fn picl_filter_bits(work: &[u64], answer: &mut [u64]) -> u64
-    ensures { λ r. ⌜ reported r (now (work .entry)) (now (answer .exit)) ≡ filterBitsCrossing (now (work .entry)) (now (answer .entry)) ⌝ }
+    ensures { λ r. ⌜ reported r (now (work .entry)) (now (answer .exit))
+        ≡ reporting (filterBitsReport (now (work .entry))) (now (work .entry)) (now (work .entry)) (now (answer .entry)) ⌝ }
 {
     if !has_answer(answer) {
         return TOO_SHORT;
@@ -201,7 +206,8 @@ pub extern "C" fn picl_hex_out(
     record: u64,
     answer: &mut [u64],
 ) -> u64
-    ensures { λ r. ⌜ reported r (now (text .exit)) (now (answer .exit)) ≡ hexCrossing (now (board .entry)) (now (text .entry)) (now (answer .entry)) «record» ⌝ }
+    ensures { λ r. ⌜ reported r (now (text .exit)) (now (answer .exit))
+        ≡ reporting (exportReport (now (board .entry)) «record» (now (text .entry))) (now (text .entry)) (exportText (now (board .entry)) «record» (now (text .entry))) (now (answer .entry)) ⌝ }
 {
     if !has_answer(answer) {
         return TOO_SHORT;

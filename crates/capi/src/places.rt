@@ -4,7 +4,7 @@ ghost use mathlib.Core.Bool.{true};
 ghost use Prim.Native.Nat.{_≤_};
 ghost use lib.ListN.{length};
 ghost use Rattle.capi.specs.Places.{registerWords, answerWords, hasAnswer, hasPlaces, readRegisters, writeRegisters, writeAnswer};
-ghost use Rattle.capi.specs.Contracts.{Gives, Reports, withPass, LeavesPass};
+ghost use Rattle.capi.specs.Contracts.{Gives, Reports, LeavesPass};
 use checks::Registers;
 use picl::Answer;
 use picl::Report;
@@ -27,7 +27,7 @@ const STORES_AT: usize = 1;
 
 const ANSWER_WORDS: usize = 2;
 
-// The number of a call whose registers or answer have too few words.
+// The number of a call whose registers, answer, record or name's text is too short.
 pub const TOO_SHORT: u64 = 255;
 
 pub fn has_answer(answer: &[u64]) -> bool
@@ -88,22 +88,7 @@ pub fn give(registers: &mut [u64], answer: &mut [u64], given: Answer) -> u64
     status.number()
 }
 
-// s, c and the target where they stand, and the rest of other registers.
-fn with_pass(registers: &[u64], left: Registers) -> Registers
-    requires { ⌜ registerWords ≤ length (now registers) ⌝ }
-    ensures { λ r. ⌜ r ≡ withPass (readRegisters (now (registers .entry))) left ⌝ }
-{
-    Registers::given(
-        registers[EPOCH_AT],
-        left.buffered,
-        registers[CURSOR_AT],
-        left.dirty,
-        registers[TARGET_AT],
-    )
-}
-
-// The same for a call on one line. Unless it was cut it leaves s, c and the target as they were, so they are read again here: to carry them
-// through the call would cost more.
+// The same for a call on one line. Unless it was cut it leaves s, c and the target as they were, and so as they stand.
 pub fn give_line(registers: &mut [u64], answer: &mut [u64], given: Answer) -> u64
     requires { ⌜ hasPlaces (now registers) (now answer) ≡ true ⌝ }
     requires { ⌜ LeavesPass (readRegisters (now registers)) given ⌝ }
@@ -113,20 +98,13 @@ pub fn give_line(registers: &mut [u64], answer: &mut [u64], given: Answer) -> u6
     if status.is_cut() {
         return give(registers, answer, given);
     }
-    let left = with_pass(registers, given.registers);
-    give(
-        registers,
-        answer,
-        Answer {
-            status,
-            value: given.value,
-            stores: given.stores,
-            registers: left,
-        },
-    )
+    registers[BUFFERED_AT] = given.registers.buffered;
+    registers[DIRTY_AT] = given.registers.dirty;
+    write_answer(answer, given.value, given.stores);
+    status.number()
 }
 
-// The same for a call without registers.
+// The same for a call that returns no registers.
 pub fn report(answer: &mut [u64], made: Report) -> u64
     requires { ⌜ hasAnswer (now answer) ≡ true ⌝ }
     ensures { λ r. ⌜ Reports (now (answer .entry)) made (now (answer .exit)) r ⌝ }

@@ -17,7 +17,7 @@ use Rattle.undo.specs.Log.{bufferProper, bufferMarked}
 use Rattle.slots.specs.declared.Bounds.{Bounds}
 use Rattle.slots.specs.declared.Spot.{Spot}
 use Rattle.slots.specs.Contracts.{BoundsReady}
-use Rattle.slots.specs.Passes.{nowhere, firstOf}
+use Rattle.slots.specs.Passes.{nowhere, firstSlotOf}
 use Rattle.slots.specs.Sets.{slotsFrom, properSet}
 use Rattle.slots.specs.Slots.{properAt, undoDue}
 use Rattle.checks.specs.declared.Checked.{Checked}
@@ -25,7 +25,7 @@ use Rattle.checks.specs.declared.Checked.the-variants.{Refused, Passed}
 use Rattle.checks.specs.declared.Registers.{Registers}
 use Rattle.checks.specs.declared.View.{View}
 use Rattle.checks.specs.View.{boundsOf, waits, miscounted, goodBuffer, goodFilter}
-use Rattle.checks.specs.Refusals.{Row, tested, bufferRows, addressRows, roomRows, targetRows, cursorRows, waitingRows}
+use Rattle.checks.specs.Refusals.{Row, tested, bufferRows, addressRows, roomRows, targetRows, cursorRows, waitingRows, scanRows}
 use Rattle.checks.specs.Contracts.{RowsReady, SiteReady, siteRows}
 use Rattle.checks.specs.Laws.{refused-first, passed-first}
 
@@ -55,18 +55,18 @@ module _ (v : View) (work : List ℕ) (r : Registers) (at : ℕ) (here : at ≡ 
           unfolding goodBuffer
           good = rw lent at proper
 
-          pub buffer-unmarked : p ≡ true → Refused status.Filter ≡ tested (bufferRows v work r) v
+          pub buffer-unmarked : p ≡ true → Refused status.Filter 0 ≡ tested (bufferRows v work r) v
           buffer-unmarked h =
               let yes : goodBuffer v work r ≡ true = sym good ∙ h in
               let no : goodFilter work r ≡ false = sym (rw yes at sound) ∙ bad in
               rw (yes, no)
 
-          pub buffer-refused : p ≡ false → Refused status.Buffer ≡ tested (bufferRows v work r) v
+          pub buffer-refused : p ≡ false → Refused status.Buffer 0 ≡ tested (bufferRows v work r) v
           buffer-refused h = let no : goodBuffer v work r ≡ false = sym good ∙ h in rw no
 
 -- 5
 module _ (v : View) (address : ℕ) where
-  pub line-outside : v .shape .lines ≤ address → Refused status.Address ≡ tested (addressRows v address) v
+  pub line-outside : v .shape .lines ≤ address → Refused status.Address 0 ≡ tested (addressRows v address) v
   line-outside h = rw (le-leb (v .shape .lines) address h)
 
   pub line-inside : address < v .shape .lines → Passed v ≡ tested (addressRows v address) v
@@ -74,15 +74,15 @@ module _ (v : View) (address : ℕ) where
 
 -- 6 and the count
 module _ (v : View) (work : List ℕ) (r : Registers) (site : ℕ) (t : Bool) (nowhere-else : t ≡ eqb site nowhere) where
-  pub set-improper : t ≡ true → Refused status.Slot ≡ tested (siteRows v work r site) v
+  pub set-improper : t ≡ true → Refused status.Slot 0 ≡ tested (siteRows v work r site) v
   set-improper h = rw (← nowhere-else, h)
 
   module _ (found : t ≡ false) where
-    pub set-words : SiteReady work v site → (first : ℕ) → first ≡ firstOf site → slotAt (first + ways) ≤ length work
+    pub set-words : SiteReady work v site → (first : ℕ) → first ≡ firstSlotOf site → slotAt (first + ways) ≤ length work
     set-words ready first e = rw e (ready .words (eqb-false site nowhere (sym nowhere-else ∙ found)))
 
-    module _ (first : ℕ) (here : first ≡ firstOf site) (m : Bool) (count : m ≡ miscounted v r work (slotsFrom first)) where
-      pub set-miscounted : m ≡ true → Refused status.Regs ≡ tested (siteRows v work r site) v
+    module _ (first : ℕ) (here : first ≡ firstSlotOf site) (m : Bool) (count : m ≡ miscounted v r work (slotsFrom first)) where
+      pub set-miscounted : m ≡ true → Refused status.Regs 0 ≡ tested (siteRows v work r site) v
       set-miscounted h = rw (← nowhere-else, found, ← here, ← count, h)
 
       pub set-passed : m ≡ false → Passed v ≡ tested (siteRows v work r site) v
@@ -98,35 +98,35 @@ module _ (v : View) (work : List ℕ) (r : Registers) (spot : Spot) where
     room-spared h = rw (← due, not-true t h)
 
     pub room-refused : not t ≡ false → v .shape .entries < v .control .length + r .buffered + 1
-        → Refused status.Room ≡ tested (roomRows v work r spot) v
+        → Refused status.Room 0 ≡ tested (roomRows v work r spot) v
     room-refused h g = rw (← due, not-false t h, lt-ltb (v .shape .entries) (v .control .length + r .buffered + 1) g)
 
     pub room-found : not t ≡ false → v .control .length + r .buffered + 1 ≤ v .shape .entries → Passed v ≡ tested (roomRows v work r spot) v
     room-found h g = rw (← due, not-false t h, le-ltb (v .shape .entries) (v .control .length + r .buffered + 1) g)
 
--- the rows of commit, begin and scan: 7 and 14, and those behind
-module _ (v : View) (work : List ℕ) (r : Registers) (k : Checked) where
-  module _ (rows : List Row) (is : k ≡ tested (bufferRows v work r) v) where
-    pub first-buffer : (s : Status) → k ≡ Refused s → Refused s ≡ tested (bufferRows v work r ++ rows) v
-    first-buffer s e = refused-first (bufferRows v work r) rows v s (sym e ∙ is)
+-- a list of rows, and those behind
+module _ (rows behind : List Row) (v : View) (k : Checked) (is : k ≡ tested rows v) where
+  pub rows-refused : (s : Status) (value : ℕ) → k ≡ Refused s value → Refused s value ≡ tested (rows ++ behind) v
+  rows-refused s value e = refused-first rows behind v s value (sym e ∙ is)
 
-    pub behind-buffer : (w : View) (k′ : Checked) → k ≡ Passed w → k′ ≡ tested rows v → k′ ≡ tested (bufferRows v work r ++ rows) v
-    behind-buffer w k′ e x = x ∙ sym (passed-first (bufferRows v work r) rows v w (sym e ∙ is))
+  pub rows-behind : (w : View) (k′ : Checked) → k ≡ Passed w → k′ ≡ tested behind v → k′ ≡ tested (rows ++ behind) v
+  rows-behind w k′ e x = x ∙ sym (passed-first rows behind v w (sym e ∙ is))
 
-  module _ (is : k ≡ tested (cursorRows v work r) v) where
-    pub scan-cursor : (s : Status) → k ≡ Refused s → Refused s ≡ tested (cursorRows v work r ++ bufferRows v work r ++ waitingRows v r) v
-    scan-cursor s e = refused-first (cursorRows v work r) (bufferRows v work r ++ waitingRows v r) v s (sym e ∙ is)
+-- scan: 6 and the count, and then 7, 14 and 11
+module _ (v : View) (work : List ℕ) (r : Registers) (k : Checked) (is : k ≡ tested (cursorRows v work r) v) where
+  pub scan-refused : (s : Status) (value : ℕ) → k ≡ Refused s value → Refused s value ≡ tested (scanRows v work r) v
+  scan-refused = rows-refused (cursorRows v work r) (bufferRows v work r ++ waitingRows v r) v k is
 
-    pub scan-rest : (w : View) (k′ : Checked) → k ≡ Passed w → k′ ≡ tested (bufferRows v work r ++ waitingRows v r) v
-        → k′ ≡ tested (cursorRows v work r ++ bufferRows v work r ++ waitingRows v r) v
-    scan-rest w k′ e x = x ∙ sym (passed-first (cursorRows v work r) (bufferRows v work r ++ waitingRows v r) v w (sym e ∙ is))
+  pub scan-behind : (w : View) (k′ : Checked) → k ≡ Passed w → k′ ≡ tested (bufferRows v work r ++ waitingRows v r) v
+      → k′ ≡ tested (scanRows v work r) v
+  scan-behind = rows-behind (cursorRows v work r) (bufferRows v work r ++ waitingRows v r) v k is
 
 module _ (v : View) (work : List ℕ) (r : Registers) where
   pub cursor-end : v .slots ≤ r .cursor → Passed v ≡ tested (cursorRows v work r) v
   unfolding properSet miscounted
   cursor-end h = rw (le-ltb (r .cursor) (v .slots) h) (go (eqb (r .dirty) 0) (eqb (r .dirty) (v .slots)))
     where
-      go : (none all : Bool) → Passed v ≡ cond (none && false || all && false) (Refused status.Regs) (Passed v)
+      go : (none all : Bool) → Passed v ≡ cond (none && false || all && false) (Refused status.Regs 0) (Passed v)
       go true true = refl
       go true false = refl
       go false true = refl
@@ -140,7 +140,7 @@ module _ (v : View) (work : List ℕ) (r : Registers) where
     cursor-words h = omega (arith, h .work-words)
 
     module _ (b : Bounds) (bounds : b ≡ boundsOf v r) (t : Bool) (slot : t ≡ properAt b work (r .cursor)) where
-      pub cursor-refused : not t ≡ true → Refused status.Slot ≡ tested (cursorRows v work r) v
+      pub cursor-refused : not t ≡ true → Refused status.Slot 0 ≡ tested (cursorRows v work r) v
       unfolding properSet
       cursor-refused h = rw (lt-ltb (r .cursor) (v .slots) within, ← bounds, ← slot, not-true t h)
 
@@ -154,7 +154,7 @@ module _ (v : View) (work : List ℕ) (r : Registers) where
           go false = refl
 
       module _ (proper : not t ≡ false) (m : Bool) (count : m ≡ miscounted v r work (r .cursor ∷ [])) where
-        pub cursor-miscounted : m ≡ true → Refused status.Regs ≡ tested (cursorRows v work r) v
+        pub cursor-miscounted : m ≡ true → Refused status.Regs 0 ≡ tested (cursorRows v work r) v
         cursor-miscounted h = rw (lt-ltb (r .cursor) (v .slots) within, proper-alone proper, ← count, h)
 
         pub cursor-passed : m ≡ false → Passed v ≡ tested (cursorRows v work r) v
@@ -162,11 +162,11 @@ module _ (v : View) (work : List ℕ) (r : Registers) where
 
 -- 15
 module _ (v : View) (r : Registers) (target : ℕ) where
-  pub target-inside : (r .target ≡ 0 → ⊥) → Refused status.Target ≡ tested (targetRows v r target) v
+  pub target-inside : (r .target ≡ 0 → ⊥) → Refused status.Target 0 ≡ tested (targetRows v r target) v
   target-inside n = rw (ne-eqb (r .target) 0 n)
 
   module _ (outside : r .target ≡ 0) (t : Bool) (test : t ≡ waits v r target) where
-    pub target-refused : not t ≡ true → Refused status.Target ≡ tested (targetRows v r target) v
+    pub target-refused : not t ≡ true → Refused status.Target 0 ≡ tested (targetRows v r target) v
     target-refused h = rw (eq-eqb (r .target) 0 outside, ← test, not-true t h)
 
     pub target-passed : not t ≡ false → Passed v ≡ tested (targetRows v r target) v
@@ -177,9 +177,9 @@ module _ (v : View) (r : Registers) (b : Bounds) (work : List ℕ) (e : b ≡ bo
   pub bounds-ready : BoundsReady b
   bounds-ready =
       rw e record {
-        slots-ready = record { whole = h .slots-whole; some = h .slots-some; most = h .slots-most };
-        ahead = h .ahead;
-        last = h .epoch-most;
+        sets = h .sets;
+        ahead = h .proper .ahead;
+        last = h .proper .epoch-most;
       }
 
   pub bounds-below : r .cursor < v .slots → r .cursor < b .slots

@@ -7,8 +7,8 @@ use Rattle.layout.specs.Words.{bit}
 use Rattle.undo.specs.declared.LogState.{LogState}
 use Rattle.checks.specs.declared.Registers.{Registers}
 
-abbrev pub zero : Registers
-zero = record { epoch = 0; buffered = 0; cursor = 0; dirty = 0; target = 0 }
+abbrev pub allZero : Registers
+allZero = record { epoch = 0; buffered = 0; cursor = 0; dirty = 0; target = 0 }
 
 -- as a caller hands them in: any words
 abbrev pub given : (epoch buffered cursor dirty target : ℕ) → Registers
@@ -16,8 +16,8 @@ given epoch buffered cursor dirty target =
     record { epoch = epoch; buffered = buffered; cursor = cursor; dirty = dirty; target = target }
 
 -- "s = P + 1, b = 0, c = 0", beside a work memory all zero, and outside a pass
-abbrev pub woken : (persisted : ℕ) → Registers
-woken persisted = record { epoch = persisted + 1; buffered = 0; cursor = 0; dirty = 0; target = 0 }
+abbrev pub restarted : (persisted : ℕ) → Registers
+restarted persisted = record { epoch = persisted + 1; buffered = 0; cursor = 0; dirty = 0; target = 0 }
 
 -- "s becomes s + 1"
 abbrev pub committed : Registers → Registers

@@ -9,7 +9,7 @@ ghost use mathlib.Core.Path.{_≡_};
 ghost use Rattle.layout.specs.Limits.{lastEpoch, ways, mostSlots};
 ghost use Rattle.layout.specs.Memory.{logAt, slotAt, slotWords, bufferWords};
 ghost use Rattle.layout.specs.Words.{ControlFits, ShapeFits, encodeSlot};
-ghost use Rattle.checks.specs.Registers.{zero, given, woken, committed, begun, stepped, ended, recounted, leaving, scanTarget};
+ghost use Rattle.checks.specs.Registers.{allZero, given, restarted, committed, begun, stepped, ended, recounted, leaving, scanTarget};
 ghost use Rattle.checks.specs.View.{goodControl, goodShape, properEpoch, properCounts, properPass, properRegisters, waits, miscounted};
 ghost use Rattle.checks.specs.View.{lent, boundsOf, undoOf};
 ghost use Rattle.checks.specs.Contracts.{Viewed, Countable};
@@ -22,16 +22,16 @@ use layout::LAST_EPOCH;
 use layout::MOST_AHEAD;
 use layout::SHAPE_AT;
 use layout::Shape;
-pub use refusals::check_address;
 pub use refusals::check_begin;
 pub use refusals::check_board;
-pub use refusals::check_buffer;
 pub use refusals::check_commit;
-pub use refusals::check_memories;
-pub use refusals::check_registers;
+pub use refusals::check_named;
+pub use refusals::check_power_up;
+pub use refusals::check_ready;
 pub use refusals::check_room;
+pub use refusals::check_running;
 pub use refusals::check_scan;
-pub use refusals::check_set;
+pub use refusals::check_site;
 pub use sizes::is_good_sizes;
 pub use sizes::is_good_work;
 use slots::Bounds;
@@ -50,8 +50,8 @@ pub struct Registers {
 }
 
 impl Registers {
-    pub fn zero() -> Registers
-        ensures { λ r. ⌜ r ≡ zero ⌝ }
+    pub fn all_zero() -> Registers
+        ensures { λ r. ⌜ r ≡ allZero ⌝ }
     {
         Registers {
             epoch: 0,
@@ -76,9 +76,9 @@ impl Registers {
     }
 
     // Of a controller that has just powered up.
-    pub fn woken(persisted: u64) -> Registers
+    pub fn restarted(persisted: u64) -> Registers
         requires { ⌜ persisted < lastEpoch ⌝ }
-        ensures { λ r. ⌜ r ≡ woken persisted ⌝ }
+        ensures { λ r. ⌜ r ≡ restarted persisted ⌝ }
     {
         Registers {
             epoch: persisted + 1,
@@ -94,13 +94,9 @@ impl Registers {
         requires { ⌜ self .epoch ≤ lastEpoch ⌝ }
         ensures { λ r. ⌜ r ≡ committed self ⌝ }
     {
-        Registers {
-            epoch: self.epoch + 1,
-            buffered: self.buffered,
-            cursor: self.cursor,
-            dirty: self.dirty,
-            target: self.target,
-        }
+        let mut r = self;
+        r.epoch += 1;
+        r
     }
 
     // The target of a scan: that of the pass, or the oldest epoch that waits, with which the scan begins one.
@@ -118,13 +114,9 @@ impl Registers {
     pub fn begun(self, target: u64) -> Registers
         ensures { λ r. ⌜ r ≡ begun self target ⌝ }
     {
-        Registers {
-            epoch: self.epoch,
-            buffered: self.buffered,
-            cursor: self.cursor,
-            dirty: self.dirty,
-            target,
-        }
+        let mut r = self;
+        r.target = target;
+        r
     }
 
     // With the cursor at the next slot.
@@ -132,39 +124,28 @@ impl Registers {
         requires { ⌜ self .cursor ≤ mostSlots ⌝ }
         ensures { λ r. ⌜ r ≡ stepped self ⌝ }
     {
-        Registers {
-            epoch: self.epoch,
-            buffered: self.buffered,
-            cursor: self.cursor + 1,
-            dirty: self.dirty,
-            target: self.target,
-        }
+        let mut r = self;
+        r.cursor += 1;
+        r
     }
 
     // Outside a pass, the cursor before the first slot.
     pub fn ended(self) -> Registers
         ensures { λ r. ⌜ r ≡ ended self ⌝ }
     {
-        Registers {
-            epoch: self.epoch,
-            buffered: self.buffered,
-            cursor: 0,
-            dirty: self.dirty,
-            target: 0,
-        }
+        let mut r = self;
+        r.cursor = 0;
+        r.target = 0;
+        r
     }
 
     // With what the steps of a call have left: the entries that are still buffered.
     pub fn leaving(self, done: Progress) -> Registers
         ensures { λ r. ⌜ r ≡ leaving self (done .undo) ⌝ }
     {
-        Registers {
-            epoch: self.epoch,
-            buffered: done.undo.buffered,
-            cursor: self.cursor,
-            dirty: self.dirty,
-            target: self.target,
-        }
+        let mut r = self;
+        r.buffered = done.undo.buffered;
+        r
     }
 
     // With what a step on one slot has left: and so one dirty slot less where it has found the slot dirty, one more where it leaves it dirty.
@@ -172,13 +153,10 @@ impl Registers {
         requires { ⌜ Countable self was ⌝ }
         ensures { λ r. ⌜ r ≡ leaving (recounted self was is) (done .undo) ⌝ }
     {
-        Registers {
-            epoch: self.epoch,
-            buffered: done.undo.buffered,
-            cursor: self.cursor,
-            dirty: self.dirty - layout::bit(was) + layout::bit(is),
-            target: self.target,
-        }
+        let mut r = self;
+        r.buffered = done.undo.buffered;
+        r.dirty = self.dirty - layout::bit(was) + layout::bit(is);
+        r
     }
 
     // Ahead of the persisted epoch, and not too far. One comparison for both ends: an epoch that is not ahead wraps round to more than
@@ -364,6 +342,18 @@ impl View {
         registers.epoch - self.control.persisted
     }
 
+    // The board's log, with nothing buffered for it.
+    pub fn log(self) -> LogState
+        ensures { λ r. ⌜ r ≡ undoOf self allZero ⌝ }
+    {
+        let control = self.control;
+        LogState {
+            control,
+            entries: self.shape.entries,
+            buffered: 0,
+        }
+    }
+
     // The undo log as the call carries it.
     pub fn undo(self, registers: Registers) -> LogState
         ensures { λ r. ⌜ r ≡ undoOf self registers ⌝ }
@@ -377,8 +367,8 @@ impl View {
     }
 }
 
-// What came of a call's tests.
+// What came of a call's tests: why it is refused and with which value, or what it has read.
 pub enum Checked {
-    Refused(Status),
+    Refused(Status, u64),
     Passed(View),
 }

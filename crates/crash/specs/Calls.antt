@@ -26,12 +26,13 @@ use Rattle.slots.specs.Sets.{spotOf}
 use Rattle.slots.specs.Slots.{holds, dirtied, dirtyAt, dirtySlots}
 use Rattle.checks.specs.declared.Registers.{Registers}
 use Rattle.checks.specs.declared.View.{View}
-use Rattle.checks.specs.Contracts.{Running, Waits}
+use Rattle.ranges.specs.Ranges.{Waits}
+use Rattle.checks.specs.Contracts.{Running}
 use Rattle.checks.specs.Registers.{leaving, recounted, committed, begun, stepped, ended, scanTarget}
 use Rattle.checks.specs.View.{viewOf, boundsOf, undoOf}
 use Rattle.picl.specs.Calls as calls
-use Rattle.picl.specs.Calls.{Call, carried, carriedAt, loadAt, loadOutcome, storeAt, storeOutcome, evictAt, evictOutcome, commitOutcome}
-use Rattle.picl.specs.Calls.{beginOutcome, scanAt, scanOutcome}
+use Rattle.picl.specs.Calls.{unstored, Call, carried, carriedAt, loadAt, loadOutcome, storeAt, storeOutcome, evictAt, evictOutcome}
+use Rattle.picl.specs.Calls.{scanAt, scanOutcome}
 use Rattle.picl.specs.Answers.{Outcome, success, cutOff, answerOf}
 use Rattle.board.specs.Verdict.{due}
 use Rattle.reference.specs.Machine.{Reference, stores, commits, persists, does}
@@ -47,7 +48,7 @@ use Rattle.refine.specs.Pass.{Sweep, aimed}
 use Rattle.refine.specs.Pass as pass
 use Rattle.refine.specs.Scan.{begun-ok, visiting-keeps, persisting-along, persisting-ok}
 use Rattle.refine.specs.State.{Ok}
-use Rattle.refine.specs.Wake.{commit-ok}
+use Rattle.refine.specs.Restart.{commit-ok}
 use Rattle.refine.specs.Store.{storing-held-keeps}
 use Rattle.refine.specs.Load.{full-reads, loading-keeps, loading-full, loading-fewer}
 use Rattle.crash.specs.Statement.{Machine, answered, seenCall, countScan}
@@ -57,7 +58,7 @@ use Rattle.crash.specs.Fares.{carriedOut, Fares, goes}
 
 -- with the current off no call but a power-up passes its tests
 pub down-stays : {N L : ℕ} {m : Machine} {g : Reference} → Down N L m g → (v : View) → Running (m .board) (m .work) (m .registers) v → ⊥
-down-stays {m = m} d v r = omega (arith, r .ahead, ap (λ (x : Registers). x .epoch) (d .registers))
+down-stays {m = m} d v r = omega (arith, r .proper .ahead, ap (λ (x : Registers). x .epoch) (d .registers))
 
 -- an effect that keeps the invariant, as a call's outcome
 carried-goes : {N L : ℕ} {b : Bounds} {to : Sweep} {m : Machine} {g : Reference} {e : Effect} {g′ : Reference} (c : Call)
@@ -166,7 +167,7 @@ module _ {N L : ℕ} {m : Machine} {g : Reference} (up : Up N L m g) where
     home =
         record {
           inside = named;
-          fits = omega (arith, up .ok .reads .sized .most-lines, named);
+          fits = omega (arith, up .ok .reads .sized .sizes .lines-most, named);
           home = spot-belongs (m .work) (v .slots) a;
         }
 
@@ -246,34 +247,30 @@ module _ {N L : ℕ} {m : Machine} {g : Reference} (up : Up N L m g) where
         (storing-few (m .board) (m .work) u a (m .registers .epoch) value spot (omega (arith, fewer .buffered, up .few))) refl (onward-none _)
 
   pub commit-goes : m .registers .epoch < lastEpoch → m .registers .epoch < v .control .persisted + mostAhead
-      → Fares N L m g calls.commit (due (commitOutcome (m .work) (m .registers)))
-  unfolding commitOutcome applied
+      → Fares N L m g calls.commit (due (unstored 0 (committed (m .registers)) (m .work)))
+  unfolding applied
   commit-goes early window =
-      goes (commitOutcome (m .work) (m .registers)) (along-none N L (m .board) g)
+      goes (unstored 0 (committed (m .registers)) (m .work)) (along-none N L (m .board) g)
       (is-up
       (subst (λ (n : ℕ). Up n L (record { board = m .board; work = m .work; registers = committed (m .registers) }) (commits g)) lines
       (up-of (commit-ok (up .ok) early window) (committed (m .registers)) refl refl refl (up .few) count-before)))
       refl (onward-none _)
-
-  -- by the registers, and so by the bounds
-  waiting : {epoch : ℕ} → Waits v (m .registers) epoch → pass.Waits b epoch
-  waiting w = record { ahead = w .ahead; ended = w .ended }
 
   -- the board's P is the uncached machine's p
   named : v .control .persisted ≡ g .persisted
   unfolding viewOf
   named = up .ok .persisted ∙ up .ok .safe .named
 
-  pub begin-goes : (target : ℕ) → m .registers .target ≡ 0 → Waits v (m .registers) target
-      → Fares N L m g (calls.begin target) (due (beginOutcome (m .work) (m .registers) target))
-  unfolding beginOutcome applied
+  pub begin-goes : (target : ℕ) → m .registers .target ≡ 0 → Waits (v .control .persisted) (m .registers .epoch) target
+      → Fares N L m g (calls.begin target) (due (unstored 0 (begun (m .registers) target) (m .work)))
+  unfolding applied
   begin-goes target none waits =
       let before = aim-outside (m .registers) (g .persisted) none in
       let behind = aim-inside (begun (m .registers) target) (g .persisted) (omega (arith, waits .ahead)) in
-      goes (beginOutcome (m .work) (m .registers) target) (along-none N L (m .board) g)
+      goes (unstored 0 (begun (m .registers) target) (m .work)) (along-none N L (m .board) g)
       (is-up
       (subst (λ (n : ℕ). Up n L (record { board = m .board; work = m .work; registers = begun (m .registers) target }) g) lines
-      (up-of (begun-ok (up .ok) none target (waiting waits)) (begun (m .registers) target) refl refl refl (up .few) count-before)))
+      (up-of (begun-ok (up .ok) none target waits) (begun (m .registers) target) refl refl refl (up .few) count-before)))
       refl (farther refl (omega arith) (omega (arith, before, behind, waits .ahead, named)))
 
   -- ---- scan
@@ -293,7 +290,7 @@ module _ {N L : ℕ} {m : Machine} {g : Reference} (up : Up N L m g) where
   same-aim = ap (scanTarget (m .registers)) (sym named)
 
   -- inside a pass, or at the beginning of the one that the scan begins
-  in-pass : pass.Waits b target → Ok L b (aimed at target) (m .board) (m .work) u g
+  in-pass : Waits (b .persisted) (b .epoch) target → Ok L b (aimed at target) (m .board) (m .work) u g
   in-pass waits = go (up .ok .pass .runs)
     where
       go : pass.Runs b at → Ok L b (aimed at target) (m .board) (m .work) u g
@@ -302,23 +299,20 @@ module _ {N L : ℕ} {m : Machine} {g : Reference} (up : Up N L m g) where
           subst (λ (t : ℕ). Ok L b (aimed at t) (m .board) (m .work) u g)
           (sym (aim-inside (m .registers) (v .control .persisted) (omega (arith, w .ahead)))) (up .ok)
 
-  pub scan-goes : Waits v (m .registers) target → Fares N L m g calls.scan (due (scanOutcome (m .board) (m .work) (m .registers) v))
+  pub scan-goes : Waits (v .control .persisted) (m .registers .epoch) target → Fares N L m g calls.scan (due (scanOutcome (m .board) (m .work) (m .registers) v))
   unfolding scanOutcome scanAt viewOf
-  scan-goes aims = go (ltb (m .registers .cursor) (v .slots)) refl
+  scan-goes waits = go (ltb (m .registers .cursor) (v .slots)) refl
     where
-      waits : pass.Waits b target
-      waits = waiting aims
-
       go : (t : Bool) → ltb (m .registers .cursor) (v .slots) ≡ t → Fares N L m g calls.scan (due (cond t visit persist))
       go true e =
           let below = ltb-true (m .registers .cursor) (v .slots) e in
-          let behind = aim-inside (begun (m .registers) target) (g .persisted) (omega (arith, aims .ahead)) in
+          let behind = aim-inside (begun (m .registers) target) (g .persisted) (omega (arith, waits .ahead)) in
           slot-goes calls.scan (stepped (begun (m .registers) target)) 0 (m .registers .cursor) below (visiting-keeps (in-pass waits) waits below)
           (moved-visit (b .slots) (m .registers .cursor) (m .work) words u target) refl refl refl
           (omega (arith, visiting-fewer u (m .work) (m .registers .cursor) target .buffered, up .few)) refl
           (farther refl refl (omega (arith, same-aim, behind)))
       go false e =
-          let some : eqb target 0 ≡ false = ne-eqb target 0 (omega (arith, aims .ahead)) in
+          let some : eqb target 0 ≡ false = ne-eqb target 0 (omega (arith, waits .ahead)) in
           let done-ok = persisting-ok (in-pass waits) waits (all e) in
           let kept = moved-persist (b .slots) (b .slots) (m .work) words u (m .board) target in
           goes persist (subst (λ (n : ℕ). Along n L (m .board) g (persist .stores)) lines (persisting-along (in-pass waits) waits))

@@ -1,5 +1,5 @@
 -- An export changes nothing, and what it gives is the uncached machine's copy of the persisted epoch.
-use Prim.Native.Nat.{ℕ, _+_, _≤_, _<_}
+use Prim.Native.Nat.{ℕ, _≤_, _<_}
 use mathlib.Core.Path.{_≡_, refl, sym, ap}
 use mathlib.Core.Bool.{Bool, true, false, not, cond}
 use mathlib.Core.List.{List, [], _++_}
@@ -25,7 +25,8 @@ use Rattle.reference.specs.Machine.{Reference, nothing, does}
 use Rattle.history.specs.Machine.{recall}
 use Rattle.base.specs.Listed.{listed, listed-whole}
 use Rattle.refine.specs.State.{Off}
-use Rattle.crash.specs.Statement.{exportRecord, Machine, Result, Both, made, fed, after, persistedOn, lineOn, Among, exportAnswers}
+use Rattle.crash.specs.Statement.{exportRecord, Machine, Result, Both, made, fed, after, persistedOn, lineOn}
+use Rattle.crash.specs.Beyond.{Among, exportAnswers}
 use Rattle.crash.specs.State.{Holds, holds-off}
 use Rattle.crash.specs.Power.{differ, shape-good}
 
@@ -95,7 +96,7 @@ module _ {N L : ℕ} {m : Machine} {g : Reference} (h : Holds N L m g) (text : L
 
   abbrev judged : (few beyond empty : Bool) → Checked
   judged few beyond empty =
-      cond few (Refused status.Short) (cond beyond (Refused status.Past) (cond (not empty) (Refused status.LogHeld) (Passed (viewOf board []))))
+      cond few (Refused status.Short 0) (cond beyond (Refused status.Past 0) (cond (not empty) (Refused status.LogHeld 0) (Passed (viewOf board []))))
 
   board-passes : exportChecked board (length text) number ≡ judged few beyond empty
   unfolding exportChecked boardChecked viewOf

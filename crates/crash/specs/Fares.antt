@@ -25,7 +25,7 @@ use Rattle.reference.specs.Machine.{Reference, does}
 use Rattle.volatile.specs.Dirty.{dirty-zeros}
 use Rattle.refine.specs.Along.{Along}
 use Rattle.crash.specs.Statement.{call, Machine, Result, answered, seenCall, fed, countScan, dirtyIn}
-use Rattle.crash.specs.State.{Holds, is-down, holds-ended}
+use Rattle.crash.specs.State.{Holds, is-down, emptied-zeros, holds-ended}
 use Rattle.crash.specs.Reached.{reached, Onward, onward-none}
 
 -- ---- no check refuses as ok or as cut
@@ -38,7 +38,7 @@ numbered [] = true
 numbered (x ∷ xs) = refusal (x .refuses) && numbered xs
 
 abbrev pub Refuses : Checked → Type 0
-Refuses k = (s : Status) → Refused s ≡ k → refusal s ≡ true
+Refuses k = (s : Status) (value : ℕ) → Refused s value ≡ k → refusal s ≡ true
 
 pub not-ok : (s : Status) → refusal s ≡ true → eqb (numberOf s) 0 ≡ false
 not-ok s = go (eqb (numberOf s) 0) (eqb (numberOf s) (numberOf status.Cut))
@@ -51,19 +51,19 @@ pub not-cut : (s : Status) → refusal s ≡ true → s ≡ status.Cut → ⊥
 not-cut s e same = false≢true (rw same at e)
 
 pub tested-refuses : (xs : List Row) (v : View) → numbered xs ≡ true → Refuses (tested xs v)
-tested-refuses [] v n s e = let z : _≡_ {A = ℕ} 0 1 = cc in absurd (omega arith)
-tested-refuses (x ∷ xs) v n s e = go (x .holds) (tested-refuses xs v (and-right (refusal (x .refuses)) (numbered xs) n) s) e
+tested-refuses [] v n s value e = let z : _≡_ {A = ℕ} 0 1 = cc in absurd (omega arith)
+tested-refuses (x ∷ xs) v n s value e = go (x .holds) (tested-refuses xs v (and-right (refusal (x .refuses)) (numbered xs) n) s value) e
   where
-    go : (t : Bool) → (Refused s ≡ tested xs v → refusal s ≡ true) → Refused s ≡ cond t (Refused (x .refuses)) (tested xs v)
-        → refusal s ≡ true
+    go : (t : Bool) → (Refused s value ≡ tested xs v → refusal s ≡ true)
+        → Refused s value ≡ cond t (Refused (x .refuses) (x .value)) (tested xs v) → refusal s ≡ true
     go true rest e =
         let same : s ≡ x .refuses = cc in
         rw same (and-left (refusal (x .refuses)) (numbered xs) n)
     go false rest e = rest e
 
 pub then-refuses : (k : Checked) (rows : View → List Row) → Refuses k → ((v : View) → numbered (rows v) ≡ true) → Refuses (then k rows)
-then-refuses (Refused t) rows first n s e = first s e
-then-refuses (Passed v) rows first n s e = tested-refuses (rows v) v (n v) s e
+then-refuses (Refused t w) rows first n s value e = first s value e
+then-refuses (Passed v) rows first n s value e = tested-refuses (rows v) v (n v) s value e
 
 -- ---- a verdict on a machine that holds the invariant
 
@@ -114,7 +114,7 @@ fares-kept {N} {L} {m} {g} {c} h (goes o along kept words moves) k = go (leb (le
         record { holds = rw (e, all) kept; same-words = rw e words; cut = rw e (λ same. absurd (not-cut-ok same)); moves = λ whole. rw e moves }
     go false e =
         record {
-          holds = rw e (is-down (record { off = along k (leb-false _ _ e); registers = refl; ended = holds-ended h }));
+          holds = rw e (is-down (record { off = along k (leb-false _ _ e); registers = refl; emptied = emptied-zeros (length (m .work)); ended = holds-ended h }));
           same-words = rw e (length-replicate (length (m .work)) 0);
           cut = rw e (λ same. (refl, cut-none (length (m .work))));
           moves = rw e (λ whole. absurd (whole refl));

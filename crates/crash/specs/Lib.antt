@@ -1,9 +1,12 @@
--- Demand 3. To be believed: Statement. The theorem is `demand-3` in Theorem; Witness has a run that meets every premise.
+-- Demand 3. To be believed: Statement, and Beyond for what is proved beyond the demand. The theorems are `demand-3` and
+-- `whole` in Theorem; Witness has runs that meet the premises.
 pub mod Statement
+pub mod Beyond
 pub mod Witness
 pub mod State
 pub mod Reached
 pub mod Fares
+pub mod Caches
 pub mod Calls
 pub mod Steps
 pub mod Power
@@ -13,3 +16,4 @@ pub mod Progress
 pub mod Proper
 pub mod Format
 pub mod Theorem
+pub mod Reports

@@ -1,7 +1,7 @@
 -- A power-up keeps the invariant of a run from any state, and never answers 1 or 3: each entry of the log that it finds is proper.
 use Prim.Native.Nat.{ℕ, _+_, _≤_, _<_}
-use mathlib.Core.Path.{_≡_, refl, sym, ap, _∙_}
-use mathlib.Core.Bool.{Bool, true, false, not, cond}
+use mathlib.Core.Path.{_≡_, refl, sym, ap, _∙_, subst}
+use mathlib.Core.Bool.{Bool, true, false, not, cond, false≢true}
 use mathlib.Core.List.{List}
 use native.Mathlib.Omega.{arith}
 use borrow.Author.Tests.{leb-true, leb-false, lt-ltb, le-ltb, le-leb, eq-eqb, ne-eqb}
@@ -16,30 +16,31 @@ use Rattle.layout.specs.Memory.{logAt, linesAt, boardWords, controlIn}
 use Rattle.board.specs.Stores.{Store, applied}
 use Rattle.status.specs.declared.Status.{Status}
 use Rattle.status.specs.declared.Status.the-variants as status
-use Rattle.undo.specs.Log.{properAt, firstImproper, recoverStores}
-use Rattle.checks.specs.declared.Checked.{Checked}
+use Rattle.undo.specs.declared.LogState.{LogState}
+use Rattle.undo.specs.Recovery.{properAt, firstImproper}
+use Rattle.undo.specs.Log.{logIn, recoverStores}
 use Rattle.checks.specs.declared.Checked.the-variants.{Refused, Passed}
 use Rattle.checks.specs.Contracts.{Shaped}
 use Rattle.checks.specs.Laws.{memories-shaped}
-use Rattle.checks.specs.Refusals.{memoriesChecked}
+use Rattle.checks.specs.declared.View.{View}
+use Rattle.checks.specs.Refusals.{then, entryRows, memoriesChecked, powerUpChecked}
 use Rattle.checks.specs.Registers as registers
 use Rattle.checks.specs.View.{viewOf, goodSizes, goodControl, goodShape, goodWork, undoOf}
 use Rattle.board.specs.Verdict.{refused, due, boardAfter, workAfter}
-use Rattle.picl.specs.Answers.{success, cutOff, answerOf}
-use Rattle.picl.specs.Calls.{wakeAt, wakeVerdict, wakeJudged, powerUpVerdict}
+use Rattle.picl.specs.Answers.{Outcome, Verdict, answerOf}
+use Rattle.picl.specs.Calls.{judged, powerUpOutcome, powerUpVerdict}
 use Rattle.history.specs.Machine.{Durable}
-use Rattle.reference.specs.Machine.{Reference, wakes, does}
+use Rattle.reference.specs.Machine.{Reference, restarts, does}
 use Rattle.history.specs.Restore.{power-up-lines}
 use Rattle.bounds.specs.Costs.{recover-most}
 use Rattle.durable.specs.Proper.{reads-passes, reads-proper}
 use Rattle.durable.specs.View.{Sized, undoWith}
 use Rattle.volatile.specs.Dirty.{dirty-none}
-use Rattle.volatile.specs.Slotted.{WholeSets}
 use Rattle.refine.specs.State.{Off, Ok}
-use Rattle.refine.specs.Wake.{waking-along, waking-reads, waking-ok}
+use Rattle.refine.specs.Restart.{recovery-along, recovery-reads, restart-ok}
 use Rattle.crash.specs.Statement.{powerUp, Machine, Result, answered, made, fed, logOn}
 use Rattle.crash.specs.Fares.{NoneDirty, cut-none, not-cut-ok}
-use Rattle.crash.specs.State.{Up, Holds, is-up, is-down, up-of, holds-off, holds-ended}
+use Rattle.crash.specs.State.{Up, emptied-zeros, Holds, is-up, is-down, up-of, holds-off, holds-ended}
 
 -- ---- the tests
 
@@ -58,32 +59,24 @@ shape-good {N} {L} {board} s work =
     (and-true _ _ (and-true _ _ (le-leb logAt (length board) (omega (arith, s .words))) refl)
     (and-true _ _
     (and-true _ _
-    (and-true _ _ (and-true _ _ (le-leb 1 N (s .some-lines)) (le-leb N mostLines (s .most-lines))) (le-leb 1 L (s .some-entries)))
-    (le-leb L mostEntries (s .most-entries)))
+    (and-true _ _ (and-true _ _ (le-leb 1 N (s .sizes .lines-some)) (le-leb N mostLines (s .sizes .lines-most))) (le-leb 1 L (s .sizes .entries-some)))
+    (le-leb L mostEntries (s .sizes .entries-most)))
     (eq-eqb (length board) (boardWords N L) (s .words))))
     (and-true _ _
     (and-true _ _ (not-last (controlIn board .persisted) (c .persisted)) (lt-ltb (controlIn board .start) L (c .start)))
     (le-leb (controlIn board .length) L (c .length))))
 
--- so the memories are refused as work or not at all
-pub memories-work : {N L : ℕ} {board : List ℕ} → Sized N L board → (work : List ℕ) (s : Status) → Refused s ≡ memoriesChecked board work → s ≡ status.Work
-unfolding memoriesChecked
-memories-work {board = board} sized work s e = go (goodWork (length work)) (rw (shape-good sized work) at e)
-  where
-    go : (t : Bool) → Refused s ≡ cond (not t) (Refused status.Work) (Passed (viewOf board work)) → s ≡ status.Work
-    go true e = let z : _≡_ {A = ℕ} 0 1 = cc in absurd (omega arith)
-    go false e = cc
-
 -- each entry of the log is proper
 pub log-proper-of : {N L : ℕ} {board : List ℕ} {g : Reference} → Off N L board g → (i : ℕ) → i < controlIn board .length
-    → properAt board (logOn L board) N i ≡ true
-log-proper-of {L = L} {board = board} off i h =
+    → properAt (logIn board (logOn L board)) N i ≡ true
+log-proper-of {N = N} {L = L} {board = board} off i h =
     let numbers : logOn L board ≡ undoWith (off .control) L = ap (λ (c : Control). undoWith c L) (off .reads .control) in
-    rw numbers (reads-proper (undoWith (off .control) L) (off .reads) refl mostAhead (off .safe .proper) i (rw (off .reads .control) at h))
+    subst (λ (u : LogState). properAt (logIn board u) N i ≡ true) (sym numbers)
+    (reads-proper (undoWith (off .control) L) (off .reads) refl mostAhead (off .safe .proper) i (rw (off .reads .control) at h))
 
 module _ {N L : ℕ} {board : List ℕ} {g : Reference} (off : Off N L board g) (lent : List ℕ) where
   -- the log's numbers that power-up reads
-  numbers : undoOf (viewOf board lent) registers.zero ≡ undoWith (off .control) L
+  numbers : undoOf (viewOf board lent) registers.allZero ≡ undoWith (off .control) L
   unfolding viewOf
   numbers =
       let entries = ap (λ (s : Shape). s .entries) (off .reads .sized .shape) in
@@ -97,30 +90,49 @@ module _ {N L : ℕ} {board : List ℕ} {g : Reference} (off : Off N L board g) 
   unfolding viewOf
   length-same = ap (λ (c : Control). c .length) (off .reads .control)
 
+  persisted-same : viewOf board lent .control .persisted ≡ off .control .persisted
+  unfolding viewOf
+  persisted-same = ap (λ (c : Control). c .persisted) (off .reads .control)
+
   -- every entry of the log is proper
-  all-proper : firstImproper board (undoOf (viewOf board lent) registers.zero) (viewOf board lent .shape .lines) ≡ viewOf board lent .control .length
+  all-proper : firstImproper (logIn board (undoOf (viewOf board lent) registers.allZero)) (viewOf board lent .shape .lines) ≡ viewOf board lent .control .length
   all-proper =
-      rw (numbers, lines, length-same)
+      ap (λ (u : LogState). firstImproper (logIn board u) (viewOf board lent .shape .lines)) numbers ∙ rw (lines, length-same)
       (reads-passes (undoWith (off .control) L) (off .reads) refl mostAhead (off .safe .proper))
 
-  pub wake-due : wakeVerdict board lent (viewOf board lent) ≡ due (wakeAt board lent (undoWith (off .control) L))
-  unfolding wakeVerdict
-  wake-due = rw (all-proper, le-ltb (viewOf board lent .control .length) (viewOf board lent .control .length) (omega arith), numbers)
+  abbrev stores : List Store
+  stores = recoverStores board (undoWith (off .control) L)
 
-  module _ (passed : Shaped board lent (viewOf board lent)) where
-    wake-up :
-        Up N L
-        (record {
-          board = applied board (recoverStores board (undoWith (off .control) L));
-          work = replicate (length lent) 0;
-          registers = registers.woken (off .control .persisted);
-        })
-        (wakes g)
-    wake-up =
-        let sets : WholeSets (viewOf board lent .slots) =
-        record { whole = passed .slots-whole; some = passed .slots-some; most = passed .slots-most } in
-        rw (passed .work-words)
-        (up-of (waking-ok off (viewOf board lent .slots) sets) (registers.woken (off .control .persisted)) refl refl
+  abbrev recovery : Outcome
+  recovery =
+      record { value = 0; registers = registers.restarted (off .control .persisted); work = replicate (length lent) 0; stores = stores }
+
+  recovers : powerUpOutcome board lent (viewOf board lent) ≡ recovery
+  unfolding powerUpOutcome
+  recovers = rw (numbers, persisted-same)
+
+  -- so it is refused as work or not at all
+  verdict-is : powerUpVerdict board lent ≡ cond (goodWork (length lent)) (due recovery) (refused status.Work 0)
+  unfolding powerUpVerdict powerUpChecked memoriesChecked
+  verdict-is = rw (shape-good (off .reads .sized) lent) (go (goodWork (length lent)))
+    where
+      v : View
+      v = viewOf board lent
+
+      go : (t : Bool) → judged (then (cond (not t) (Refused status.Work 0) (Passed v)) (λ w. entryRows board w)) (powerUpOutcome board lent)
+          ≡ cond t (due recovery) (refused status.Work 0)
+      go true = rw (all-proper, le-ltb (v .control .length) (v .control .length) (omega arith), recovers)
+      go false = refl
+
+  module _ (good : goodWork (length lent) ≡ true) where
+    shaped : Shaped board lent (viewOf board lent)
+    unfolding memoriesChecked
+    shaped = memories-shaped board lent (viewOf board lent) (sym (rw (shape-good (off .reads .sized) lent, good)))
+
+    up-again : Up N L (record { board = applied board stores; work = replicate (length lent) 0; registers = recovery .registers }) (restarts g)
+    up-again =
+        rw (shaped .work-words)
+        (up-of (restart-ok off (viewOf board lent .slots) (shaped .sets)) (registers.restarted (off .control .persisted)) refl refl
         refl (omega arith) (sym (dirty-none (viewOf board lent .slots))))
 
 pub record PoweredUp (N L : ℕ) (g : Reference) (lent : List ℕ) (k : ℕ) (x : Result) : Type 0 where
@@ -128,110 +140,85 @@ pub record PoweredUp (N L : ℕ) (g : Reference) (lent : List ℕ) (k : ℕ) (x 
   pub cut : x .status ≡ status.Cut → NoneDirty (x .left)
 
 module _ {N L : ℕ} {m : Machine} {g : Reference} (h : Holds N L m g) (lent : List ℕ) (allowance : ℕ) where
-  off : Off N L (m .board) g
+  abbrev off : Off N L (m .board) g
   off = holds-off h
 
-  refused-kept : (s : Status) → s ≡ status.Work
-      → PoweredUp N L g lent allowance (answered allowance registers.zero (m .board) lent (refused s 0))
+  abbrev ss : List Store
+  ss = stores off lent
+
+  abbrev answering : Verdict → Result
+  answering v = answered allowance registers.allZero (m .board) lent v
+
+  refused-kept : goodWork (length lent) ≡ false → PoweredUp N L g lent allowance (answering (refused status.Work 0))
   unfolding answerOf boardAfter workAfter
-  refused-kept s e =
-      rw e
-      (record {
-        holds = is-down (record { off = off; registers = refl; ended = holds-ended h });
+  refused-kept bad =
+      record {
+        holds =
+            is-down
+            (record { off = off; registers = refl; emptied = λ good. absurd (false≢true (sym bad ∙ good)); ended = holds-ended h });
         cut = λ same. let z : _≡_ {A = ℕ} 0 1 = cc in absurd (differ z);
-      })
+      }
 
-  due-kept : Shaped (m .board) lent (viewOf (m .board) lent)
-      → PoweredUp N L g lent allowance (answered allowance registers.zero (m .board) lent (due (wakeAt (m .board) lent (undoWith (off .control) L))))
-  unfolding answerOf boardAfter workAfter wakeAt
-  due-kept passed = go (leb (length ss) allowance) refl
+  due-kept : goodWork (length lent) ≡ true → PoweredUp N L g lent allowance (answering (due (recovery off lent)))
+  unfolding answerOf boardAfter workAfter
+  due-kept good = go (leb (length ss) allowance) refl
     where
-      ss : List Store
-      ss = recoverStores (m .board) (undoWith (off .control) L)
-
-      go : (t : Bool) → leb (length ss) allowance ≡ t
-          → PoweredUp N L g lent allowance (answered allowance registers.zero (m .board) lent (due (wakeAt (m .board) lent (undoWith (off .control) L))))
+      go : (t : Bool) → leb (length ss) allowance ≡ t → PoweredUp N L g lent allowance (answering (due (recovery off lent)))
       go true e =
           record {
-            holds = rw (e, take-all allowance ss (leb-true _ _ e)) (is-up (wake-up off lent passed));
+            holds = rw (e, take-all allowance ss (leb-true _ _ e)) (is-up (up-again off lent good));
             cut = rw e (λ same. absurd (not-cut-ok same));
           }
       go false e =
           record {
-            holds = rw e (is-down (record { off = waking-along off allowance (leb-false _ _ e); registers = refl; ended = holds-ended h }));
+            holds =
+                rw e
+                (is-down
+                (record {
+                  off = recovery-along off allowance (leb-false _ _ e);
+                  registers = refl;
+                  emptied = emptied-zeros (length lent);
+                  ended = holds-ended h;
+                }));
             cut = rw e (λ same. (refl, cut-none (length lent)));
           }
 
   pub power-up-kept : PoweredUp N L g lent allowance (made m (powerUp lent allowance))
-  unfolding made powerUpVerdict
-  power-up-kept = go (memoriesChecked (m .board) lent) refl
+  unfolding made
+  power-up-kept = rw (verdict-is off lent) (go (goodWork (length lent)) refl)
     where
-      go : (x : Checked) → memoriesChecked (m .board) lent ≡ x
-          → PoweredUp N L g lent allowance (answered allowance registers.zero (m .board) lent (wakeJudged (m .board) lent x))
-      go (Refused s) e = refused-kept s (memories-work (off .reads .sized) lent s (sym e))
-      go (Passed v) e =
-          let shaped = memories-shaped (m .board) lent v (sym e) in
-          rw (shaped .is, wake-due off lent) (due-kept (rw (shaped .is) at shaped))
+      go : (t : Bool) → goodWork (length lent) ≡ t
+          → PoweredUp N L g lent allowance (answering (cond t (due (recovery off lent)) (refused status.Work 0)))
+      go true e = due-kept e
+      go false e = refused-kept e
 
--- ---- what an accepted power-up leaves
+  -- ---- what an accepted power-up leaves
 
-module _ {N L : ℕ} {board : List ℕ} {g : Reference} (off : Off N L board g) (lent : List ℕ) where
-  abbrev ss : List Store
-  ss = recoverStores board (undoWith (off .control) L)
+  recovered-lines : (a : ℕ) → getD (applied (m .board) ss) (linesAt L + a) 0 ≡ g .copies (g .persisted) a
+  recovered-lines a = ap (λ (d : Durable). d .memory a) (recovery-reads off .durable) ∙ power-up-lines (off .safe) a
 
-  woken-lines : (a : ℕ) → getD (applied board ss) (linesAt L + a) 0 ≡ g .copies (g .persisted) a
-  woken-lines a = ap (λ (d : Durable). d .memory a) (waking-reads off .durable) ∙ power-up-lines (off .safe) a
-
-  -- ok: the stores were all made; otherwise cut
-  wake-lines : (allowance : ℕ) → answered allowance registers.zero board lent (wakeVerdict board lent (viewOf board lent)) .status ≡ status.Ok → (a : ℕ)
-      → getD (answered allowance registers.zero board lent (wakeVerdict board lent (viewOf board lent)) .left .board) (linesAt L + a) 0
-      ≡ g .copies (g .persisted) a
-  unfolding answerOf boardAfter wakeAt
-  wake-lines allowance = rw (wake-due off lent) (go (leb (length ss) allowance) refl)
-    where
-      go : (t : Bool) → leb (length ss) allowance ≡ t
-          → cond t (success (wakeAt board lent (undoWith (off .control) L))) (cutOff allowance) .status ≡ status.Ok → (a : ℕ)
-          → getD (applied board (take allowance ss)) (linesAt L + a) 0 ≡ g .copies (g .persisted) a
-      go true e ok a = rw (take-all allowance ss (leb-true _ _ e)) (woken-lines a)
-      go false e ok a = let z : _≡_ {A = ℕ} 0 1 = cc in absurd (omega arith)
-
-  wake-status : (allowance : ℕ) (s : Status) → answered allowance registers.zero board lent (wakeVerdict board lent (viewOf board lent)) .status ≡ s
-      → (status.Ok ≡ s → ⊥) → (status.Cut ≡ s → ⊥) → ⊥
-  unfolding answerOf wakeAt
-  wake-status allowance s = rw (wake-due off lent) (go (leb (length ss) allowance))
-    where
-      go : (t : Bool) → cond t (success (wakeAt board lent (undoWith (off .control) L))) (cutOff allowance) .status ≡ s → (status.Ok ≡ s → ⊥)
-          → (status.Cut ≡ s → ⊥) → ⊥
-      go true e p q = p e
-      go false e p q = q e
-
-module _ {N L : ℕ} {m : Machine} {g : Reference} (h : Holds N L m g) (lent : List ℕ) (allowance : ℕ) where
-  abbrev o : Off N L (m .board) g
-  o = holds-off h
-
+  -- ok: the stores were all made
   pub power-up-lines-of : made m (powerUp lent allowance) .status ≡ status.Ok → (a : ℕ)
       → getD (made m (powerUp lent allowance) .left .board) (linesAt L + a) 0 ≡ g .copies (g .persisted) a
-  unfolding made powerUpVerdict answerOf boardAfter
-  power-up-lines-of = go (memoriesChecked (m .board) lent) refl
+  unfolding made answerOf boardAfter
+  power-up-lines-of = rw (verdict-is off lent) (go (goodWork (length lent)) (leb (length ss) allowance) refl)
     where
-      go : (x : Checked) → memoriesChecked (m .board) lent ≡ x
-          → answered allowance registers.zero (m .board) lent (wakeJudged (m .board) lent x) .status ≡ status.Ok → (a : ℕ)
-          → getD (answered allowance registers.zero (m .board) lent (wakeJudged (m .board) lent x) .left .board) (linesAt L + a) 0 ≡ g .copies (g .persisted) a
-      go (Refused s) e =
-          λ ok a.
-          let w = memories-work (o .reads .sized) lent s (sym e) in
-          let z : _≡_ {A = ℕ} 0 1 = cc in absurd (omega arith)
-      go (Passed v) e = rw (memories-shaped (m .board) lent v (sym e) .is) (wake-lines o lent allowance)
+      go : (t u : Bool) → leb (length ss) allowance ≡ u
+          → answering (cond t (due (recovery off lent)) (refused status.Work 0)) .status ≡ status.Ok → (a : ℕ)
+          → getD (answering (cond t (due (recovery off lent)) (refused status.Work 0)) .left .board) (linesAt L + a) 0 ≡ g .copies (g .persisted) a
+      go true true e = λ ok a. rw (take-all allowance ss (leb-true _ _ e)) (recovered-lines a)
+      go true false e = rw e (λ ok a. let z : _≡_ {A = ℕ} 0 1 = cc in absurd (omega arith))
+      go false u e = λ ok a. let z : _≡_ {A = ℕ} 0 1 = cc in absurd (omega arith)
 
   not-refused : (s : Status) → (status.Work ≡ s → ⊥) → (status.Ok ≡ s → ⊥) → (status.Cut ≡ s → ⊥)
       → made m (powerUp lent allowance) .status ≡ s → ⊥
-  unfolding made powerUpVerdict answerOf
-  not-refused s work ok cut = go (memoriesChecked (m .board) lent) refl
+  unfolding made answerOf
+  not-refused s work ok cut = rw (verdict-is off lent) (go (goodWork (length lent)) (leb (length ss) allowance) refl)
     where
-      go : (x : Checked) → memoriesChecked (m .board) lent ≡ x
-          → answered allowance registers.zero (m .board) lent (wakeJudged (m .board) lent x) .status ≡ s → ⊥
-      go (Refused t) e = λ p. work (sym (memories-work (o .reads .sized) lent t (sym e)) ∙ p)
-      go (Passed v) e = rw (memories-shaped (m .board) lent v (sym e) .is) (λ p. wake-status o lent allowance s p ok cut)
+      go : (t u : Bool) → leb (length ss) allowance ≡ u → answering (cond t (due (recovery off lent)) (refused status.Work 0)) .status ≡ s → ⊥
+      go true true e = rw e ok
+      go true false e = rw e cut
+      go false u e = work
 
   pub power-up-shape : made m (powerUp lent allowance) .status ≡ status.Shape → ⊥
   power-up-shape = not-refused status.Shape (λ e. differ cc) (λ e. differ cc) (λ e. differ cc)
@@ -242,9 +229,8 @@ module _ {N L : ℕ} {m : Machine} {g : Reference} (h : Holds N L m g) (lent : L
   -- a proper work memory and an allowance of length + 1 are enough
   pub power-up-ok : goodWork (length lent) ≡ true → controlIn (m .board) .length + 1 ≤ allowance
       → made m (powerUp lent allowance) .status ≡ status.Ok
-  unfolding made powerUpVerdict memoriesChecked answerOf wakeAt
+  unfolding made answerOf
   power-up-ok work enough =
-      let u = undoWith (o .control) L in
-      let most : length (recoverStores (m .board) u) ≤ allowance =
-      omega (arith, recover-most (m .board) u, ap (λ (c : Control). c .length) (o .reads .control)) in
-      rw (shape-good (o .reads .sized) lent, work, wake-due o lent, le-leb (length (recoverStores (m .board) u)) allowance most)
+      let most : length ss ≤ allowance =
+      omega (arith, recover-most (m .board) (undoWith (off .control) L), ap (λ (c : Control). c .length) (off .reads .control)) in
+      rw (verdict-is off lent, work, le-leb (length ss) allowance most)

@@ -1,4 +1,4 @@
--- A controller that is awake passes its tests: only what a call asks for can be refused.
+-- A controller that runs passes its tests: only what a call asks for can be refused.
 use Prim.Native.Nat.{ℕ, _+_, _-_, _%_, _<_}
 use mathlib.Core.Path.{_≡_, refl, sym, ap, _∙_}
 use mathlib.Core.Bool.{Bool, true, false, not, cond, _&&_, _||_, or-true}
@@ -12,16 +12,16 @@ use Rattle.base.specs.Every.{Every}
 use Rattle.base.specs.Several.{allOf, anyOf}
 use Rattle.base.specs.Tests.{and-right, and-true}
 use Rattle.layout.specs.Limits.{lastEpoch, ways, mostSlots, bufferPlaces, mostAhead}
-use Rattle.layout.specs.Memory.{bufferIn, slotsOf, workWords, controlIn, shapeIn}
+use Rattle.layout.specs.Memory.{filterWords, bufferIn, slotsOf, workWords, controlIn, shapeIn}
 use Rattle.status.specs.declared.Status.{Status}
 use Rattle.status.specs.declared.Status.the-variants as status
-use Rattle.undo.specs.Filter.{bitsSet}
+use Rattle.undo.specs.Filter.{onesOf}
 use Rattle.slots.specs.Sets.{placesOf, properSet, spotOf}
 use Rattle.slots.specs.Slots.{dirtyAt, undoDue}
 use Rattle.checks.specs.declared.Checked.the-variants.{Refused, Passed}
 use Rattle.checks.specs.declared.Registers.{Registers}
 use Rattle.checks.specs.declared.View.{View}
-use Rattle.checks.specs.Refusals.{Row, then, roomRows, memoriesChecked, runningChecked, lineChecked, storeChecked, commitChecked, beginChecked, scanChecked}
+use Rattle.checks.specs.Refusals.{Row, then, lineRows, roomRows, memoriesChecked, runningChecked, readyChecked, namedChecked, lineChecked, storeChecked, commitChecked, beginChecked, scanChecked}
 use Rattle.checks.specs.Registers.{committed, begun}
 use Rattle.checks.specs.View.{viewOf, boundsOf, goodShape, goodSlots, goodWork, properEpoch, properCounts, properPass, properRegisters, waits, miscounted, goodBuffer, goodFilter}
 use Rattle.reference.specs.Machine.{Reference}
@@ -34,10 +34,11 @@ use Rattle.picl.specs.Answers as picl
 use Rattle.board.specs.Verdict.{refused, due}
 use Rattle.picl.specs.Answers.{success, cutOff, answerOf}
 use Rattle.picl.specs.Calls as calls
-use Rattle.picl.specs.Calls.{Call, unstored, tallyVerdict, filterBitsVerdict, judged, loadOutcome, loadVerdict, storeOutcome, storeVerdict, evictOutcome, evictVerdict, commitOutcome, commitVerdict}
-use Rattle.picl.specs.Calls.{beginOutcome, beginVerdict, scanOutcome, scanVerdict}
+use Rattle.picl.specs.Calls.{verdictOf, Call, unstored, filterBitsVerdict, judged, loadOutcome, storeOutcome, evictOutcome}
+use Rattle.picl.specs.Calls.{scanOutcome}
 use Rattle.refine.specs.Pass.{Runs, outside, inside}
-use Rattle.crash.specs.Statement.{call, Machine, Both, made, persistedOn, Awake, answersTo, Among}
+use Rattle.crash.specs.Statement.{call, Machine, Both, made, persistedOn}
+use Rattle.crash.specs.Beyond.{Running, answersTo, Among}
 use Rattle.crash.specs.State.{sweepOf, Up, Holds, is-up, is-down}
 use Rattle.crash.specs.Power.{shape-good}
 
@@ -88,7 +89,7 @@ module _ {N L : ℕ} {m : Machine} {g : Reference} (up : Up N L m g) where
   shaped = shape-good (up .ok .reads .sized) (m .work)
 
   -- 2
-  worked : goodWork (length (m .work)) ≡ true
+  pub worked : goodWork (length (m .work)) ≡ true
   unfolding goodWork goodSlots viewOf
   worked =
       let s = up .ok .slotted in
@@ -187,12 +188,21 @@ module _ {N L : ℕ} {m : Machine} {g : Reference} (up : Up N L m g) where
 
   -- ---- the answers
 
+  -- of the tests of a line, only that of the address can fail
+  line-checked : (a : ℕ) → lineChecked (m .board) (m .work) r a ≡ cond (leb (v .shape .lines) a) (Refused status.Address 0) (Passed v)
+  unfolding lineChecked namedChecked runningChecked memoriesChecked
+  line-checked a = rw (shaped, worked, proper) (go (leb (v .shape .lines) a))
+    where
+      go : (t : Bool) → then (cond t (Refused status.Address 0) (Passed v)) (λ w. lineRows w (m .work) r a)
+          ≡ cond t (Refused status.Address 0) (Passed v)
+      go true = refl
+      go false = rw (line-proper a, line-counted a, buffered, filtered)
+
   line-answered : (a k : ℕ) (f : View → picl.Outcome)
       → Among (answersTo (calls.load a)) (answerOf k r (judged (lineChecked (m .board) (m .work) r a) f) .status)
-  unfolding lineChecked runningChecked memoriesChecked
-  line-answered a k f = rw (shaped, worked, proper, line-proper a, line-counted a, buffered, filtered) (go (leb (v .shape .lines) a))
+  line-answered a k f = rw (line-checked a) (go (leb (v .shape .lines) a))
     where
-      go : (t : Bool) → Among (answersTo (calls.load a)) (answerOf k r (judged (cond t (Refused status.Address) (Passed v)) f) .status)
+      go : (t : Bool) → Among (answersTo (calls.load a)) (answerOf k r (judged (cond t (Refused status.Address 0) (Passed v)) f) .status)
       go true = inr (inl (refusal-answered k r status.Address))
       go false = due-answered k r (f v) (status.Address ∷ [])
 
@@ -204,43 +214,42 @@ module _ {N L : ℕ} {m : Machine} {g : Reference} (up : Up N L m g) where
 
   store-answered : (a value k : ℕ) (f : View → picl.Outcome)
       → Among (answersTo (calls.store a value)) (answerOf k r (judged (storeChecked (m .board) (m .work) r a) f) .status)
-  unfolding storeChecked lineChecked runningChecked memoriesChecked
-  store-answered a value k f =
-      rw (shaped, worked, proper, line-proper a, line-counted a, buffered, filtered) (go (leb (v .shape .lines) a) (crowded a) refl)
+  unfolding storeChecked
+  store-answered a value k f = rw (line-checked a) (go (leb (v .shape .lines) a) (crowded a) refl)
     where
       go : (t c : Bool) → crowded a ≡ c
-          → Among (answersTo (calls.store a value)) (answerOf k r (judged (then (cond t (Refused status.Address) (Passed v)) (roomFor a)) f) .status)
+          → Among (answersTo (calls.store a value)) (answerOf k r (judged (then (cond t (Refused status.Address 0) (Passed v)) (roomFor a)) f) .status)
       go true c e = inr (inl (refusal-answered k r status.Address))
       go false true e = rw e (inr (inr (inl (refusal-answered k r status.Room))))
       go false false e = rw e (due-answered k r (f v) (status.Address ∷ status.Room ∷ []))
 
-  commit-answered : (k : ℕ) → Among (answersTo calls.commit) (answerOf k r (commitVerdict (m .board) (m .work) r) .status)
-  unfolding commitVerdict commitChecked runningChecked memoriesChecked commitOutcome
+  commit-answered : (k : ℕ) → Among (answersTo calls.commit) (answerOf k r (verdictOf (m .board) (m .work) r calls.commit) .status)
+  unfolding commitChecked readyChecked runningChecked memoriesChecked
   commit-answered k =
       rw (shaped, worked, proper, buffered, filtered) (go (eqb (r .epoch - v .control .persisted) mostAhead) (eqb (r .epoch) lastEpoch))
     where
       go : (t c : Bool)
           → Among (answersTo calls.commit)
-          (answerOf k r (judged (cond t (Refused status.Waiting) (cond c (Refused status.Last) (Passed v))) (λ w. commitOutcome (m .work) r)) .status)
+          (answerOf k r (judged (cond t (Refused status.Waiting 0) (cond c (Refused status.Last 0) (Passed v))) (λ w. unstored 0 (committed r) (m .work))) .status)
       go true c = inr (inl (refusal-answered k r status.Waiting))
       go false true = inr (inr (inl (refusal-answered k r status.Last)))
       go false false = inl (unstored-answered k r 0 (committed r) (m .work))
 
-  begin-answered : (target k : ℕ) → Among (answersTo (calls.begin target)) (answerOf k r (beginVerdict (m .board) (m .work) r target) .status)
-  unfolding beginVerdict beginChecked runningChecked memoriesChecked beginOutcome
+  begin-answered : (target k : ℕ) → Among (answersTo (calls.begin target)) (answerOf k r (verdictOf (m .board) (m .work) r (calls.begin target)) .status)
+  unfolding beginChecked readyChecked runningChecked memoriesChecked
   begin-answered target k =
       rw (shaped, worked, proper, buffered, filtered) (go (not (eqb (r .target) 0) || not (waits v r target)))
     where
       go : (t : Bool)
           → Among (answersTo (calls.begin target))
-          (answerOf k r (judged (cond t (Refused status.Target) (Passed v)) (λ w. beginOutcome (m .work) r target)) .status)
+          (answerOf k r (judged (cond t (Refused status.Target 0) (Passed v)) (λ w. unstored 0 (begun r target) (m .work))) .status)
       go true = inr (inl (refusal-answered k r status.Target))
       go false = inl (unstored-answered k r 0 (begun r target) (m .work))
 
   -- outside a pass, with a target that waits
   begin-passed : (target k : ℕ) → r .target ≡ 0 → waits v r target ≡ true
-      → answerOf k r (beginVerdict (m .board) (m .work) r target) .status ≡ status.Ok
-  unfolding beginVerdict beginChecked runningChecked memoriesChecked beginOutcome
+      → answerOf k r (verdictOf (m .board) (m .work) r (calls.begin target)) .status ≡ status.Ok
+  unfolding beginChecked readyChecked runningChecked memoriesChecked
   begin-passed target k none waiting =
       rw (shaped, worked, proper, buffered, filtered, eq-eqb (r .target) 0 none, waiting) (unstored-answered k r 0 (begun r target) (m .work))
 
@@ -251,18 +260,18 @@ module _ {N L : ℕ} {m : Machine} {g : Reference} (up : Up N L m g) where
       rw (shaped, worked, proper, visited-proper atCursor within-cursor, visited-counted atCursor within-cursor, buffered, filtered)
       (go (eqb (r .epoch) (v .control .persisted + 1)))
     where
-      go : (t : Bool) → Among (answersTo calls.scan) (answerOf k r (judged (cond t (Refused status.None) (Passed v)) f) .status)
+      go : (t : Bool) → Among (answersTo calls.scan) (answerOf k r (judged (cond t (Refused status.None 0) (Passed v)) f) .status)
       go true = inr (inl (refusal-answered k r status.None))
       go false = due-answered k r (f v) (status.None ∷ [])
 
   -- "8 room" says that the log is full
   store-full : (a k : ℕ) (f : View → picl.Outcome) → answerOf k r (judged (storeChecked (m .board) (m .work) r a) f) .status ≡ status.Room
       → v .control .length + r .buffered ≡ L
-  unfolding storeChecked lineChecked runningChecked memoriesChecked
-  store-full a k f = rw (shaped, worked, proper, line-proper a, line-counted a, buffered, filtered) (go (leb (v .shape .lines) a) (crowded a) refl)
+  unfolding storeChecked
+  store-full a k f = rw (line-checked a) (go (leb (v .shape .lines) a) (crowded a) refl)
     where
       go : (t c : Bool) → crowded a ≡ c
-          → answerOf k r (judged (then (cond t (Refused status.Address) (Passed v)) (roomFor a)) f) .status ≡ status.Room
+          → answerOf k r (judged (then (cond t (Refused status.Address 0) (Passed v)) (roomFor a)) f) .status ≡ status.Room
           → v .control .length + r .buffered ≡ L
       go t true e =
           let due = undoDue (m .work) (spotOf (m .work) (v .slots) a) (r .epoch) in
@@ -273,16 +282,16 @@ module _ {N L : ℕ} {m : Machine} {g : Reference} (up : Up N L m g) where
       go true false e = λ same. absurd (refusal-not-room k r same)
       go false false e = rw e (λ same. absurd (due-not-room k r (f v) same))
 
-  tally-answered : (k : ℕ) → answerOf k r (tallyVerdict (m .board) (m .work) r) .status ≡ status.Ok
-  unfolding tallyVerdict runningChecked memoriesChecked
+  tally-answered : (k : ℕ) → answerOf k r (verdictOf (m .board) (m .work) r calls.tally) .status ≡ status.Ok
+  unfolding runningChecked memoriesChecked
   tally-answered k = rw (shaped, worked, proper) (unstored-answered k r (r .dirty) r (m .work))
 
   filter-bits-answered : (k : ℕ) → answerOf k r (filterBitsVerdict (m .work) r) .status ≡ status.Ok
   unfolding filterBitsVerdict
-  filter-bits-answered k = rw worked (unstored-answered k r (bitsSet (bufferIn (m .work))) r (m .work))
+  filter-bits-answered k = rw worked (unstored-answered k r (onesOf (bufferIn (m .work)) filterWords) r (m .work))
 
   pub call-answered : (c : Call) (k : ℕ) → Among (answersTo c) (made m (call c k) .status)
-  unfolding made loadVerdict storeVerdict evictVerdict scanVerdict
+  unfolding made
   call-answered (calls.load a) k = line-answered a k (loadOutcome (m .board) (m .work) r a)
   call-answered (calls.store a w) k = store-answered a w k (storeOutcome (m .board) (m .work) r a w)
   call-answered (calls.evict a) k = line-answered a k (evictOutcome (m .work) r a)
@@ -304,10 +313,10 @@ module _ {N L : ℕ} {m : Machine} {g : Reference} (up : Up N L m g) where
 
   pub room-full : (a w k : ℕ) → made m (call (calls.store a w) k) .status ≡ status.Room
       → controlIn (m .board) .length + m .registers .buffered ≡ L
-  unfolding made storeVerdict viewOf
+  unfolding made viewOf
   room-full a w k = store-full a k (storeOutcome (m .board) (m .work) r a w)
 
 -- not with the current off
-pub awake-up : {N L : ℕ} (s : Both) → Holds N L (s .machine) (s .reference) → Awake s → Up N L (s .machine) (s .reference)
-awake-up s (is-up u) awake = u
-awake-up s (is-down d) awake = absurd (awake (ap (λ (x : Registers). x .epoch) (d .registers)))
+pub running-up : {N L : ℕ} (s : Both) → Holds N L (s .machine) (s .reference) → Running s → Up N L (s .machine) (s .reference)
+running-up s (is-up u) runs = u
+running-up s (is-down d) runs = absurd (runs (ap (λ (x : Registers). x .epoch) (d .registers)))

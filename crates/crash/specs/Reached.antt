@@ -37,6 +37,11 @@ onward-then ahead (farther p c a) (done b) = done (omega arith)
 onward-then ahead (done a) (farther q d b) = done (omega arith)
 onward-then ahead (done a) (done b) = done (omega arith)
 
+-- so the persisted epoch never falls
+pub onward-rises : {n : ℕ} {x y : Reached} → x .persisted < x .aim → Onward n x y → x .persisted ≤ y .persisted
+onward-rises ahead (farther p c a) = omega arith
+onward-rises ahead (done a) = omega arith
+
 -- the cursor has no place for S + 1 of them
 pub onward-done : {n : ℕ} {x y : Reached} (slots : ℕ) → y .cursor ≤ slots → slots + 1 ≤ n → Onward n x y → x .aim ≤ y .persisted
 onward-done slots within many (farther p c a) = absurd (omega arith)

@@ -1,18 +1,23 @@
--- Every list of calls keeps the invariant, from any board that rests.
-use Prim.Native.Nat.{ℕ}
-use mathlib.Core.Path.{_≡_, refl, sym, subst}
-use mathlib.Core.List.{List, [], _∷_}
+-- Every list of calls that starts with a power-up has the invariant, from any board that recovers.
+use Prim.Native.Nat.{ℕ, _<_}
+use mathlib.Core.Path.{refl, sym, subst}
+use mathlib.Core.List.{List, []}
 use native.Mathlib.Omega.{arith}
 use Rattle.layout.specs.Limits.{mostAhead}
 use Rattle.layout.specs.Memory.{controlIn}
-use Rattle.checks.specs.declared.Registers.{Registers}
-use Rattle.reference.specs.Machine.{Event}
-use Rattle.reference.specs.Work.{doesAll}
+use Rattle.checks.specs.Laws.{board-opened}
+use Rattle.checks.specs.Registers.{allZero}
+use Rattle.checks.specs.View.{viewOf}
+use Rattle.reference.specs.Machine.{Reference, resting}
+use Rattle.reference.specs.Runs as runs
+use Rattle.reference.specs.Runs.{run-keeps}
 use Rattle.history.specs.Machine.{recall}
 use Rattle.history.specs.Invariant.{Safe}
 use Rattle.base.specs.Listed.{listed}
-use Rattle.durable.specs.View.{durableOf}
-use Rattle.crash.specs.Statement.{Step, call, powerUp, exportRecord, made, fed, Both, after, run, Rests, start}
+use Rattle.durable.specs.View.{Sized, durableOf}
+use Rattle.refine.specs.State.{Off}
+use Rattle.crash.specs.Statement.{Step, call, powerUp, exportRecord, made, undoBoards, Both, after, run, start, AfterEveryList, persistedOn, lineOn}
+use Rattle.crash.specs.Beyond.{Rests}
 use Rattle.crash.specs.State.{Holds, is-down}
 use Rattle.crash.specs.Steps.{call-kept}
 use Rattle.crash.specs.Power.{power-up-kept}
@@ -25,59 +30,41 @@ after-holds {N} {L} s h (exportRecord text number) = subst (λ (t : Both). Holds
 
 pub run-holds : {N L : ℕ} (s : Both) → Holds N L (s .machine) (s .reference) → (xs : List Step)
     → Holds N L (run s xs .machine) (run s xs .reference)
-unfolding run
-run-holds s h [] = h
-run-holds s h (x ∷ xs) = run-holds (after s x) (after-holds s h x) xs
+run-holds {N} {L} = run-keeps undoBoards (λ (s : Both). Holds N L (s .machine) (s .reference)) after-holds
 
--- ---- the start
+-- ---- a board that rests
 
 module _ {N L : ℕ} {board : List ℕ} (r : Rests N L board) where
-  resting-safe : Safe N mostAhead (durableOf L board) (start L board .reference)
+  rests-sized : Sized N L board
+  unfolding viewOf
+  rests-sized =
+      let o = rw (r .shape) at (board-opened board (viewOf board []) (sym (r .passes))) in
+      record {
+        sizes = o .good .sizes;
+        words = o .good .board-words;
+        shape = r .shape;
+        control = o .good .control;
+      }
+
+  resting-safe : Safe N mostAhead (durableOf L board) (resting (persistedOn board) (lineOn L board))
   unfolding listed recall
   resting-safe = rw (r .empty) (record { named = refl; proper = tt; recovers = λ a. refl })
 
-  pub start-holds : Holds N L (start L board .machine) (start L board .reference)
-  start-holds =
-      is-down
-      (record {
-        off =
-            record {
-              control = controlIn board;
-              durable = durableOf L board;
-              reads =
-                  record {
-                    sized =
-                        record {
-                          some-lines = r .some-lines;
-                          most-lines = r .most-lines;
-                          some-entries = r .some-entries;
-                          most-entries = r .most-entries;
-                          words = r .words;
-                          shape = r .shape;
-                          control = record { start = r .begin; length = omega (arith, r .empty); persisted = r .persisted };
-                        };
-                    control = refl;
-                    durable = refl;
-                  };
-              safe = resting-safe;
-            };
-        registers = refl;
-        ended = omega arith;
-      })
+  pub rests-off : Off N L board (resting (persistedOn board) (lineOn L board))
+  rests-off =
+      record {
+        control = controlIn board;
+        durable = durableOf L board;
+        reads = record { sized = rests-sized; control = refl; durable = refl };
+        safe = resting-safe;
+      }
 
--- what work memory and registers were before the first power-up does not matter
-pub start-any : (board work : List ℕ) (r : Registers) (lent : List ℕ) (L k : ℕ)
-    → made (record { board = board; work = work; registers = r }) (powerUp lent k) ≡ made (start L board .machine) (powerUp lent k)
-unfolding made
-start-any board work r lent L k = refl
+-- ---- a list that starts with a power-up, which reads the board alone
 
--- ---- what the uncached machine was fed
-
-unfoldable pub feed : Both → List Step → List Event
-feed s [] = []
-feed s (x ∷ xs) = fed x (made (s .machine) x) ∷ feed (after s x) xs
-
-pub run-fed : (s : Both) (xs : List Step) → run s xs .reference ≡ doesAll (s .reference) (feed s xs)
-unfolding run feed doesAll
-run-fed s [] = refl
-run-fed s (x ∷ xs) = run-fed (after s x) xs
+pub list-holds : {N L : ℕ} {board : List ℕ} {g : Reference} → Off N L board g → g .persisted < g .running
+    → AfterEveryList board g (λ s. Holds N L (s .machine) (s .reference))
+unfolding runs.run made
+list-holds {board = board} {g} off ended work registers lent k xs =
+    let before : Both = start board [] allZero g in
+    let down = is-down (record { off = off; registers = refl; emptied = λ good. refl; ended = ended }) in
+    run-holds (after before (powerUp lent k)) (after-holds before down (powerUp lent k)) xs

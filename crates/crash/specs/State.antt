@@ -1,10 +1,11 @@
--- The invariant of a run: a controller at work on its board, or a board with the current off and registers that every call but a
--- power-up refuses.
+-- The invariant of a run: a controller at work on its board, or a board with the current off and registers that every
+-- call but a power-up refuses.
 use Prim.Native.Nat.{ℕ, _<_}
 use mathlib.Core.Path.{_≡_, sym, ap, subst, _∙_}
+use mathlib.Core.Bool.{true}
 use mathlib.Core.List.{List}
 use native.Mathlib.Omega.{arith}
-use lib.ListN.{length}
+use lib.ListN.{length, replicate, length-replicate}
 use Rattle.layout.specs.declared.Shape.{Shape}
 use Rattle.layout.specs.declared.Control.{Control}
 use Rattle.layout.specs.Limits.{bufferPlaces}
@@ -13,8 +14,8 @@ use Rattle.undo.specs.declared.LogState.{LogState}
 use Rattle.slots.specs.declared.Bounds.{Bounds}
 use Rattle.slots.specs.Slots.{dirtySlots}
 use Rattle.checks.specs.declared.Registers.{Registers}
-use Rattle.checks.specs.Registers.{zero}
-use Rattle.checks.specs.View.{viewOf, boundsOf, undoOf}
+use Rattle.checks.specs.Registers.{allZero}
+use Rattle.checks.specs.View.{viewOf, goodWork, boundsOf, undoOf}
 use Rattle.reference.specs.Machine.{Reference}
 use Rattle.durable.specs.Reads.{reads-persisted}
 use Rattle.refine.specs.Pass.{Sweep}
@@ -35,9 +36,17 @@ pub record Up (N L : ℕ) (m : Machine) (g : Reference) : Type 0 where
   -- request 5/13
   pub counted : m .registers .dirty ≡ dirtyIn (m .work)
 
+-- a work memory with the current off: all zero, unless it is of a length that every call refuses
+abbrev pub Emptied : List ℕ → Type 0
+Emptied work = goodWork (length work) ≡ true → work ≡ replicate (length work) 0
+
+pub emptied-zeros : (words : ℕ) → Emptied (replicate words 0)
+emptied-zeros words good = rw (length-replicate {A = ℕ} words 0)
+
 pub record Down (N L : ℕ) (m : Machine) (g : Reference) : Type 0 where
   pub off : Off N L (m .board) g
-  pub registers : m .registers ≡ zero
+  pub registers : m .registers ≡ allZero
+  pub emptied : Emptied (m .work)
   pub ended : g .persisted < g .running
 
 pub data Holds (N L : ℕ) (m : Machine) (g : Reference) : Type 0 where

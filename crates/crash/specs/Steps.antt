@@ -7,8 +7,8 @@ use native.Mathlib.Omega.{arith}
 use lib.Dec.{leb}
 use lib.ListN.{length}
 use Rattle.board.specs.Stores.{applied}
-use Rattle.layout.specs.Memory.{bufferIn}
-use Rattle.undo.specs.Filter.{bitsSet}
+use Rattle.layout.specs.Memory.{filterWords, bufferIn}
+use Rattle.undo.specs.Filter.{onesOf}
 use Rattle.board.specs.Verdict.{refused, due}
 use Rattle.status.specs.declared.Status.the-variants as status
 use Rattle.slots.specs.Sets.{spotOf}
@@ -17,15 +17,15 @@ use Rattle.checks.specs.declared.Checked.the-variants.{Refused, Passed}
 use Rattle.checks.specs.declared.Registers.{Registers}
 use Rattle.checks.specs.Laws.{running, line-running, line-named, store-line, store-room}
 use Rattle.checks.specs.Laws.{commit-running, commit-window, commit-early, begin-running, begin-outside, begin-waits, scan-running, scan-aims}
-use Rattle.checks.specs.Refusals.{boardRows, workRows, registerRows, lineRows, roomRows, bufferRows, epochRows, targetRows, cursorRows, waitingRows}
-use Rattle.checks.specs.Refusals.{memoriesChecked, runningChecked, lineChecked, storeChecked, commitChecked, beginChecked, scanChecked}
-use Rattle.checks.specs.Registers.{begun, scanTarget}
+use Rattle.checks.specs.Refusals.{boardRows, workRows, registerRows, bufferRows, addressRows, lineRows, roomRows, epochRows, targetRows, scanRows}
+use Rattle.checks.specs.Refusals.{memoriesChecked, runningChecked, readyChecked, namedChecked, lineChecked, storeChecked, commitChecked, beginChecked, scanChecked}
+use Rattle.checks.specs.Registers.{committed, begun, scanTarget}
 use Rattle.checks.specs.View.{viewOf, goodWork}
 use Rattle.picl.specs.Answers.{answerOf, success, cutOff}
 use Rattle.picl.specs.Calls as calls
-use Rattle.picl.specs.Calls.{Call, verdictOf, judged, unstored, tallyVerdict, filterBitsVerdict}
-use Rattle.picl.specs.Calls.{loadOutcome, loadVerdict, storeOutcome, storeVerdict, evictOutcome, evictVerdict, commitOutcome, commitVerdict}
-use Rattle.picl.specs.Calls.{beginOutcome, beginVerdict, scanOutcome, scanVerdict}
+use Rattle.picl.specs.Calls.{Call, verdictOf, judged, unstored, filterBitsVerdict}
+use Rattle.picl.specs.Calls.{loadOutcome, storeOutcome, evictOutcome}
+use Rattle.picl.specs.Calls.{scanOutcome}
 use Rattle.reference.specs.Machine.{Reference, nothing}
 use Rattle.refine.specs.Along.{along-none}
 use Rattle.crash.specs.Statement.{call, Machine, answered, made, seenCall, dirtyIn}
@@ -44,9 +44,16 @@ module _ (board work : List ℕ) (r : Registers) where
       (tested-refuses (boardRows (length board) (viewOf board work) ++ workRows (length work)) (viewOf board work) refl)
       (λ v. refl)
 
+  ready-refuses : Refuses (readyChecked board work r)
+  unfolding readyChecked
+  ready-refuses = then-refuses (runningChecked board work r) (λ v. bufferRows v work r) running-refuses (λ v. refl)
+
   line-refuses : (a : ℕ) → Refuses (lineChecked board work r a)
-  unfolding lineChecked
-  line-refuses a = then-refuses (runningChecked board work r) (λ v. lineRows v work r a ++ bufferRows v work r) running-refuses (λ v. refl)
+  unfolding lineChecked namedChecked
+  line-refuses a =
+      then-refuses (namedChecked board work r a) (λ v. lineRows v work r a)
+      (then-refuses (runningChecked board work r) (λ v. addressRows v a) running-refuses (λ v. refl))
+      (λ v. refl)
 
   store-refuses : (a : ℕ) → Refuses (storeChecked board work r a)
   unfolding storeChecked
@@ -54,17 +61,15 @@ module _ (board work : List ℕ) (r : Registers) where
 
   commit-refuses : Refuses (commitChecked board work r)
   unfolding commitChecked
-  commit-refuses = then-refuses (runningChecked board work r) (λ v. bufferRows v work r ++ epochRows v r) running-refuses (λ v. refl)
+  commit-refuses = then-refuses (readyChecked board work r) (λ v. epochRows v r) ready-refuses (λ v. refl)
 
   begin-refuses : (target : ℕ) → Refuses (beginChecked board work r target)
   unfolding beginChecked
-  begin-refuses target =
-      then-refuses (runningChecked board work r) (λ v. bufferRows v work r ++ targetRows v r target) running-refuses (λ v. refl)
+  begin-refuses target = then-refuses (readyChecked board work r) (λ v. targetRows v r target) ready-refuses (λ v. refl)
 
   scan-refuses : Refuses (scanChecked board work r)
   unfolding scanChecked
-  scan-refuses =
-      then-refuses (runningChecked board work r) (λ v. cursorRows v work r ++ bufferRows v work r ++ waitingRows v r) running-refuses (λ v. refl)
+  scan-refuses = then-refuses (runningChecked board work r) (λ v. scanRows v work r) running-refuses (λ v. refl)
 
 -- ---- each call
 
@@ -78,71 +83,65 @@ module _ {N L : ℕ} {m : Machine} {g : Reference} (h : Holds N L m g) where
   abbrev r : Registers
   r = m .registers
 
-  load-fares : (a : ℕ) → Fares N L m g (calls.load a) (loadVerdict board work r a)
-  unfolding loadVerdict
+  load-fares : (a : ℕ) → Fares N L m g (calls.load a) (verdictOf board work r (calls.load a))
   load-fares a = go (lineChecked board work r a) refl h
     where
       go : (x : Checked) → lineChecked board work r a ≡ x → Holds N L m g
           → Fares N L m g (calls.load a) (judged x (loadOutcome board work r a))
-      go (Refused s) e h = refuses s 0 (line-refuses board work r a s (sym e))
+      go (Refused s value) e h = refuses s value (line-refuses board work r a s value (sym e))
       go (Passed v) e (is-down d) = absurd (down-stays d v (line-running board work r a v (sym e)))
       go (Passed v) e (is-up u) =
           let same = line-running board work r a v (sym e) .shaped .is in
           rw same (load-goes u a (rw same at (line-named board work r a v (sym e))))
 
-  evict-fares : (a : ℕ) → Fares N L m g (calls.evict a) (evictVerdict board work r a)
-  unfolding evictVerdict
+  evict-fares : (a : ℕ) → Fares N L m g (calls.evict a) (verdictOf board work r (calls.evict a))
   evict-fares a = go (lineChecked board work r a) refl h
     where
       go : (x : Checked) → lineChecked board work r a ≡ x → Holds N L m g → Fares N L m g (calls.evict a) (judged x (evictOutcome work r a))
-      go (Refused s) e h = refuses s 0 (line-refuses board work r a s (sym e))
+      go (Refused s value) e h = refuses s value (line-refuses board work r a s value (sym e))
       go (Passed v) e (is-down d) = absurd (down-stays d v (line-running board work r a v (sym e)))
       go (Passed v) e (is-up u) =
           let same = line-running board work r a v (sym e) .shaped .is in
           rw same (evict-goes u a (rw same at (line-named board work r a v (sym e))))
 
-  store-fares : (a value : ℕ) → Fares N L m g (calls.store a value) (storeVerdict board work r a value)
-  unfolding storeVerdict
+  store-fares : (a value : ℕ) → Fares N L m g (calls.store a value) (verdictOf board work r (calls.store a value))
   store-fares a value = go (storeChecked board work r a) refl h
     where
       go : (x : Checked) → storeChecked board work r a ≡ x → Holds N L m g
           → Fares N L m g (calls.store a value) (judged x (storeOutcome board work r a value))
-      go (Refused s) e h = refuses s 0 (store-refuses board work r a s (sym e))
+      go (Refused s value) e h = refuses s value (store-refuses board work r a s value (sym e))
       go (Passed v) e (is-down d) = absurd (down-stays d v (line-running board work r a v (store-line board work r a v (sym e))))
       go (Passed v) e (is-up u) =
           let line = store-line board work r a v (sym e) in
           let same = line-running board work r a v line .shaped .is in
           rw same (store-goes u a (rw same at (line-named board work r a v line)) value (rw same at (store-room board work r a v (sym e))))
 
-  commit-fares : Fares N L m g calls.commit (commitVerdict board work r)
-  unfolding commitVerdict
+  commit-fares : Fares N L m g calls.commit (verdictOf board work r calls.commit)
   commit-fares = go (commitChecked board work r) refl h
     where
-      go : (x : Checked) → commitChecked board work r ≡ x → Holds N L m g → Fares N L m g calls.commit (judged x (λ v. commitOutcome work r))
-      go (Refused s) e h = refuses s 0 (commit-refuses board work r s (sym e))
+      go : (x : Checked) → commitChecked board work r ≡ x → Holds N L m g → Fares N L m g calls.commit (judged x (λ v. unstored 0 (committed r) work))
+      go (Refused s value) e h = refuses s value (commit-refuses board work r s value (sym e))
       go (Passed v) e (is-down d) = absurd (down-stays d v (commit-running board work r v (sym e)))
       go (Passed v) e (is-up u) =
           let same = commit-running board work r v (sym e) .shaped .is in
           commit-goes u (commit-early board work r v (sym e)) (rw same at (commit-window board work r v (sym e)))
 
-  begin-fares : (target : ℕ) → Fares N L m g (calls.begin target) (beginVerdict board work r target)
-  unfolding beginVerdict
+  begin-fares : (target : ℕ) → Fares N L m g (calls.begin target) (verdictOf board work r (calls.begin target))
   begin-fares target = go (beginChecked board work r target) refl h
     where
       go : (x : Checked) → beginChecked board work r target ≡ x → Holds N L m g
-          → Fares N L m g (calls.begin target) (judged x (λ v. beginOutcome work r target))
-      go (Refused s) e h = refuses s 0 (begin-refuses board work r target s (sym e))
+          → Fares N L m g (calls.begin target) (judged x (λ v. unstored 0 (begun r target) work))
+      go (Refused s value) e h = refuses s value (begin-refuses board work r target s value (sym e))
       go (Passed v) e (is-down d) = absurd (down-stays d v (begin-running board work r target v (sym e)))
       go (Passed v) e (is-up u) =
           let same = begin-running board work r target v (sym e) .shaped .is in
           begin-goes u target (begin-outside board work r target v (sym e)) (rw same at (begin-waits board work r target v (sym e)))
 
-  scan-fares : Fares N L m g calls.scan (scanVerdict board work r)
-  unfolding scanVerdict
+  scan-fares : Fares N L m g calls.scan (verdictOf board work r calls.scan)
   scan-fares = go (scanChecked board work r) refl h
     where
       go : (x : Checked) → scanChecked board work r ≡ x → Holds N L m g → Fares N L m g calls.scan (judged x (scanOutcome board work r))
-      go (Refused s) e h = refuses s 0 (scan-refuses board work r s (sym e))
+      go (Refused s value) e h = refuses s value (scan-refuses board work r s value (sym e))
       go (Passed v) e (is-down d) = absurd (down-stays d v (scan-running board work r v (sym e)))
       go (Passed v) e (is-up u) =
           let same = scan-running board work r v (sym e) .shaped .is in
@@ -153,20 +152,19 @@ module _ {N L : ℕ} {m : Machine} {g : Reference} (h : Holds N L m g) where
   unfolding applied
   asked-goes c value unseen = goes (unstored value r work) (along-none N L board g) (rw unseen h) refl (rw unseen (onward-none _))
 
-  tally-fares : Fares N L m g calls.tally (tallyVerdict board work r)
-  unfolding tallyVerdict
+  tally-fares : Fares N L m g calls.tally (verdictOf board work r calls.tally)
   tally-fares = go (runningChecked board work r) refl
     where
       go : (x : Checked) → runningChecked board work r ≡ x → Fares N L m g calls.tally (judged x (λ v. unstored (r .dirty) r work))
-      go (Refused s) e = refuses s 0 (running-refuses board work r s (sym e))
+      go (Refused s value) e = refuses s value (running-refuses board work r s value (sym e))
       go (Passed v) e = asked-goes calls.tally (r .dirty) refl
 
   filter-bits-fares : Fares N L m g calls.filterBits (filterBitsVerdict work r)
   unfolding filterBitsVerdict
   filter-bits-fares = go (goodWork (length work))
     where
-      go : (t : Bool) → Fares N L m g calls.filterBits (cond t (due (unstored (bitsSet (bufferIn work)) r work)) (refused status.Work 0))
-      go true = asked-goes calls.filterBits (bitsSet (bufferIn work)) refl
+      go : (t : Bool) → Fares N L m g calls.filterBits (cond t (due (unstored (onesOf (bufferIn work) filterWords) r work)) (refused status.Work 0))
+      go true = asked-goes calls.filterBits (onesOf (bufferIn work) filterWords) refl
       go false = refuses status.Work 0 refl
 
   call-fares : (c : Call) → Fares N L m g c (verdictOf board work r c)
@@ -185,7 +183,7 @@ module _ {N L : ℕ} {m : Machine} {g : Reference} (h : Holds N L m g) where
 
   -- an accepted tally gives the number of dirty slots
   pub tally-value : (k : ℕ) → made m (call calls.tally k) .status ≡ status.Ok → made m (call calls.tally k) .value ≡ dirtyIn work
-  unfolding made tallyVerdict answerOf
+  unfolding made answerOf
   tally-value k = go (runningChecked board work r) refl h
     where
       told : (t : Bool) → r .dirty ≡ dirtyIn work → cond t (success (unstored (r .dirty) r work)) (cutOff k) .status ≡ status.Ok
@@ -196,36 +194,36 @@ module _ {N L : ℕ} {m : Machine} {g : Reference} (h : Holds N L m g) where
       go : (x : Checked) → runningChecked board work r ≡ x → Holds N L m g
           → answered k r board work (judged x (λ v. unstored (r .dirty) r work)) .status ≡ status.Ok
           → answered k r board work (judged x (λ v. unstored (r .dirty) r work)) .value ≡ dirtyIn work
-      go (Refused s) e h = λ ok. absurd (false≢true (sym (rw ok at (not-ok s (running-refuses board work r s (sym e))))))
+      go (Refused s value) e h = λ ok. absurd (false≢true (sym (rw ok at (not-ok s (running-refuses board work r s value (sym e))))))
       go (Passed v) e (is-down d) = absurd (down-stays d v (running board work r v (sym e)))
       go (Passed v) e (is-up u) = told (leb 0 k) (u .counted)
 
   -- after an accepted begin call the scan aims at its target
   pub begin-aims : (target k persisted : ℕ) → made m (call (calls.begin target) k) .status ≡ status.Ok
       → scanTarget (made m (call (calls.begin target) k) .left .registers) persisted ≡ target
-  unfolding made beginVerdict beginOutcome answerOf
+  unfolding made answerOf
   begin-aims target k persisted = go (beginChecked board work r target) refl
     where
-      told : (t : Bool) → 0 < target → cond t (success (beginOutcome work r target)) (cutOff k) .status ≡ status.Ok
-          → scanTarget (cond t (success (beginOutcome work r target)) (cutOff k) .registers) persisted ≡ target
+      told : (t : Bool) → 0 < target → cond t (success (unstored 0 (begun r target) work)) (cutOff k) .status ≡ status.Ok
+          → scanTarget (cond t (success (unstored 0 (begun r target) work)) (cutOff k) .registers) persisted ≡ target
       told true some ok = aim-inside (begun r target) persisted some
       told false some ok = absurd (not-cut-ok (sym ok))
 
       go : (x : Checked) → beginChecked board work r target ≡ x
-          → answered k r board work (judged x (λ v. beginOutcome work r target)) .status ≡ status.Ok
-          → scanTarget (answered k r board work (judged x (λ v. beginOutcome work r target)) .left .registers) persisted ≡ target
-      go (Refused s) e = λ ok. absurd (false≢true (sym (rw ok at (not-ok s (begin-refuses board work r target s (sym e))))))
+          → answered k r board work (judged x (λ v. unstored 0 (begun r target) work)) .status ≡ status.Ok
+          → scanTarget (answered k r board work (judged x (λ v. unstored 0 (begun r target) work)) .left .registers) persisted ≡ target
+      go (Refused s value) e = λ ok. absurd (false≢true (sym (rw ok at (not-ok s (begin-refuses board work r target s value (sym e))))))
       go (Passed v) e = told (leb 0 k) (omega (arith, begin-waits board work r target v (sym e) .ahead))
 
   -- an accepted load gives the uncached machine's line
   pub load-value : (a k : ℕ) → made m (call (calls.load a) k) .status ≡ status.Ok → made m (call (calls.load a) k) .value ≡ g .lines a
-  unfolding made loadVerdict answerOf
+  unfolding made answerOf
   load-value a k = go (lineChecked board work r a) refl h
     where
       go : (x : Checked) → lineChecked board work r a ≡ x → Holds N L m g
           → answered k r board work (judged x (loadOutcome board work r a)) .status ≡ status.Ok
           → answered k r board work (judged x (loadOutcome board work r a)) .value ≡ g .lines a
-      go (Refused s) e h = λ ok. absurd (false≢true (sym (rw ok at (not-ok s (line-refuses board work r a s (sym e))))))
+      go (Refused s value) e h = λ ok. absurd (false≢true (sym (rw ok at (not-ok s (line-refuses board work r a s value (sym e))))))
       go (Passed v) e (is-down d) = absurd (down-stays d v (line-running board work r a v (sym e)))
       go (Passed v) e (is-up u) =
           let same = line-running board work r a v (sym e) .shaped .is in

@@ -10,13 +10,14 @@ use lib.ListN.{drop}
 use Rattle.base.specs.Walk.{firstFrom}
 use Rattle.board.specs.Stores.{applied}
 use Rattle.layout.specs.Limits.{lastEpoch}
+use Rattle.layout.specs.Sizes.{Bounded}
 use Rattle.undo.specs.declared.LogState.{LogState}
 use Rattle.undo.specs.Log as undo
 use Rattle.undo.specs.Log.{placeOf, entryIn, oldIn, expired, dropped, advanceStores}
 use Rattle.history.specs.Machine.{Durable, ended, dropEnded, advanced}
 use Rattle.history.specs.Recall.{ended-le}
 use Rattle.base.specs.Listed.{listed, length-listed, listed-same, listed-drop}
-use Rattle.durable.specs.View.{undoWith, entryAt, logOf, Bounded, Reads}
+use Rattle.durable.specs.View.{undoWith, entryOf, entryAt, logOf, Reads}
 use Rattle.durable.specs.Reads.{reads-bounded, reads-as, reads-with, reads-log}
 use Rattle.durable.specs.Seen.{control-reads}
 
@@ -24,7 +25,7 @@ use Rattle.durable.specs.Seen.{control-reads}
 
 dropped-from : (board : List ℕ) (u : LogState) (target i n : ℕ)
     → firstFrom (expired board u target) i n ≡ i + ended target (listed (entryAt board u) i n)
-unfolding firstFrom expired ended listed entryAt
+unfolding firstFrom expired ended listed entryOf
 dropped-from board u target i zero = omega arith
 dropped-from board u target i (suc n) = go (leb (entryIn board u i .till) target) refl (dropped-from board u target (suc i) n)
   where
@@ -54,7 +55,7 @@ module _ (board : List ℕ) (u : LogState) (target n : ℕ) where
   place-turned k = rw (mod-add-mod, add-assoc)
 
   entry-turned : (k : ℕ) → entryAt board turned k ≡ entryAt board u (n + k)
-  unfolding entryAt entryIn oldIn
+  unfolding entryOf entryIn oldIn
   entry-turned k = rw (place-turned k)
 
   log-turned : n ≤ u .control .length → logOf board turned ≡ drop n (logOf board u)
@@ -72,7 +73,7 @@ pub advance-reads : {N L : ℕ} {board : List ℕ} {d : Durable} (u : LogState) 
 unfolding advanceStores
 advance-reads {N} {L} {board} {d} u r same target early =
     let n : ℕ = dropped board u target in
-    let some : 0 < u .entries = omega (arith, r .sized) in
+    let some : 0 < u .entries = omega (arith, r .sized .sizes) in
     let bounded : Bounded L (undo.advanced u target n) = omega (arith, reads-bounded r, mod-lt (u .control .start + n) some) in
     let log : logOf board (undoWith (undo.advanced u target n) L) ≡ dropEnded target (d .log) =
     rw (← same, ← reads-log u r same, ← dropped-ended board u target) (log-turned board u target n (dropped-within board u target)) in

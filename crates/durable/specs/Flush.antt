@@ -19,7 +19,7 @@ use Rattle.history.specs.Machine.{Entry, Durable, Volatile, flushed}
 use Rattle.base.specs.Cases.{below-or-not}
 use Rattle.base.specs.Listed.{listed, listed-same, listed-append}
 use Rattle.durable.specs.Stores.{shifted-append}
-use Rattle.durable.specs.View.{undoWith, entryWith, entryAt, logOf, bufferedAt, bufferOf, Reads}
+use Rattle.durable.specs.View.{undoWith, entryOf, entryAt, entryWith, logOf, bufferedAt, bufferOf, Reads}
 use Rattle.durable.specs.Log.{WordOf, Free, word-before, words-apart, entry-same}
 use Rattle.durable.specs.Reads.{reads-bounded, reads-as, reads-with, reads-log}
 use Rattle.durable.specs.Seen.{free-reads, control-reads}
@@ -32,7 +32,7 @@ stored board u i word old = set (set board (logAt + placeOf u i) word) (logAt + 
 module _ (board : List ℕ) (u : LogState) (i word old : ℕ) where
   stored-here : 0 < u .entries → linesAt (u .entries) ≤ length board
       → entryAt (stored board u i word old) u i ≡ entryWith (decodeEntry word) old
-  unfolding entryAt entryIn oldIn
+  unfolding entryOf entryIn oldIn
   stored-here some room =
       let at : ℕ = logAt + placeOf u i in
       let second : logAt + (placeOf u i + 1) ≡ at + 1 = omega arith in
@@ -134,11 +134,11 @@ module _ {N L : ℕ} {board : List ℕ} {d : Durable} (u : LogState) (r : Reads 
   ready-reads = free-reads u r same entries entries-free
 
   ready-log : logOf ready (undoWith (undo.flushed u .control) L) ≡ d .log ++ bufferOf buffer (u .buffered)
-  unfolding undo.flushed entryAt entryIn oldIn placeOf
+  unfolding undo.flushed entryOf entryIn oldIn placeOf
   ready-log = rw (← same) (listed-append (entryAt ready u) (u .control .length) (u .buffered)
       ∙ ap₂ (λ (xs ys : List Entry). xs ++ ys) (reads-log u ready-reads same)
       (listed-same (λ k. entryAt ready u (u .control .length + k)) (bufferedAt buffer) 0 (u .buffered)
-      (λ k lo hi. ring-buffered u buffer board (omega (arith, r .sized)) (omega (arith, r .sized)) (u .buffered) k room (omega arith))))
+      (λ k lo hi. ring-buffered u buffer board (omega (arith, r .sized .sizes)) (omega (arith, r .sized .words)) (u .buffered) k room (omega arith))))
 
   module _ (w : Volatile) (buffered : w .buffer ≡ bufferOf buffer (u .buffered)) where
     reads-none : u .buffered ≡ 0 → Reads N L board (undo.flushed u .control) (flushed d w)

@@ -6,8 +6,8 @@ use mathlib.Core.List.{List, []}
 use native.Mathlib.Omega.{arith}
 use lib.ListN.{length, getD, length-set, length-replicate}
 use lib.Seq.{getD-set-same, getD-set-other}
-use Rattle.layout.specs.Limits.{mostLines, mostEntries}
 use Rattle.layout.specs.Memory.{controlAt, shapeAt, linesAt, boardWords, shapeFor, formatted, controlIn, shapeIn}
+use Rattle.layout.specs.Sizes.{Sizes}
 use Rattle.layout.specs.Words.{ShapeFits, encodeShape, decodeControl, decodeShape}
 use Rattle.layout.specs.Laws.{shape-laws}
 use Rattle.layout.specs.ZeroWord.{zeroControl, decode-zero-control}
@@ -20,7 +20,7 @@ use Rattle.durable.specs.View.{Reads}
 abbrev pub blank : Durable
 blank = record { persisted = 0; log = []; memory = λ a. 0 }
 
-module _ (N L : ℕ) (some-lines : 0 < N) (most-lines : N ≤ mostLines) (some-entries : 0 < L) (most-entries : L ≤ mostEntries) where
+module _ (N L : ℕ) (sizes : Sizes N L) where
   abbrev board : List ℕ
   board = formatted N L
 
@@ -44,10 +44,7 @@ module _ (N L : ℕ) (some-lines : 0 < N) (most-lines : N ≤ mostLines) (some-e
   unfolding listed formatted
   format-reads = record {
     sized = record {
-      some-lines = some-lines;
-      most-lines = most-lines;
-      some-entries = some-entries;
-      most-entries = most-entries;
+      sizes = sizes;
       words = simp (length-set, length-replicate);
       shape = format-shape;
       control = rw format-control (omega arith);

@@ -11,7 +11,7 @@ use Rattle.undo.specs.declared.LogState.{LogState}
 use Rattle.undo.specs.Log.{placeOf, entryIn, oldIn}
 use Rattle.base.specs.Cases.{below-or-not}
 use Rattle.base.specs.Listed.{listed-same}
-use Rattle.durable.specs.View.{undoWith, entryWith, entryAt, logOf}
+use Rattle.durable.specs.View.{undoWith, entryOf, entryAt, entryWith, logOf}
 
 -- place p of the board is one of the two words of entry i
 pub record WordOf (u : LogState) (i p : ℕ) : Type 0 where
@@ -65,7 +65,7 @@ free-apart u p f g =
 
 pub entry-same : (board board′ : List ℕ) (u : LogState) (i : ℕ) → ((p : ℕ) → WordOf u i p → getD board′ p 0 ≡ getD board p 0)
     → entryAt board′ u i ≡ entryAt board u i
-unfolding entryAt entryIn oldIn
+unfolding entryOf entryIn oldIn
 entry-same board board′ u i same =
     ap₂ (λ (w old : ℕ). entryWith (decodeEntry w) old)
     (same (logAt + placeOf u i) (omega arith))
@@ -78,6 +78,6 @@ log-same board board′ u same = listed-same (entryAt board′ u) (entryAt board
 
 -- how many entries are buffered does not matter
 pub log-unbuffered : (board : List ℕ) (u : LogState) → logOf board (undoWith (u .control) (u .entries)) ≡ logOf board u
-unfolding entryAt entryIn oldIn placeOf
+unfolding entryOf entryIn oldIn placeOf
 log-unbuffered board u =
     listed-same (entryAt board (undoWith (u .control) (u .entries))) (entryAt board u) 0 (u .control .length) (λ i lo hi. refl)

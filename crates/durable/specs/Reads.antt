@@ -5,10 +5,11 @@ use mathlib.Core.List.{List}
 use lib.ListN.{length, getD}
 use Rattle.layout.specs.declared.Control.{Control}
 use Rattle.layout.specs.Memory.{shapeAt, linesAt, controlIn}
+use Rattle.layout.specs.Sizes.{Bounded}
 use Rattle.layout.specs.Words.{decodeShape}
 use Rattle.undo.specs.declared.LogState.{LogState}
 use Rattle.history.specs.Machine.{Durable}
-use Rattle.durable.specs.View.{logOf, durableWith, Bounded, Sized, Reads}
+use Rattle.durable.specs.View.{logOf, durableWith, Sized, Reads}
 use Rattle.durable.specs.Log.{InLog, log-same, log-unbuffered}
 
 module _ {N L : ℕ} {board : List ℕ} where
@@ -36,10 +37,7 @@ pub sized-again : {N L : ℕ} {board : List ℕ} (board′ : List ℕ) → Sized
     → getD board′ shapeAt 0 ≡ getD board shapeAt 0 → Bounded L (controlIn board′) → Sized N L board′
 sized-again board′ s words shape control =
     record {
-      some-lines = s .some-lines;
-      most-lines = s .most-lines;
-      some-entries = s .some-entries;
-      most-entries = s .most-entries;
+      sizes = s .sizes;
       words = words ∙ s .words;
       shape = ap decodeShape shape ∙ s .shape;
       control = control;

@@ -11,6 +11,7 @@ use Rattle.board.specs.Stores.{Store, one, applied}
 use Rattle.board.specs.Laws.{length-applied}
 use Rattle.layout.specs.declared.Control.{Control}
 use Rattle.layout.specs.Memory.{controlAt, shapeAt, logAt, linesAt, controlIn}
+use Rattle.layout.specs.Sizes.{Bounded}
 use Rattle.layout.specs.Words.{ControlFits, encodeControl, decodeControl}
 use Rattle.layout.specs.Laws.{control-laws}
 use Rattle.undo.specs.declared.LogState.{LogState}
@@ -19,7 +20,7 @@ use Rattle.history.specs.Machine.{Durable, written}
 use Rattle.base.specs.Cases.{update}
 use Rattle.base.specs.Cases.{here-or-there, update-same, update-other}
 use Rattle.durable.specs.Stores.{applied-away}
-use Rattle.durable.specs.View.{undoWith, logOf, durableWith, durableOf, Bounded, Sized, Reads}
+use Rattle.durable.specs.View.{undoWith, logOf, durableWith, durableOf, Sized, Reads}
 use Rattle.durable.specs.Log.{InLog, Free, word-behind, word-before, free-apart, log-same}
 use Rattle.durable.specs.Reads.{sized-again, durable-same}
 
@@ -69,7 +70,7 @@ module _ {N L : ℕ} {board : List ℕ} {c : Control} {d : Durable} (r : Reads N
   lined-log : logOf lined (undoWith (controlIn board) L) ≡ logOf board (undoWith (controlIn board) L)
   lined-log =
       let u = undoWith (controlIn board) L in
-      log-same board lined u (λ p g. other-kept p (omega (arith, word-before u (g .entry) p (r .sized .some-entries) (g .word))))
+      log-same board lined u (λ p g. other-kept p (omega (arith, word-before u (g .entry) p (r .sized .sizes .entries-some) (g .word))))
 
   lined-memory : (b : ℕ) → getD lined (linesAt L + b) 0 ≡ update (durableOf L board .memory) a v b
   lined-memory =
@@ -94,7 +95,7 @@ pub control-reads : {N L : ℕ} {board : List ℕ} → Sized N L board → (c : 
     → Reads N L (applied board (one controlAt (encodeControl c))) c (durableWith c L board)
 unfolding applied
 control-reads {N} {L} {board} s c bounded =
-    let fits : ControlFits c = omega (arith, s) in
+    let fits : ControlFits c = omega (arith, s .sizes) in
     let control : controlIn board′ ≡ c =
     ap decodeControl (getD-set-same board controlAt (encodeControl c) 0 (omega (arith, s .words))) ∙ control-laws .decode-encode c fits in
     record {

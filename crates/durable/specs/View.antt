@@ -6,10 +6,12 @@ use mathlib.Core.List.{List}
 use lib.ListN.{length, getD}
 use Rattle.layout.specs.declared.Control.{Control}
 use Rattle.layout.specs.declared.Entry as packed
-use Rattle.layout.specs.Limits.{lastEpoch, mostLines, mostEntries}
 use Rattle.layout.specs.Memory.{linesAt, boardWords, shapeFor, controlIn, shapeIn}
+use Rattle.layout.specs.Sizes.{Sizes, Bounded}
 use Rattle.undo.specs.declared.LogState.{LogState}
-use Rattle.undo.specs.Log.{entryIn, oldIn, bufferedIn}
+use Rattle.undo.specs.Entries.{rangeOf}
+use Rattle.undo.specs.Recovery.{Log}
+use Rattle.undo.specs.Log.{logIn, bufferedIn}
 use Rattle.history.specs.Machine.{Entry, Durable}
 use Rattle.base.specs.Listed.{listed}
 
@@ -18,16 +20,23 @@ use Rattle.base.specs.Listed.{listed}
 abbrev pub undoWith : Control → (entries : ℕ) → LogState
 undoWith c entries = record { control = c; entries = entries; buffered = 0 }
 
+-- whatever its words: oldest entry first
+unfoldable pub entryOf : Log → ℕ → Entry
+entryOf log i = record { range = log .range i; old = log .old i }
+
+abbrev pub entriesOf : Log → List Entry
+entriesOf log = listed (entryOf log) 0 (log .count)
+
+-- on the board
+abbrev pub entryAt : List ℕ → LogState → ℕ → Entry
+entryAt board u = entryOf (logIn board u)
+
+abbrev pub logOf : List ℕ → LogState → List Entry
+logOf board u = entriesOf (logIn board u)
+
 -- the two words of an entry: the packed one, and the old data
 abbrev pub entryWith : packed.Entry → (old : ℕ) → Entry
-entryWith e old = record { address = e .address; from = e .from; till = e .till; old = old }
-
-unfoldable pub entryAt : List ℕ → LogState → ℕ → Entry
-entryAt board u i = entryWith (entryIn board u i) (oldIn board u i)
-
--- the log, oldest entry first
-abbrev pub logOf : List ℕ → LogState → List Entry
-logOf board u = listed (entryAt board u) 0 (u .control .length)
+entryWith e old = record { range = rangeOf e; old = old }
 
 unfoldable pub bufferedAt : List ℕ → ℕ → Entry
 bufferedAt buffer i = entryWith (bufferedIn buffer i) (getD buffer (2 * i + 1) 0)
@@ -52,18 +61,9 @@ durableOf entries board = durableWith (controlIn board) entries board
 
 -- ---- the sizes
 
--- a control word that the test of the board lets pass: not "P = 2^24 − 1; start ≥ L; length > L"
-pub record Bounded (entries : ℕ) (c : Control) : Type 0 where
-  pub start : c .start < entries
-  pub length : c .length ≤ entries
-  pub persisted : c .persisted < lastEpoch
-
 -- a board that was formatted so and has only been stored to since
 pub record Sized (lines entries : ℕ) (board : List ℕ) : Type 0 where
-  pub some-lines : 0 < lines
-  pub most-lines : lines ≤ mostLines
-  pub some-entries : 0 < entries
-  pub most-entries : entries ≤ mostEntries
+  pub sizes : Sizes lines entries
   pub words : length board ≡ boardWords lines entries
   pub shape : shapeIn board ≡ shapeFor lines entries
   pub control : Bounded entries (controlIn board)

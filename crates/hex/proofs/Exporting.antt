@@ -30,9 +30,9 @@ use Rattle.hex.specs.Laws.{lines-many}
 -- ── 1 ──
 
 module _ (board text : List ℕ) (number : ℕ) (k : Checked) (is : k ≡ boardChecked board) where
-  pub board-out : (why : Status) (r : Report) → k ≡ Refused why → r ≡ report why 0 → Exports board number text text r
+  pub board-out : (why : Status) (value : ℕ) (r : Report) → k ≡ Refused why value → r ≡ report why value → Exports board number text text r
   unfolding exportReport exportText exportChecked
-  board-out why r e f = record { report = rw (← is, e) f; text-left = rw (← is, e) }
+  board-out why value r e f = record { report = rw (← is, e) f; text-left = rw (← is, e) }
 
   module _ (v : View) (e : k ≡ Passed v) where
     pub board-passed : Passed v ≡ boardChecked board
@@ -58,7 +58,7 @@ module _ (board text : List ℕ) (number : ℕ) (v : View) (passed : Passed v �
     records-are : length (recordsOf (linesOn board)) ≡ last + 1
     records-are =
         let many = lines-many board v o in
-        records-many (linesOn board) (omega (arith, many, o .lines-some)) ∙ ap (λ (n : ℕ). lastOf n + 1) many ∙ ap (λ (n : ℕ). n + 1) (sym l)
+        records-many (linesOn board) (omega (arith, many, o .good .sizes .lines-some)) ∙ ap (λ (n : ℕ). lastOf n + 1) many ∙ ap (λ (n : ℕ). n + 1) (sym l)
 
     pub past-out : (r : Report) → last < number → r ≡ report status.Past 0 → Exports board number text text r
     unfolding exportReport exportText exportChecked
@@ -87,8 +87,8 @@ module _ (board text : List ℕ) (number : ℕ) (v : View) (passed : Passed v �
             let many = lines-many board v o in
             rw (lines-lent board v o at e)
             (record {
-              some = omega (arith, many, o .lines-some);
-              most = omega (arith, many, o .lines-most);
+              some = omega (arith, many, o .good .sizes .lines-some);
+              most = omega (arith, many, o .good .sizes .lines-most);
               fits = room;
               is-last = l ∙ ap lastOf (sym many);
               within = h;

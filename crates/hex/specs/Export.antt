@@ -41,11 +41,11 @@ exportChecked board textBytes number = then (boardChecked board) (exportRows boa
 
 -- "Success changes only the first text bytes, those of its record, and its value is their number; a refusal changes none."
 abbrev pub reportFor : Checked → (written : List ℕ) → Report
-reportFor (Refused why) written = report why 0
+reportFor (Refused why value) written = report why value
 reportFor (Passed v) written = report status.Ok (length written)
 
 abbrev pub textFor : Checked → (written text : List ℕ) → List ℕ
-textFor (Refused why) written text = text
+textFor (Refused why value) written text = text
 textFor (Passed v) written text = written ++ drop (length written) text
 
 unfoldable pub exportReport : (board : List ℕ) (number : ℕ) (text : List ℕ) → Report

@@ -165,7 +165,7 @@ unfolding exportText
 text-kept board number text = go (exportChecked board (length text) number) refl
   where
     go : (k : Checked) → k ≡ exportChecked board (length text) number → length (textFor k (recordAt board number) text) ≡ length text
-    go (Refused why) e = refl
+    go (Refused why value) e = refl
     go (Passed v) e =
         let room : mostText ≤ length text = long-passed board (length text) number v e in
         rw (length-append (recordAt board number) (drop (length (recordAt board number)) text), length-drop (length (recordAt board number)) text)
@@ -175,7 +175,7 @@ text-kept board number text = go (exportChecked board (length text) number) refl
 module _ (board : List ℕ) (v : View) (passed : Passed v ≡ boardChecked board) (number : ℕ) (text : List ℕ) (room : mostText ≤ length text) where
   -- "17 past, no record of that number"
   module _ (past : recordsOn board ≤ number) where
-    past-checked : exportChecked board (length text) number ≡ Refused status.Past
+    past-checked : exportChecked board (length text) number ≡ Refused status.Past 0
     unfolding exportChecked
     past-checked = rw (← passed, le-ltb (length text) mostText room, le-leb (recordsOn board) number past)
 
@@ -205,7 +205,7 @@ module _ (board : List ℕ) (v : View) (passed : Passed v ≡ boardChecked board
 -- the lines of a board that passes 1 are as many as its shape word says
 pub lines-many : (board : List ℕ) (v : View) → Opened board v → length (linesOn board) ≡ v .shape .lines
 unfolding viewOf
-lines-many board v o = rw (o .is, length-drop (linesAt (shapeIn board .entries)) board) (omega (arith, (rw (o .is) at (o .board-words))))
+lines-many board v o = rw (o .is, length-drop (linesAt (shapeIn board .entries)) board) (omega (arith, (rw (o .is) at (o .good .board-words))))
 
 -- ---- the calls one after the other
 
@@ -235,7 +235,7 @@ module _ (board : List ℕ) (v : View) (passed : Passed v ≡ boardChecked board
   exported-read words =
       let lines : AreWords (linesOn board) = λ i. rw getD-drop (words (linesAt (shapeIn board .entries) + i)) in
       let o = board-opened board v passed in
-      rw exported-all (lines-read (linesOn board) lines (omega (arith, lines-many board v o, o .lines-most)))
+      rw exported-all (lines-read (linesOn board) lines (omega (arith, lines-many board v o, o .good .sizes .lines-most)))
 
 -- such texts, for instance: one text, lent to each call as the call before has left it
 unfoldable pub lentAgain : (board text : List ℕ) → ℕ → List ℕ

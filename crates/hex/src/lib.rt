@@ -82,7 +82,7 @@ pub fn put_record(board: &[u64], text: &mut [u8], number: u64) -> Report
 {
     let checked = checks::check_board(board);
     match checked {
-        Checked::Refused(status) => Report::unstored(status, 0),
+        Checked::Refused(status, value) => Report::unstored(status, value),
         Checked::Passed(view) => put_shaped(board, text, number, view),
     }
 }

@@ -1,35 +1,32 @@
 -- The invariant of the abstract cache log: `Safe` is the crash condition, true of what a cut leaves at every moment; `Live` is
 -- what a running machine keeps besides. Assumes nothing.
 use mathlib.Core.Path.{_≡_}
+use mathlib.Core.Bool.{true}
 use mathlib.Core.List.{List, [], _∷_, _++_}
 use Prim.Native.Nat.{ℕ, suc, _+_, _≤_, _<_}
+use Rattle.ranges.specs.Ranges.{properRange}
 use Rattle.history.specs.Machine.{Entry, recall, Tells, Durable, Line, absent, clean, dirty, Volatile, recovered}
 use Rattle.reference.specs.Machine.{Reference}
 
 -- ---- proper logs
 
--- "A proper log entry has address < N, ValidFrom < ValidTill, P < ValidTill, and a ValidTill not below that of the next older
--- entry." `low` is that older ValidTill, or P + 1 for the oldest entry. Recovery needs `before` alone; power-up tests all but `narrow`, which a
--- later request brings.
+-- "A proper log entry has address < N, ValidFrom < ValidTill, P < ValidTill, and a ValidTill not below that of the next
+-- older entry." `low` is that older ValidTill, or P + 1 for the oldest entry. Request 2/13: "only if ValidTill ≤ P + 16 as
+-- well", where `high` is P + W. Power-up tests all but `narrow`, which a later request brings: the span is 1 to W.
 pub record ProperEntry (N W low high : ℕ) (x : Entry) : Type 0 where
-  pub inside : x .address < N
-  pub nonempty : x .from < x .till
-  -- with `nonempty`, request 9/13: the span is 1 to W
-  pub narrow : x .till ≤ x .from + W
-  pub after : low ≤ x .till
-  -- request 2/13: "only if ValidTill ≤ P + 16 as well", where `high` is P + W
-  pub before : x .till ≤ high
+  pub proper : properRange N low high (x .range) ≡ true
+  pub narrow : x .range .till ≤ x .range .from + W
 
 -- oldest entry first
 abbrev pub ProperLog : (N W low high : ℕ) → List Entry → Type 0
 ProperLog N W low high [] = Unit
-ProperLog N W low high (x ∷ xs) = ProperEntry N W low high x × ProperLog N W (x .till) high xs
+ProperLog N W low high (x ∷ xs) = ProperEntry N W low high x × ProperLog N W (x .range .till) high xs
 
 -- ---- what a cut leaves
 
 -- Of the reference machine it reads p and copy p alone: a call that is cut makes board stores and leaves that machine as it was.
 pub record Safe (N W : ℕ) (b : Durable) (g : Reference) : Type 0 where
-  -- "After each call the control word's P is p": so the reference machine wakes to the copy that the board recovers to.
+  -- "After each call the control word's P is p": so the reference machine restarts from the copy that the board recovers to.
   pub named : b .persisted ≡ g .persisted
   -- "power-up never answers 1 or 3": so it does recover. No entry ends after s, which a cut loses, so none after P + W.
   pub proper : ProperLog N W (suc (b .persisted)) (b .persisted + W) (b .log)

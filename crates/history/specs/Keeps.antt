@@ -9,9 +9,9 @@ use borrow.Author.Tests.{le-leb}
 use Rattle.history.specs.Machine.{Entry, recall, Tells, dropEnded, Durable, Line, absent, clean, dirty, Volatile}
 use Rattle.base.specs.Cases.{update}
 use Rattle.reference.specs.Machine.{Reference}
-use Rattle.reference.specs.Machine.{stores, commits, persists, upTo, wakes}
+use Rattle.reference.specs.Machine.{stores, commits, persists, upTo, restarts}
 use Rattle.history.specs.Machine.{holding, undo, marked, flushed, unbuffered, written, nextEpoch, advanced}
-use Rattle.history.specs.Machine.{cleared, awake, Logged, Scanned, recovered, Restored}
+use Rattle.history.specs.Machine.{cleared, restarted, Logged, Scanned, recovered, Restored}
 use Rattle.history.specs.Invariant.{ProperEntry, ProperLog, Safe, History, Fits, Held, Live, entries}
 use Rattle.base.specs.Cases.{here-or-there, below-or-not, update-same, update-other}
 use Rattle.history.specs.Recall.{recall-append, recall-new, recall-new-away, recall-dropEnded}
@@ -31,17 +31,17 @@ module _ {N W : ℕ} {b : Durable} {g : Reference} (safe : Safe N W b g) where
 
   -- memory is the copy: with no log, no cache and no epoch but P there is nothing to undo
   module _ (restored : Restored b) where
-    pub wake-safe : Safe N W (cleared b) (wakes g)
+    pub restart-safe : Safe N W (cleared b) (restarts g)
     unfolding recall upTo
-    wake-safe = record {
+    restart-safe = record {
       named = safe .named;
       proper = tt;
       recovers = λ a. rw (le-leb (b .persisted) (g .persisted) (omega (arith, safe .named))) (sym (restored a) ∙ safe .recovers a);
     }
 
-    pub wake-live : 0 < W → Live N W (cleared b) (awake b) (wakes g)
+    pub restart-live : 0 < W → Live N W (cleared b) (restarted b) (restarts g)
     unfolding recall upTo
-    wake-live positive = record {
+    restart-live positive = record {
       history = record {
         clock = ap suc (sym (safe .named));
         ahead = omega arith;

@@ -4,6 +4,7 @@ use mathlib.Core.List.{List}
 use Prim.Native.Nat.{ℕ, suc, _-_, _≤_, _<_}
 use native.Mathlib.Omega.{arith}
 use Rattle.base.specs.Every.{Every}
+use Rattle.ranges.specs.Ranges.{facts-proper}
 use Rattle.history.specs.Machine.{Entry, recall, Told, Durable, Line, absent, clean, dirty, Volatile, undo, written, recovered}
 use Rattle.base.specs.Cases.{update}
 use Rattle.reference.specs.Machine.{Reference}
@@ -68,4 +69,5 @@ module _ {N W : ℕ} {b : Durable} {w : Volatile} {g : Reference} (live : Live N
   -- the entry that a store makes, from P (a clean line) or from a tag after P (a dirty one), spans 1 to s − P epochs
   pub undo-proper : (a f d : ℕ) → a < N → b .persisted ≤ f → f < w .running
       → ProperEntry N (w .running - b .persisted) (suc (b .persisted)) (w .running) (undo (w .running) a f d)
-  undo-proper a f d inside lo hi = record { inside = inside; nonempty = hi; narrow = omega arith; after = live .history .ahead; before = omega arith }
+  undo-proper a f d inside lo hi =
+      record { proper = facts-proper N _ _ (undo (w .running) a f d .range) (omega (arith, live .history .ahead)); narrow = omega arith }

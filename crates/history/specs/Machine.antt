@@ -5,26 +5,21 @@ use mathlib.Core.Path.{_≡_}
 use mathlib.Core.List.{List, [], _∷_, _++_}
 use mathlib.Core.Bool.{Bool, cond, _&&_}
 use Prim.Native.Nat.{ℕ, suc, _+_, _<_}
-use lib.Dec.{ltb, leb, eqb}
+use lib.Dec.{leb, eqb}
 use lib.ListN.{drop}
 use Rattle.base.specs.Cases.{update}
+use Rattle.ranges.specs.Ranges.{Range, covers}
 
 -- ---- the undo log
 
--- "address 16, ValidFrom 24, ValidTill 24; then the old data". PiCL: "they specify the validity range of the data".
+-- the line and its epochs, and "then the old data"
 pub record Entry : Type 0 where
-  pub address : ℕ
-  pub from : ℕ
-  pub till : ℕ
+  pub range : Range
   pub old : ℕ
-
--- "range 1, 3 covers 1 and 2, not 0, not 3" (W5)
-unfoldable pub covers : Entry → ℕ → Bool
-covers x e = leb (x .from) e && ltb e (x .till)
 
 -- x covers epoch e for line a
 unfoldable pub coversAt : Entry → (e a : ℕ) → Bool
-coversAt x e a = eqb (x .address) a && covers x e
+coversAt x e a = eqb (x .range .address) a && covers (x .range) e
 
 -- What the log, oldest entry first, says that line a was at epoch e; d where it says nothing.
 -- "So a line gets the data of its oldest covering entry." PiCL: "there could be multiple undo entries for the same address
@@ -48,7 +43,7 @@ Silent log e a = (d : ℕ) → recall log e a d ≡ d
 -- "the oldest run of entries with ValidTill ≤ target": how many they are
 unfoldable pub ended : ℕ → List Entry → ℕ
 ended q [] = 0
-ended q (x ∷ xs) = cond (leb (x .till) q) (suc (ended q xs)) 0
+ended q (x ∷ xs) = cond (leb (x .range .till) q) (suc (ended q xs)) 0
 
 -- the log with this run dropped
 abbrev pub dropEnded : ℕ → List Entry → List Entry
@@ -82,7 +77,7 @@ holding w a l = record { running = w .running; buffer = w .buffer; cache = updat
 
 -- the undo entry that a store makes in epoch s. PiCL: "the ValidTill field of the log entry is also SystemEID".
 abbrev pub undo : (s a from old : ℕ) → Entry
-undo s a f d = record { address = a; from = f; till = s; old = d }
+undo s a f d = record { range = record { address = a; from = f; till = s }; old = d }
 
 -- "An entry goes to the buffer's end"; "The line is then dirty with tag s."
 abbrev pub marked : Volatile → (a from old v : ℕ) → Volatile
@@ -114,8 +109,8 @@ abbrev pub cleared : Durable → Durable
 cleared b = record { persisted = b .persisted; log = []; memory = b .memory }
 
 -- "Then work memory all zero, s = P + 1, b = 0, c = 0."
-abbrev pub awake : Durable → Volatile
-awake b = record { running = suc (b .persisted); buffer = []; cache = λ a. absent }
+abbrev pub restarted : Durable → Volatile
+restarted b = record { running = suc (b .persisted); buffer = []; cache = λ a. absent }
 
 -- ---- what the actions ask for
 

@@ -8,7 +8,7 @@ use native.Mathlib.Omega.{arith}
 use native.Mathlib.Nat.{mod-eq-of-lt}
 use lib.Dec.{eqb}
 use lib.ListN.{drop}
-use Rattle.layout.specs.Limits.{wordBits, flagBits}
+use Rattle.layout.specs.Limits.{wordBits}
 use Rattle.layout.specs.Fields.{width, pack, unpack, Packing, encode, decode, Fit, pack-below, unpack-fit, pack-unpack, unpack-pack}
 use Rattle.layout.specs.Words.{controlPacking, ControlFits, shapePacking, ShapeFits, entryPacking, EntryFits, bit, slotPacking, SlotFits}
 use Rattle.layout.specs.Words.{recordPacking, RecordFits}
@@ -59,7 +59,7 @@ unfolding width unpack Fit
 record-laws = laws (record { whole = refl; fit = λ x. omega arith; of-fields = λ x. refl; fields-of = λ w. refl })
 
 -- the slot word, whose first two fields are flags
-bit-below : (b : Bool) → bit b < 2 ^ flagBits
+bit-below : (b : Bool) → bit b < 2 ^ 1
 bit-below true = omega arith
 bit-below false = omega arith
 
@@ -67,7 +67,7 @@ bit-read : (b : Bool) → eqb (bit b) 1 ≡ b
 bit-read true = refl
 bit-read false = refl
 
-bit-again : (v : ℕ) → v < 2 ^ flagBits → bit (eqb v 1) ≡ v
+bit-again : (v : ℕ) → v < 2 ^ 1 → bit (eqb v 1) ≡ v
 bit-again zero h = refl
 bit-again (suc zero) h = refl
 bit-again (suc (suc v)) h = absurd (omega arith)

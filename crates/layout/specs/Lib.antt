@@ -4,5 +4,6 @@ pub mod Words
 pub mod SlotTests
 pub mod Bytes
 pub mod Memory
+pub mod Sizes
 pub mod Laws
 pub mod ZeroWord

@@ -17,30 +17,9 @@ lastEpoch = 2 ^ epochBits - 1
 abbrev pub addressBits : ℕ
 addressBits = 16
 
--- control word: "log start 20, log length 20"
-abbrev pub ringBits : ℕ
-ringBits = 20
-
--- shape word: "zero 24, N 20, L 20"
-abbrev pub versionBits : ℕ
-versionBits = 24
-
-abbrev pub sizeBits : ℕ
-sizeBits = 20
-
--- slot word: "valid 1, dirty 1, .., zero 22"
-abbrev pub flagBits : ℕ
-flagBits = 1
-
+-- slot word: "zero 22"
 abbrev pub spareBits : ℕ
 spareBits = 22
-
--- the first word of a trace's record: "kind 3 bits .., address 16, zero 45"
-abbrev pub kindBits : ℕ
-kindBits = 3
-
-abbrev pub recordSpareBits : ℕ
-recordSpareBits = 45
 
 -- the shape word's first field: "zero 24"
 abbrev pub boardVersion : ℕ

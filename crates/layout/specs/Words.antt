@@ -10,7 +10,7 @@ use Rattle.layout.specs.declared.Shape.{Shape}
 use Rattle.layout.specs.declared.Entry.{Entry}
 use Rattle.layout.specs.declared.Slot.{Slot}
 use Rattle.layout.specs.declared.Record.{Record}
-use Rattle.layout.specs.Limits.{epochBits, addressBits, ringBits, versionBits, sizeBits, flagBits, spareBits, kindBits, recordSpareBits, boardVersion, mostLines}
+use Rattle.layout.specs.Limits.{epochBits, addressBits, spareBits, boardVersion, mostLines}
 use Rattle.layout.specs.Fields.{Packing, encode, decode}
 
 -- What a decoding gives: the fields that its definition gives, each within its width.
@@ -21,7 +21,7 @@ pub record Decoded {A : Type 0} (Fits : A → Type 0) (fields r : A) : Type 0 wh
 -- "Control word: P 24, log start 20, log length 20."
 abbrev pub controlPacking : Packing Control
 controlPacking = record {
-  widths = epochBits ∷ ringBits ∷ ringBits ∷ [];
+  widths = epochBits ∷ 20 ∷ 20 ∷ [];
   fields = λ c. c .persisted ∷ c .start ∷ c .length ∷ [];
   of = λ vs. record { persisted = getD vs 0 0; start = getD vs 1 0; length = getD vs 2 0 };
 }
@@ -34,13 +34,13 @@ decodeControl = decode controlPacking
 
 pub record ControlFits (c : Control) : Type 0 where
   pub persisted : c .persisted < 2 ^ epochBits
-  pub start : c .start < 2 ^ ringBits
-  pub length : c .length < 2 ^ ringBits
+  pub start : c .start < 2 ^ 20
+  pub length : c .length < 2 ^ 20
 
 -- "Shape word: zero 24, N 20, L 20." The first field tells one board format from another.
 abbrev pub shapePacking : Packing Shape
 shapePacking = record {
-  widths = versionBits ∷ sizeBits ∷ sizeBits ∷ [];
+  widths = 24 ∷ 20 ∷ 20 ∷ [];
   fields = λ s. s .version ∷ s .lines ∷ s .entries ∷ [];
   of = λ vs. record { version = getD vs 0 0; lines = getD vs 1 0; entries = getD vs 2 0 };
 }
@@ -52,9 +52,9 @@ abbrev pub decodeShape : ℕ → Shape
 decodeShape = decode shapePacking
 
 pub record ShapeFits (s : Shape) : Type 0 where
-  pub version : s .version < 2 ^ versionBits
-  pub lines : s .lines < 2 ^ sizeBits
-  pub entries : s .entries < 2 ^ sizeBits
+  pub version : s .version < 2 ^ 24
+  pub lines : s .lines < 2 ^ 20
+  pub entries : s .entries < 2 ^ 20
 
 -- The number of lines of a board of this format; of another format, more than this one allows.
 pub record OwnLines (s : Shape) (r : ℕ) : Type 0 where
@@ -87,12 +87,12 @@ bit false = 0
 
 pub record IsBit (flag : Bool) (r : ℕ) : Type 0 where
   pub is : r ≡ bit flag
-  pub below : r < 2 ^ flagBits
+  pub below : r < 2 ^ 1
 
 -- "per slot a slot word (valid 1, dirty 1, address 16, tag 24, zero 22)"
 abbrev pub slotPacking : Packing Slot
 slotPacking = record {
-  widths = flagBits ∷ flagBits ∷ addressBits ∷ epochBits ∷ spareBits ∷ [];
+  widths = 1 ∷ 1 ∷ addressBits ∷ epochBits ∷ spareBits ∷ [];
   fields = λ s. bit (s .valid) ∷ bit (s .dirty) ∷ s .address ∷ s .tag ∷ s .spare ∷ [];
   of = λ vs. record { valid = eqb (getD vs 0 0) 1; dirty = eqb (getD vs 1 0) 1; address = getD vs 2 0; tag = getD vs 3 0; spare = getD vs 4 0 };
 }
@@ -111,7 +111,7 @@ pub record SlotFits (s : Slot) : Type 0 where
 -- a trace's record: "two words ..: kind 3 bits .., address 16, zero 45; then the value". This is the first word.
 abbrev pub recordPacking : Packing Record
 recordPacking = record {
-  widths = kindBits ∷ addressBits ∷ recordSpareBits ∷ [];
+  widths = 3 ∷ addressBits ∷ 45 ∷ [];
   fields = λ r. r .kind ∷ r .address ∷ r .spare ∷ [];
   of = λ vs. record { kind = getD vs 0 0; address = getD vs 1 0; spare = getD vs 2 0 };
 }
@@ -123,6 +123,6 @@ abbrev pub decodeRecord : ℕ → Record
 decodeRecord = decode recordPacking
 
 pub record RecordFits (r : Record) : Type 0 where
-  pub kind : r .kind < 2 ^ kindBits
+  pub kind : r .kind < 2 ^ 3
   pub address : r .address < 2 ^ addressBits
-  pub spare : r .spare < 2 ^ recordSpareBits
+  pub spare : r .spare < 2 ^ 45

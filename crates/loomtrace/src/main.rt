@@ -1,4 +1,4 @@
-// Runs a recorded trace on a fresh woken board: `loomtrace N L S FILE`. Prints one line, the name of what ended the run and the
+// Runs a recorded trace on a fresh board that has powered up: `loomtrace N L S FILE`. Prints one line, the name of what ended the run and the
 // totals of the board stores that loads, stores, evictions and scans made. The file may be of any length: it goes through a buffer
 // of a fixed size.
 ghost use Prim.Native.Nat.{_≤_};
@@ -82,7 +82,7 @@ fn run_file(run: Run, board: &mut [u64], work: &mut [u64]) -> Run {
     end
 }
 
-// The board is woken before the file is opened.
+// The board powers up before the file is opened.
 fn run_board(board: &mut [u64], work: &mut [u64], lines: u64, entries: u64) -> Run {
     let run = trace::start(board, work, lines, entries);
     let status = run.status;
@@ -92,8 +92,8 @@ fn run_board(board: &mut [u64], work: &mut [u64], lines: u64, entries: u64) -> R
     run_file(run, board, work)
 }
 
-fn refused() -> Run {
-    Run::new(Status::Shape, Registers::zero())
+fn too_large() -> Run {
+    Run::new(Status::Shape, Registers::all_zero())
 }
 
 fn run_sized(board: &mut [u64], work: &mut [u64], lines: u64, entries: u64, slots: u64) -> Run
@@ -114,7 +114,7 @@ fn run_sizes(board: &mut [u64], work: &mut [u64], lines: u64, entries: u64, slot
     requires { ⌜ benchWork ≤ length (now work) ⌝ }
 {
     if !benchboard::is_bench_sized(lines, entries, slots) {
-        return refused();
+        return too_large();
     }
     run_sized(board, work, lines, entries, slots)
 }
@@ -148,13 +148,13 @@ fn run_arguments(board: &mut [u64], work: &mut [u64]) -> Run
     requires { ⌜ benchWork ≤ length (now work) ⌝ }
 {
     if os::arg_count() != WORDS {
-        return refused();
+        return too_large();
     }
     let given = sizes();
     if let Command::Format(lines, entries, slots) = given {
         return run_sizes(board, work, lines, entries, slots);
     }
-    refused()
+    too_large()
 }
 
 fn main() {

@@ -64,7 +64,7 @@ fn dirty_slots(s: State) -> u64 {
 }
 
 // The count of the registers is "true after each accepted call and each cut". Of a controller that is
-// not awake nothing is said.
+// not running nothing is said.
 fn between_counts(s: State, o: Outcome) -> Difference {
     if o.registers[EPOCH] == 0 {
         return no_difference();
@@ -229,8 +229,8 @@ pub fn turn(h: History, seed: u64) -> History {
     let score = h.score;
     let c = next_call(l, old, seed);
     let state = lent(l, old, c, seed);
-    let woken = reference.power_up(0);
+    let restarted = reference.power_up(0);
     let with_probes = probes(l, old, seed, score);
-    let with_cuts = cuts(state, c, woken, with_probes);
+    let with_cuts = cuts(state, c, restarted, with_probes);
     watched(with_score(with_state(h, state), with_cuts), c)
 }

@@ -91,7 +91,7 @@ fn rare(n: u64) -> u64 {
 // Registers that are zero are refused until a power-up, so that is then the likeliest call.
 fn kind(l: List, seed: u64, epoch: u64) -> u64 {
     if epoch == 0 {
-        if !once_in(seed, IS_AWAKE, 4) {
+        if !once_in(seed, STAYS_OFF, 4) {
             return POWER_UP;
         }
     }

@@ -18,7 +18,7 @@ pub const CHOICES: u64 = 6;
 pub const DECK: u64 = 8;
 
 // .. of a call and of what a power-up is lent, ..
-pub const IS_AWAKE: u64 = 16;
+pub const STAYS_OFF: u64 = 16;
 
 pub const IS_RARE: u64 = 17;
 

@@ -7,33 +7,30 @@ use native.Mathlib.Omega.{arith}
 use borrow.Author.Tests.{not-true, not-false}
 use lib.ListN.{length, take, drop, length-drop}
 use Rattle.base.specs.Parts.{rest-lent}
-use Rattle.layout.specs.Memory.{bufferAt, bufferWords}
+use Rattle.layout.specs.Memory.{filterWords, bufferAt, bufferWords}
 use Rattle.status.specs.declared.Status.{Status}
 use Rattle.status.specs.declared.Status.the-variants as status
-use Rattle.undo.specs.Filter.{bitsSet}
+use Rattle.undo.specs.Filter.{onesOf}
 use Rattle.checks.specs.declared.Checked.{Checked}
 use Rattle.checks.specs.declared.Checked.the-variants.{Refused, Passed}
 use Rattle.checks.specs.declared.Registers.{Registers}
 use Rattle.checks.specs.declared.View.{View}
-use Rattle.checks.specs.Refusals.{tested, registerRows, memoriesChecked, runningChecked}
+use Rattle.checks.specs.Refusals.{runningChecked}
 use Rattle.checks.specs.Laws.{work-buffer}
-use Rattle.checks.specs.Stages.{registers-passed}
 use Rattle.checks.specs.View.{goodWork}
 use Rattle.picl.specs.declared.Report.{Report}
 use Rattle.picl.specs.Answers.{answerOf}
-use Rattle.picl.specs.Calls.{report, tallyVerdict, tallyReport, filterBitsVerdict, filterBitsReport}
+use Rattle.picl.specs.Calls.{report, tallyReport, filterBitsVerdict, filterBitsReport}
 
 -- the tally
-module _ (board work : List ℕ) (r : Registers) (a : Report) where
-  pub tally-refused : (s : Status) → Refused s ≡ runningChecked board work r → a ≡ report s 0 → a ≡ tallyReport board work r
-  unfolding tallyReport tallyVerdict answerOf
-  tally-refused s e x = rw (← e) x
+module _ (board work : List ℕ) (r : Registers) (k : Checked) (is : k ≡ runningChecked board work r) (a : Report) where
+  pub tally-refused : (s : Status) (value : ℕ) → k ≡ Refused s value → a ≡ report s value → a ≡ tallyReport board work r
+  unfolding tallyReport answerOf
+  tally-refused s value e x = rw (← is, e) x
 
-  pub tally-answered : (k : Checked) (v : View) (k₂ : Checked) (w : View) → k ≡ memoriesChecked board work → k ≡ Passed v
-      → k₂ ≡ tested (registerRows v r) v → k₂ ≡ Passed w → a ≡ report status.Ok (r .dirty) → a ≡ tallyReport board work r
-  unfolding tallyReport tallyVerdict answerOf
-  tally-answered k v k₂ w memories first registers second x =
-      rw (← registers-passed board work k memories v first r k₂ registers w second) x
+  pub tally-answered : (v : View) → k ≡ Passed v → a ≡ report status.Ok (r .dirty) → a ≡ tallyReport board work r
+  unfolding tallyReport answerOf
+  tally-answered v e x = rw (← is, e) x
 
 -- the number of filter bits
 module _ (work : List ℕ) (t : Bool) (test : t ≡ goodWork (length work)) (a : Report) where
@@ -41,7 +38,7 @@ module _ (work : List ℕ) (t : Bool) (test : t ≡ goodWork (length work)) (a :
   unfolding filterBitsReport filterBitsVerdict answerOf
   filter-refused h x = rw (← test, not-true t h) x
 
-  pub filter-counted : (at count : ℕ) → not t ≡ false → at ≡ bufferAt (length work) → count ≡ bitsSet (take (length work - at) (drop at work))
+  pub filter-counted : (at count : ℕ) → not t ≡ false → at ≡ bufferAt (length work) → count ≡ onesOf (take (length work - at) (drop at work)) filterWords
       → a ≡ report status.Ok count → a ≡ filterBitsReport work
   unfolding filterBitsReport filterBitsVerdict answerOf
   filter-counted at count good e c x = rw (← test, not-false t good) (rw (c, rest-lent at work, e) at x)

@@ -2,7 +2,7 @@
 use Prim.Native.Nat.{ℕ, _+_, _*_, _<_, _≤_}
 use mathlib.Core.Path.{_≡_, refl, ap}
 use mathlib.Core.Bool.{Bool}
-use mathlib.Core.List.{List, _++_}
+use mathlib.Core.List.{List}
 use borrow.Author.Tests.{lt-ltb, le-ltb}
 use lib.ListN.{length, getD}
 use Rattle.board.specs.declared.Meter.{Meter}
@@ -23,24 +23,26 @@ use Rattle.checks.specs.declared.Checked.{Checked}
 use Rattle.checks.specs.declared.Checked.the-variants.{Refused, Passed}
 use Rattle.checks.specs.declared.Registers.{Registers}
 use Rattle.checks.specs.declared.View.{View}
-use Rattle.checks.specs.Laws.{line-running, line-named, line-proper, line-countable, store-line, store-room, running}
+use Rattle.checks.specs.Laws.{line-running, line-named, line-proper, line-countable, store-line, store-room, commit-running}
 use Rattle.checks.specs.Laws.{scan-running, scan-proper, scan-countable, scan-aims}
-use Rattle.checks.specs.Refusals.{tested, bufferRows, epochRows, targetRows, runningChecked, lineChecked, storeChecked, commitChecked, beginChecked, scanChecked}
+use Rattle.checks.specs.Refusals.{lineChecked, storeChecked, commitChecked, beginChecked, scanChecked}
 use Rattle.checks.specs.Registers.{leaving, committed, begun, stepped, ended, recounted, scanTarget}
-use Rattle.checks.specs.Stages.{commit-passed, begin-passed}
+use Rattle.checks.specs.Stages.{told-passed}
 use Rattle.checks.specs.View.{undoOf}
 use Rattle.picl.specs.declared.Answer.{Answer}
 use Rattle.picl.specs.Answers.{Outcome, answer, refusal}
 use Rattle.board.specs.Verdict.{due}
-use Rattle.picl.specs.Calls.{loadAt, loadOutcome, storeAt, storeOutcome, evictAt, evictOutcome}
-use Rattle.picl.specs.Calls.{judged, carried, carriedAt, commitOutcome, commitVerdict, beginOutcome, beginVerdict, scanAt, scanOutcome}
+use Rattle.picl.specs.Calls.{unstored, verdictOf, loadAt, loadOutcome, storeAt, storeOutcome, evictAt, evictOutcome}
+use Rattle.picl.specs.Calls.{judged, carried, carriedAt, scanAt, scanOutcome}
 use Rattle.picl.specs.Contracts.{Answers, Finishes, LinePassed, StorePassed, ScanPassed, Found}
 use Rattle.picl.proofs.Finishing.{answers-refused, answers-nothing, acted, carries-answers}
+use Rattle.picl.specs.Calls as calls
 
 -- a call's verdict, once its check has come to a result
 module _ (allowance : ℕ) (board work : List ℕ) (r : Registers) (k : Checked) (outcome : View → Outcome) where
-  pub judged-refused : (s : Status) (a : Answer) → Refused s ≡ k → a ≡ refusal s 0 r → Answers allowance r board work (judged k outcome) board work a
-  judged-refused s a e x = rw (← e) (answers-refused allowance r board work s 0 a x)
+  pub judged-refused : (s : Status) (value : ℕ) (a : Answer) → Refused s value ≡ k → a ≡ refusal s value r
+      → Answers allowance r board work (judged k outcome) board work a
+  judged-refused s value a e x = rw (← e) (answers-refused allowance r board work s value a x)
 
   pub judged-passed : (v : View) (board′ work′ : List ℕ) (a : Answer) → Passed v ≡ k
       → Answers allowance r board work (due (outcome v)) board′ work′ a → Answers allowance r board work (judged k outcome) board′ work′ a
@@ -132,25 +134,23 @@ store-told board work r address v p =
     }
 
 -- commit
-pub commit-within : (board work : List ℕ) (r : Registers) (v : View) → Passed v ≡ runningChecked board work r → r .epoch ≤ lastEpoch
-commit-within board work r v p = running board work r v p .epoch-most
+module _ (board work : List ℕ) (r : Registers) (k : Checked) (is : k ≡ commitChecked board work r) (v : View) (passed : k ≡ Passed v) where
+  pub commit-within : r .epoch ≤ lastEpoch
+  commit-within = commit-running board work r v (told-passed _ k is v passed) .proper .epoch-most
 
-pub commit-answered : (allowance : ℕ) (board work : List ℕ) (r : Registers) (v w : View) (k : Checked) (a : Answer)
-    → Passed v ≡ runningChecked board work r → k ≡ tested (bufferRows v work r ++ epochRows v r) v → k ≡ Passed w
-    → a ≡ answer status.Ok 0 0 (committed r) → Answers allowance r board work (commitVerdict board work r) board work a
-unfolding commitVerdict commitOutcome
-commit-answered allowance board work r v w k a run is e x =
-    judged-passed allowance board work r (commitChecked board work r) (λ u. commitOutcome work r) v board work a
-    (commit-passed board work r v run k is w e) (answers-nothing allowance r board work (committed r) a x)
+  pub commit-answered : (allowance : ℕ) (a : Answer) → a ≡ answer status.Ok 0 0 (committed r)
+      → Answers allowance r board work (verdictOf board work r calls.commit) board work a
+  commit-answered allowance a x =
+      judged-passed allowance board work r (commitChecked board work r) (λ u. unstored 0 (committed r) work) v board work a
+      (told-passed _ k is v passed) (answers-nothing allowance r board work (committed r) a x)
 
 -- begin
-pub begin-answered : (allowance : ℕ) (board work : List ℕ) (r : Registers) (target : ℕ) (v w : View) (k : Checked) (a : Answer)
-    → Passed v ≡ runningChecked board work r → k ≡ tested (bufferRows v work r ++ targetRows v r target) v → k ≡ Passed w
-    → a ≡ answer status.Ok 0 0 (begun r target) → Answers allowance r board work (beginVerdict board work r target) board work a
-unfolding beginVerdict beginOutcome
-begin-answered allowance board work r target v w k a run is e x =
-    judged-passed allowance board work r (beginChecked board work r target) (λ u. beginOutcome work r target) v board work a
-    (begin-passed board work r v run k target is w e) (answers-nothing allowance r board work (begun r target) a x)
+pub begin-answered : (allowance : ℕ) (board work : List ℕ) (r : Registers) (target : ℕ) (k : Checked) (v : View) (a : Answer)
+    → k ≡ beginChecked board work r target → k ≡ Passed v → a ≡ answer status.Ok 0 0 (begun r target)
+    → Answers allowance r board work (verdictOf board work r (calls.begin target)) board work a
+begin-answered allowance board work r target k v a is e x =
+    judged-passed allowance board work r (beginChecked board work r target) (λ u. unstored 0 (begun r target) work) v board work a
+    (told-passed _ k is v e) (answers-nothing allowance r board work (begun r target) a x)
 
 -- scan
 module _ (allowance : ℕ) (board work : List ℕ) (r next : Registers) (u : LogState) (target : ℕ) (m : Meter) (p : Progress)

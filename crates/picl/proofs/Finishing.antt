@@ -18,7 +18,7 @@ use Rattle.slots.specs.Slots.{dirtyAt}
 use Rattle.steps.specs.Effects.{Effect}
 use Rattle.steps.specs.Contracts.{Acts, Carries}
 use Rattle.checks.specs.declared.Registers.{Registers}
-use Rattle.checks.specs.Registers.{zero, recounted, leaving}
+use Rattle.checks.specs.Registers.{allZero, recounted, leaving}
 use Rattle.picl.specs.declared.Answer.{Answer}
 use Rattle.picl.specs.Answers.{Outcome, answer, refusal, answerOf}
 use Rattle.board.specs.Verdict.{refused, due, boardAfter, workAfter}
@@ -26,7 +26,7 @@ use Rattle.picl.specs.Calls.{carried}
 use Rattle.picl.specs.Contracts.{Answers, Finishes, FinishReady, Found}
 
 module _ (work work′ : List ℕ) (m : Meter) (allowance value : ℕ) (r : Registers) (t : Bool) (cut : t ≡ wasCut m) where
-  pub finish-cut : (z : Registers) → t ≡ true → z ≡ zero → work′ ≡ replicate (length work) 0
+  pub finish-cut : (z : Registers) → t ≡ true → z ≡ allZero → work′ ≡ replicate (length work) 0
       → Finishes work m allowance value r work′ (record { status = status.Cut; value = 0; stores = allowance; registers = z })
   finish-cut z h e x = rw e record { answer = rw (← cut, h); memory = rw (← cut, h) x }
 

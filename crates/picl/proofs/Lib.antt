@@ -1,6 +1,5 @@
 pub mod Finishing
 pub mod Passing
 pub mod Calling
-pub mod Waking
+pub mod Boards
 pub mod Asking
-pub mod Siting

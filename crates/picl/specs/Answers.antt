@@ -4,7 +4,7 @@ use lib.ListN.{length}
 use Rattle.board.specs.Verdict as verdict
 use Rattle.board.specs.Verdict.{answering}
 use Rattle.checks.specs.declared.Registers.{Registers}
-use Rattle.checks.specs.Registers.{zero}
+use Rattle.checks.specs.Registers.{allZero}
 use Rattle.status.specs.declared.Status.{Status}
 use Rattle.status.specs.declared.Status.the-variants as status
 use Rattle.picl.specs.declared.Answer.{Answer}
@@ -19,7 +19,7 @@ abbrev pub answer : Status → (value stores : ℕ) → Registers → Answer
 answer why value stores r = record { status = why; value = value; stores = stores; registers = r }
 
 unfoldable pub answerOf : (allowance : ℕ) → (given : Registers) → Verdict → Answer
-answerOf allowance given v = answering answer zero allowance given v
+answerOf allowance given v = answering answer allZero allowance given v
 
 -- its three kinds
 abbrev pub refusal : Status → (value : ℕ) → (given : Registers) → Answer
@@ -29,4 +29,4 @@ abbrev pub success : Outcome → Answer
 success o = answer status.Ok (o .value) (length (o .stores)) (o .registers)
 
 abbrev pub cutOff : (allowance : ℕ) → Answer
-cutOff allowance = answer status.Cut 0 allowance zero
+cutOff allowance = answer status.Cut 0 allowance allZero

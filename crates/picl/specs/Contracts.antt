@@ -8,13 +8,14 @@ use Rattle.board.specs.declared.Meter.{Meter}
 use Rattle.board.specs.Stores.{wasCut}
 use Rattle.layout.specs.Memory.{slotAt, slotWords}
 use Rattle.layout.specs.Words.{encodeSlot}
+use Rattle.ranges.specs.Ranges.{Waits}
 use Rattle.status.specs.declared.Status.the-variants as status
 use Rattle.undo.specs.declared.Progress.{Progress}
 use Rattle.slots.specs.declared.Spot.{Spot}
 use Rattle.slots.specs.Sets.{placesOf, properSet, spotOf}
 use Rattle.slots.specs.Slots.{properAt, dirtyAt, dirtySlot, undoDue}
 use Rattle.checks.specs.declared.View.{View}
-use Rattle.checks.specs.Contracts.{Running, Waits, Countable}
+use Rattle.checks.specs.Contracts.{Running, Countable}
 use Rattle.checks.specs.declared.Checked.the-variants.{Passed}
 use Rattle.checks.specs.Refusals.{tested, lineRows, runningChecked}
 use Rattle.checks.specs.Registers.{scanTarget}
@@ -56,19 +57,6 @@ pub record Found (work : List ℕ) (r : Registers) (k : ℕ) (was : Bool) : Type
   pub is : was ≡ dirtyAt work k
   pub count : Countable r was
 
--- 5 passed, and a pass over the set is to be told the least tag and the number of tags
-pub record Named (board work : List ℕ) (r : Registers) (address : ℕ) (v : View) (least tags : ℕ) : Type 0 where
-  pub running : Passed v ≡ runningChecked board work r
-  pub inside : address < v .shape .lines
-  pub first : least ≡ encodeSlot (dirtySlot 0 (v .control .persisted + 1))
-  pub many : tags ≡ r .epoch - v .control .persisted
-
--- 5 and 6 passed, and a pass over the set has found the line's slot
-pub record Sited (board work : List ℕ) (r : Registers) (address : ℕ) (v : View) (spot : Spot) : Type 0 where
-  pub running : Passed v ≡ runningChecked board work r
-  pub line : Passed v ≡ tested (lineRows v work r address) v
-  pub found : spot ≡ spotOf work (v .slots) address
-
 -- what the tests of each call told
 pub record LinePassed (board work : List ℕ) (r : Registers) (address : ℕ) (v : View) : Type 0 where
   pub running : Running board work r v
@@ -84,4 +72,4 @@ pub record ScanPassed (board work : List ℕ) (r : Registers) (v : View) : Type 
   pub running : Running board work r v
   pub slot : r .cursor < v .slots → properAt (boundsOf v r) work (r .cursor) ≡ true
   pub count : r .cursor < v .slots → Countable r (dirtyAt work (r .cursor))
-  pub aims : Waits v r (scanTarget r (v .control .persisted))
+  pub aims : Waits (v .control .persisted) (r .epoch) (scanTarget r (v .control .persisted))

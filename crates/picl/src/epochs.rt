@@ -1,21 +1,20 @@
-// Commit, begin, scan and power-up: the calls that end, persist and restore epochs. The names of their functions tell how far a call has come, as
-// those of the calls of lines do.
+// Commit, begin, scan and power-up: the calls that end, persist and restore epochs. The names of their functions tell how far a call has
+// come, as those of the calls of lines do; running: 1, 2 and 4 have passed.
 ghost use Prim.Native.Nat.{_<_, _≤_};
 ghost use lib.ListN.{length};
 ghost use mathlib.Core.Path.{_≡_};
 ghost use Rattle.board.specs.Verdict.{due};
 ghost use Rattle.checks.specs.declared.Checked.the-variants.{Passed};
-ghost use Rattle.checks.specs.Refusals.{runningChecked};
+ghost use Rattle.checks.specs.Refusals.{powerUpChecked, runningChecked};
 ghost use Rattle.steps.specs.Contracts.{SlotReady, PersistReady};
 ghost use Rattle.steps.specs.Effects.{visiting, persisting};
-ghost use Rattle.checks.specs.Registers.{zero, committed, begun};
-ghost use Rattle.checks.specs.Contracts.{Shaped, Waits};
+ghost use Rattle.checks.specs.Registers.{allZero, committed, begun};
+ghost use Rattle.ranges.specs.Ranges.{Waits};
 ghost use Rattle.layout.specs.Limits.{lastEpoch};
 ghost use Rattle.status.specs.declared.Status.the-variants as status;
-ghost use Rattle.undo.specs.Contracts.{RecoverReady};
 ghost use Rattle.picl.specs.Answers.{answer};
 ghost use Rattle.picl.specs.Calls as call;
-ghost use Rattle.picl.specs.Calls.{noAllowance, scanOutcome, scanAt, carried, carriedAt, wakeAt, wakeVerdict, powerUpVerdict};
+ghost use Rattle.picl.specs.Calls.{noAllowance, scanOutcome, scanAt, carried, carriedAt, powerUpOutcome, powerUpVerdict};
 ghost use Rattle.picl.specs.Contracts.{Answers, Calls, ScanPassed, Found};
 use crate::Answer;
 use crate::finish;
@@ -40,37 +39,14 @@ fn commit_passed(registers: Registers) -> Answer
     }
 }
 
-fn commit_running(
-    board: &[u64],
-    work: &[u64],
-    registers: Registers,
-    view: View,
-    allowance: u32,
-) -> Answer
-    requires { ⌜ Passed view ≡ runningChecked (now board) (now work) registers ⌝ }
-    ensures { λ r. ⌜ Calls call.commit allowance registers (now (board .entry)) (now (work .entry)) (now (board .entry)) (now (work .entry)) r ⌝ }
-{
-    let checked = checks::check_commit(view, work, registers);
-    match checked {
-        Checked::Refused(status) => refusal(status, 0, registers),
-        Checked::Passed(_) => commit_passed(registers),
-    }
-}
-
 // The end of the running epoch. It makes no store, so no allowance is too small, and it cannot write either memory.
 pub fn commit(board: &[u64], work: &[u64], registers: Registers, allowance: u32) -> Answer
     ensures { λ r. ⌜ Calls call.commit allowance registers (now (board .entry)) (now (work .entry)) (now (board .entry)) (now (work .entry)) r ⌝ }
 {
-    let memories = checks::check_memories(board, work);
-    match memories {
-        Checked::Refused(status) => refusal(status, 0, registers),
-        Checked::Passed(view) => {
-            let running = checks::check_registers(view, registers);
-            match running {
-                Checked::Refused(status) => refusal(status, 0, registers),
-                Checked::Passed(_) => commit_running(board, work, registers, view, allowance),
-            }
-        }
+    let checked = checks::check_commit(board, work, registers);
+    match checked {
+        Checked::Refused(status, value) => refusal(status, value, registers),
+        Checked::Passed(_) => commit_passed(registers),
     }
 }
 
@@ -85,37 +61,14 @@ fn begin_passed(registers: Registers, target: u64) -> Answer
     }
 }
 
-fn begin_running(
-    board: &[u64],
-    work: &[u64],
-    registers: Registers,
-    target: u64,
-    view: View,
-) -> Answer
-    requires { ⌜ Passed view ≡ runningChecked (now board) (now work) registers ⌝ }
-    ensures { λ r. ⌜ Calls (call.begin target) noAllowance registers (now (board .entry)) (now (work .entry)) (now (board .entry)) (now (work .entry)) r ⌝ }
-{
-    let checked = checks::check_begin(view, work, registers, target);
-    match checked {
-        Checked::Refused(status) => refusal(status, 0, registers),
-        Checked::Passed(_) => begin_passed(registers, target),
-    }
-}
-
 // A pass that persists all epochs up to the target. It makes no store, and it cannot write either memory.
 pub fn begin(board: &[u64], work: &[u64], registers: Registers, target: u64) -> Answer
     ensures { λ r. ⌜ Calls (call.begin target) noAllowance registers (now (board .entry)) (now (work .entry)) (now (board .entry)) (now (work .entry)) r ⌝ }
 {
-    let memories = checks::check_memories(board, work);
-    match memories {
-        Checked::Refused(status) => refusal(status, 0, registers),
-        Checked::Passed(view) => {
-            let running = checks::check_registers(view, registers);
-            match running {
-                Checked::Refused(status) => refusal(status, 0, registers),
-                Checked::Passed(_) => begin_running(board, work, registers, target, view),
-            }
-        }
+    let checked = checks::check_begin(board, work, registers, target);
+    match checked {
+        Checked::Refused(status, value) => refusal(status, value, registers),
+        Checked::Passed(_) => begin_passed(registers, target),
     }
 }
 
@@ -168,7 +121,7 @@ fn scan_at(
     allowance: u32,
 ) -> Answer
     requires { ⌜ ScanPassed (now board) (now work) registers view ⌝ }
-    requires { ⌜ Waits view registers target ⌝ }
+    requires { ⌜ Waits (view .control .persisted) (registers .epoch) target ⌝ }
     ensures { λ r. ⌜ Answers allowance registers (now (board .entry)) (now (work .entry))
         (due (scanAt (now (board .entry)) (now (work .entry)) registers view target)) (now (board .exit)) (now (work .exit)) r ⌝ }
 {
@@ -226,7 +179,7 @@ fn scan_running(
 {
     let checked = checks::check_scan(view, work, registers);
     match checked {
-        Checked::Refused(status) => refusal(status, 0, registers),
+        Checked::Refused(status, value) => refusal(status, value, registers),
         Checked::Passed(_) => scan_passed(board, work, registers, view, allowance),
     }
 }
@@ -235,56 +188,35 @@ fn scan_running(
 pub fn scan(board: &mut [u64], work: &mut [u64], registers: Registers, allowance: u32) -> Answer
     ensures { λ r. ⌜ Calls call.scan allowance registers (now (board .entry)) (now (work .entry)) (now (board .exit)) (now (work .exit)) r ⌝ }
 {
-    let memories = checks::check_memories(board, work);
-    match memories {
-        Checked::Refused(status) => refusal(status, 0, registers),
-        Checked::Passed(view) => {
-            let running = checks::check_registers(view, registers);
-            match running {
-                Checked::Refused(status) => refusal(status, 0, registers),
-                Checked::Passed(_) => scan_running(board, work, registers, view, allowance),
-            }
-        }
+    let running = checks::check_running(board, work, registers);
+    match running {
+        Checked::Refused(status, value) => refusal(status, value, registers),
+        Checked::Passed(view) => scan_running(board, work, registers, view, allowance),
     }
 }
 
-// A log that is proper: recovery, and an empty work memory.
-fn wake(board: &mut [u64], work: &mut [u64], undo: LogState, lines: u64, allowance: u32) -> Answer
-    requires { ⌜ RecoverReady (now board) undo lines ⌝ }
-    requires { ⌜ undo .control .persisted < lastEpoch ⌝ }
-    ensures { λ r. ⌜ Answers allowance zero (now (board .entry)) (now (work .entry)) (due (wakeAt (now (board .entry)) (now (work .entry)) undo)) (now (board .exit)) (now (work .exit)) r ⌝ }
+fn power_up_passed(board: &mut [u64], work: &mut [u64], view: View, allowance: u32) -> Answer
+    requires { ⌜ Passed view ≡ powerUpChecked (now board) (now work) ⌝ }
+    ensures { λ r. ⌜ Answers allowance allZero (now (board .entry)) (now (work .entry)) (due (powerUpOutcome (now (board .entry)) (now (work .entry)) view)) (now (board .exit)) (now (work .exit)) r ⌝ }
 {
-    let meter = undo::recover(board, undo, lines, Meter::new(allowance));
+    let meter = undo::recover(board, view.log(), view.shape.lines, Meter::new(allowance));
     base::clear(work);
     finish(
         work,
         meter,
         allowance,
         0,
-        Registers::woken(undo.control.persisted),
+        Registers::restarted(view.control.persisted),
     )
-}
-
-// 1 and 2 have passed: 3, and then the recovery.
-fn wake_passed(board: &mut [u64], work: &mut [u64], view: View, allowance: u32) -> Answer
-    requires { ⌜ Shaped (now board) (now work) view ⌝ }
-    ensures { λ r. ⌜ Answers allowance zero (now (board .entry)) (now (work .entry)) (wakeVerdict (now (board .entry)) (now (work .entry)) view) (now (board .exit)) (now (work .exit)) r ⌝ }
-{
-    let undo = view.undo(Registers::zero());
-    let found = undo::first_improper(board, undo, view.shape.lines);
-    if found < view.control.length {
-        return refusal(Status::Entry, found, Registers::zero());
-    }
-    wake(board, work, undo, view.shape.lines, allowance)
 }
 
 // The board as of its persisted epoch, and a controller that starts from there.
 pub fn power_up(board: &mut [u64], work: &mut [u64], allowance: u32) -> Answer
-    ensures { λ r. ⌜ Answers allowance zero (now (board .entry)) (now (work .entry)) (powerUpVerdict (now (board .entry)) (now (work .entry))) (now (board .exit)) (now (work .exit)) r ⌝ }
+    ensures { λ r. ⌜ Answers allowance allZero (now (board .entry)) (now (work .entry)) (powerUpVerdict (now (board .entry)) (now (work .entry))) (now (board .exit)) (now (work .exit)) r ⌝ }
 {
-    let checked = checks::check_memories(board, work);
+    let checked = checks::check_power_up(board, work);
     match checked {
-        Checked::Refused(status) => refusal(status, 0, Registers::zero()),
-        Checked::Passed(view) => wake_passed(board, work, view, allowance),
+        Checked::Refused(status, value) => refusal(status, value, Registers::all_zero()),
+        Checked::Passed(view) => power_up_passed(board, work, view, allowance),
     }
 }

@@ -36,7 +36,7 @@ pub struct Answer {
     pub registers: Registers,
 }
 
-// The answer of a call that takes no registers and returns none.
+// The answer of a call that returns no registers.
 pub struct Report {
     pub status: Status,
     pub value: u64,
@@ -68,7 +68,7 @@ fn refusal(status: Status, value: u64, registers: Registers) -> Answer
     }
 }
 
-// The end of every call with an allowance: the only place that asks whether the current went.
+// The end of every call that may store to the board: the only place that asks the meter whether the current went.
 fn finish(
     work: &mut [u64],
     meter: Meter,
@@ -85,7 +85,7 @@ fn finish(
             status: Status::Cut,
             value: 0,
             stores: allowance,
-            registers: Registers::zero(),
+            registers: Registers::all_zero(),
         };
     }
     Answer {

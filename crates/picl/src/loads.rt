@@ -1,15 +1,15 @@
-// Load, store and evict are the calls that name a line. Each makes its tests in the order of the paper's table, in functions with one caller each,
-// so that compilers join them. Their names tell how far it has come: running, 1, 2 and 4 have passed; named, 5 too; sited, 6 and the test of the
-// count, and one pass over the set has found the line's slot; passed, all rows; at, and the log's numbers are known. This is load.
+// Load, store and evict are the calls that name a line. Each makes its tests in the order of the paper's table. The names of their
+// functions tell how far a call has come: named, 1, 2, 4 and 5 have passed; passed, one pass over the set has found the line's slot, and
+// all other tests have passed; at, and the log's numbers are known. This is load.
 ghost use Prim.Native.Nat.{_+_, _*_};
 ghost use mathlib.Core.Path.{_≡_};
 ghost use Rattle.checks.specs.declared.Checked.the-variants.{Passed};
-ghost use Rattle.checks.specs.Refusals.{runningChecked};
+ghost use Rattle.checks.specs.Refusals.{namedChecked, lineChecked};
 ghost use Rattle.steps.specs.Contracts.{FillReady};
 ghost use Rattle.board.specs.Verdict.{due};
 ghost use Rattle.picl.specs.Calls as call;
-ghost use Rattle.picl.specs.Calls.{loadAt, loadOutcome};
-ghost use Rattle.picl.specs.Contracts.{Answers, Calls, Named, Sited, LinePassed, Found};
+ghost use Rattle.picl.specs.Calls.{loadAt};
+ghost use Rattle.picl.specs.Contracts.{Answers, Calls, Found};
 ghost use Rattle.slots.specs.Sets.{spotOf};
 use crate::Answer;
 use crate::finish_slot;
@@ -52,33 +52,13 @@ fn load_passed(
     spot: Spot,
     allowance: u32,
 ) -> Answer
-    requires { ⌜ LinePassed (now board) (now work) registers address view ⌝ }
+    requires { ⌜ Passed view ≡ lineChecked (now board) (now work) registers address ⌝ }
     requires { ⌜ spot ≡ spotOf (now work) (view .slots) address ⌝ }
-    ensures { λ r. ⌜ Answers allowance registers (now (board .entry)) (now (work .entry))
-        (due (loadOutcome (now (board .entry)) (now (work .entry)) registers address view)) (now (board .exit)) (now (work .exit)) r ⌝ }
+    ensures { λ r. ⌜ Calls (call.load address) allowance registers (now (board .entry)) (now (work .entry)) (now (board .exit)) (now (work .exit)) r ⌝ }
 {
     let undo = view.undo(registers);
     let was = slots::is_dirty_at(work, spot.slot);
     load_at(board, work, registers, undo, address, spot, was, allowance)
-}
-
-fn load_sited(
-    board: &mut [u64],
-    work: &mut [u64],
-    registers: Registers,
-    address: u64,
-    view: View,
-    spot: Spot,
-    allowance: u32,
-) -> Answer
-    requires { ⌜ Sited (now board) (now work) registers address view spot ⌝ }
-    ensures { λ r. ⌜ Calls (call.load address) allowance registers (now (board .entry)) (now (work .entry)) (now (board .exit)) (now (work .exit)) r ⌝ }
-{
-    let buffered = checks::check_buffer(view, work, registers);
-    match buffered {
-        Checked::Refused(status) => refusal(status, 0, registers),
-        Checked::Passed(_) => load_passed(board, work, registers, address, view, spot, allowance),
-    }
 }
 
 fn load_named(
@@ -87,18 +67,18 @@ fn load_named(
     registers: Registers,
     address: u64,
     view: View,
-    least: u64,
-    tags: u64,
     allowance: u32,
 ) -> Answer
-    requires { ⌜ Named (now board) (now work) registers address view least tags ⌝ }
+    requires { ⌜ Passed view ≡ namedChecked (now board) (now work) registers address ⌝ }
     ensures { λ r. ⌜ Calls (call.load address) allowance registers (now (board .entry)) (now (work .entry)) (now (board .exit)) (now (work .exit)) r ⌝ }
 {
+    let least = view.least_tag();
+    let tags = view.tags(registers);
     let site = slots::site_for(work, view.slots, view.shape.lines, least, tags, address);
-    let proper = checks::check_set(view, work, registers, site);
-    match proper {
-        Checked::Refused(status) => refusal(status, 0, registers),
-        Checked::Passed(_) => load_sited(
+    let checked = checks::check_site(view, work, registers, site);
+    match checked {
+        Checked::Refused(status, value) => refusal(status, value, registers),
+        Checked::Passed(_) => load_passed(
             board,
             work,
             registers,
@@ -107,37 +87,6 @@ fn load_named(
             slots::spot_at(site),
             allowance,
         ),
-    }
-}
-
-fn load_running(
-    board: &mut [u64],
-    work: &mut [u64],
-    registers: Registers,
-    address: u64,
-    view: View,
-    allowance: u32,
-) -> Answer
-    requires { ⌜ Passed view ≡ runningChecked (now board) (now work) registers ⌝ }
-    ensures { λ r. ⌜ Calls (call.load address) allowance registers (now (board .entry)) (now (work .entry)) (now (board .exit)) (now (work .exit)) r ⌝ }
-{
-    let named = checks::check_address(view, address);
-    match named {
-        Checked::Refused(status) => refusal(status, 0, registers),
-        Checked::Passed(_) => {
-            let least = view.least_tag();
-            let tags = view.tags(registers);
-            load_named(
-                board,
-                work,
-                registers,
-                address,
-                view,
-                least,
-                tags,
-                allowance,
-            )
-        }
     }
 }
 
@@ -151,22 +100,9 @@ pub fn load(
 ) -> Answer
     ensures { λ r. ⌜ Calls (call.load address) allowance registers (now (board .entry)) (now (work .entry)) (now (board .exit)) (now (work .exit)) r ⌝ }
 {
-    let memories = checks::check_memories(board, work);
-    match memories {
-        Checked::Refused(status) => refusal(status, 0, registers),
-        Checked::Passed(view) => {
-            let running = checks::check_registers(view, registers);
-            match running {
-                Checked::Refused(status) => refusal(status, 0, registers),
-                Checked::Passed(_) => load_running(
-                    board,
-                    work,
-                    registers,
-                    address,
-                    view,
-                    allowance,
-                ),
-            }
-        }
+    let named = checks::check_named(board, work, registers, address);
+    match named {
+        Checked::Refused(status, value) => refusal(status, value, registers),
+        Checked::Passed(view) => load_named(board, work, registers, address, view, allowance),
     }
 }

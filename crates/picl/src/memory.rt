@@ -42,15 +42,9 @@ pub fn filter_bits(work: &[u64]) -> Report
 pub fn tally(board: &[u64], work: &[u64], registers: Registers) -> Report
     ensures { λ r. ⌜ r ≡ tallyReport (now (board .entry)) (now (work .entry)) registers ⌝ }
 {
-    let memories = checks::check_memories(board, work);
-    match memories {
-        Checked::Refused(status) => Report::unstored(status, 0),
-        Checked::Passed(view) => {
-            let running = checks::check_registers(view, registers);
-            match running {
-                Checked::Refused(status) => Report::unstored(status, 0),
-                Checked::Passed(_) => Report::unstored(Status::Ok, registers.dirty),
-            }
-        }
+    let running = checks::check_running(board, work, registers);
+    match running {
+        Checked::Refused(status, value) => Report::unstored(status, value),
+        Checked::Passed(_) => Report::unstored(Status::Ok, registers.dirty),
     }
 }

@@ -1,12 +1,12 @@
-// Store. Its functions are named as those of load are; buffered: 7 and 14 have passed too.
+// Store. Its functions are named as those of load are; buffered: all tests but 8 have passed.
 ghost use mathlib.Core.Path.{_≡_};
 ghost use Rattle.checks.specs.declared.Checked.the-variants.{Passed};
-ghost use Rattle.checks.specs.Refusals.{runningChecked, lineChecked};
+ghost use Rattle.checks.specs.Refusals.{namedChecked, lineChecked};
 ghost use Rattle.steps.specs.Contracts.{StoreReady};
 ghost use Rattle.board.specs.Verdict.{due};
 ghost use Rattle.picl.specs.Calls as call;
 ghost use Rattle.picl.specs.Calls.{storeAt, storeOutcome};
-ghost use Rattle.picl.specs.Contracts.{Answers, Calls, Named, Sited, StorePassed, Found};
+ghost use Rattle.picl.specs.Contracts.{Answers, Calls, StorePassed, Found};
 ghost use Rattle.slots.specs.Sets.{spotOf};
 use crate::Answer;
 use crate::finish_slot;
@@ -93,37 +93,8 @@ fn store_buffered(
 {
     let checked = checks::check_room(view, work, registers, spot);
     match checked {
-        Checked::Refused(status) => refusal(status, 0, registers),
+        Checked::Refused(status, refused_with) => refusal(status, refused_with, registers),
         Checked::Passed(_) => store_passed(
-            board,
-            work,
-            registers,
-            address,
-            value,
-            view,
-            spot,
-            allowance,
-        ),
-    }
-}
-
-fn store_sited(
-    board: &mut [u64],
-    work: &mut [u64],
-    registers: Registers,
-    address: u64,
-    value: u64,
-    view: View,
-    spot: Spot,
-    allowance: u32,
-) -> Answer
-    requires { ⌜ Sited (now board) (now work) registers address view spot ⌝ }
-    ensures { λ r. ⌜ Calls (call.store address value) allowance registers (now (board .entry)) (now (work .entry)) (now (board .exit)) (now (work .exit)) r ⌝ }
-{
-    let buffered = checks::check_buffer(view, work, registers);
-    match buffered {
-        Checked::Refused(status) => refusal(status, 0, registers),
-        Checked::Passed(_) => store_buffered(
             board,
             work,
             registers,
@@ -143,18 +114,18 @@ fn store_named(
     address: u64,
     value: u64,
     view: View,
-    least: u64,
-    tags: u64,
     allowance: u32,
 ) -> Answer
-    requires { ⌜ Named (now board) (now work) registers address view least tags ⌝ }
+    requires { ⌜ Passed view ≡ namedChecked (now board) (now work) registers address ⌝ }
     ensures { λ r. ⌜ Calls (call.store address value) allowance registers (now (board .entry)) (now (work .entry)) (now (board .exit)) (now (work .exit)) r ⌝ }
 {
+    let least = view.least_tag();
+    let tags = view.tags(registers);
     let site = slots::site_for(work, view.slots, view.shape.lines, least, tags, address);
-    let proper = checks::check_set(view, work, registers, site);
-    match proper {
-        Checked::Refused(status) => refusal(status, 0, registers),
-        Checked::Passed(_) => store_sited(
+    let checked = checks::check_site(view, work, registers, site);
+    match checked {
+        Checked::Refused(status, refused_with) => refusal(status, refused_with, registers),
+        Checked::Passed(_) => store_buffered(
             board,
             work,
             registers,
@@ -164,39 +135,6 @@ fn store_named(
             slots::spot_at(site),
             allowance,
         ),
-    }
-}
-
-fn store_running(
-    board: &mut [u64],
-    work: &mut [u64],
-    registers: Registers,
-    address: u64,
-    value: u64,
-    view: View,
-    allowance: u32,
-) -> Answer
-    requires { ⌜ Passed view ≡ runningChecked (now board) (now work) registers ⌝ }
-    ensures { λ r. ⌜ Calls (call.store address value) allowance registers (now (board .entry)) (now (work .entry)) (now (board .exit)) (now (work .exit)) r ⌝ }
-{
-    let named = checks::check_address(view, address);
-    match named {
-        Checked::Refused(status) => refusal(status, 0, registers),
-        Checked::Passed(_) => {
-            let least = view.least_tag();
-            let tags = view.tags(registers);
-            store_named(
-                board,
-                work,
-                registers,
-                address,
-                value,
-                view,
-                least,
-                tags,
-                allowance,
-            )
-        }
     }
 }
 
@@ -211,23 +149,17 @@ pub fn store(
 ) -> Answer
     ensures { λ r. ⌜ Calls (call.store address value) allowance registers (now (board .entry)) (now (work .entry)) (now (board .exit)) (now (work .exit)) r ⌝ }
 {
-    let memories = checks::check_memories(board, work);
-    match memories {
-        Checked::Refused(status) => refusal(status, 0, registers),
-        Checked::Passed(view) => {
-            let running = checks::check_registers(view, registers);
-            match running {
-                Checked::Refused(status) => refusal(status, 0, registers),
-                Checked::Passed(_) => store_running(
-                    board,
-                    work,
-                    registers,
-                    address,
-                    value,
-                    view,
-                    allowance,
-                ),
-            }
-        }
+    let named = checks::check_named(board, work, registers, address);
+    match named {
+        Checked::Refused(status, refused_with) => refusal(status, refused_with, registers),
+        Checked::Passed(view) => store_named(
+            board,
+            work,
+            registers,
+            address,
+            value,
+            view,
+            allowance,
+        ),
     }
 }

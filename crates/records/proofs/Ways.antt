@@ -15,7 +15,7 @@ use Rattle.layout.specs.Limits.{addressBits}
 use Rattle.layout.specs.Words.{Decoded, RecordFits, decodeRecord}
 use Rattle.layout.specs.Bytes.{bytesOfWord, bytesOf, withByte, AreBytes, bytes-take}
 use Rattle.status.specs.declared.Status.the-variants.{Ok, Trace}
-use Rattle.benchcalls.specs.declared.Call.{Call}
+use Rattle.records.specs.declared.Call.{Call}
 use Rattle.records.specs.declared.Reader.{Reader}
 use Rattle.records.specs.declared.Reading.{Reading}
 use Rattle.records.specs.declared.Reading.the-variants.{Recorded, Refused}

@@ -21,8 +21,8 @@ use Rattle.layout.specs.Bytes.{bytesOfWord, bytesOf, wordOf, withByte, AreBytes
 use Rattle.layout.specs.Laws.{record-laws}
 use Rattle.status.specs.declared.Status.{Status}
 use Rattle.status.specs.declared.Status.the-variants.{Ok, Trace}
-use Rattle.benchcalls.specs.declared.Call.{Call}
-use Rattle.benchcalls.specs.declared.Call.the-variants.{Load, Store, Evict, Commit, Scan}
+use Rattle.records.specs.declared.Call.{Call}
+use Rattle.records.specs.declared.Call.the-variants.{Load, Store, Evict, Commit, Scan}
 use Rattle.records.specs.declared.Reader.{Reader}
 use Rattle.records.specs.declared.Reading.the-variants.{End, Recorded, Refused}
 use Rattle.records.specs.declared.Written.{Written}

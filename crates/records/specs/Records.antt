@@ -9,8 +9,8 @@ use Rattle.layout.specs.Limits.{addressBits}
 use Rattle.layout.specs.Words.{encodeRecord, decodeRecord}
 use Rattle.layout.specs.Bytes.{bytesOfWord, bytesOf, wordOf}
 use Rattle.status.specs.declared.Status.the-variants.{Ok, Trace}
-use Rattle.benchcalls.specs.declared.Call.{Call}
-use Rattle.benchcalls.specs.declared.Call.the-variants.{Load, Store, Evict, Commit, Scan}
+use Rattle.records.specs.declared.Call.{Call}
+use Rattle.records.specs.declared.Call.the-variants.{Load, Store, Evict, Commit, Scan}
 use Rattle.records.specs.declared.Written.{Written}
 use Rattle.records.specs.declared.Reading.{Reading}
 use Rattle.records.specs.declared.Reading.the-variants.{End, Recorded, Refused}

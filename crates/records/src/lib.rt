@@ -7,11 +7,22 @@ ghost use mathlib.Core.Bool.{true};
 ghost use Rattle.layout.specs.Bytes.{bytesOf};
 ghost use Rattle.records.specs.Records.{recordBytes, hasPlace, callOf, firstWord, written, wordsReading, reading as bytesReading};
 ghost use Rattle.records.specs.Steps.{newReader, isNew, isFull, stepOf, readingBy};
-use benchcalls::Call;
 use layout::ADDRESSES;
 use layout::BYTES_OF_WORD;
 use layout::Record;
 use status::Status;
+
+// The calls that a record holds, and that bench programs make: those of a controller that runs.
+pub enum Call {
+    // An address.
+    Load(u64),
+    // An address and a value.
+    Store(u64, u64),
+    // An address.
+    Evict(u64),
+    Commit,
+    Scan,
+}
 
 pub const RECORD_BYTES: usize = 2 * BYTES_OF_WORD;
 

@@ -1,2 +1,3 @@
 pub mod Machine
+pub mod Runs
 pub mod Work

@@ -7,4 +7,4 @@ pub mod Empty
 pub mod Load
 pub mod Store
 pub mod Scan
-pub mod Wake
+pub mod Restart

@@ -10,6 +10,7 @@ use Rattle.layout.specs.declared.Entry.{Entry}
 use Rattle.layout.specs.declared.Slot.{Slot}
 use Rattle.layout.specs.Memory.{bufferWords, withBuffer, slotIn}
 use Rattle.undo.specs.declared.LogState.{LogState}
+use Rattle.ranges.specs.Ranges.{Waits}
 use Rattle.slots.specs.declared.Bounds.{Bounds}
 use Rattle.slots.specs.Slots.{dirtySlot}
 use Rattle.steps.specs.Effects.{logged}
@@ -36,15 +37,10 @@ aimed at target = record { cursor = at .cursor; target = target }
 abbrev pub next : Sweep → Sweep
 next at = record { cursor = at .cursor + 1; target = at .target }
 
--- an epoch that waits
-pub record Waits (b : Bounds) (epoch : ℕ) : Type 0 where
-  pub ahead : b .persisted < epoch
-  pub ended : epoch < b .epoch
-
 -- "Registers are proper with target 0 and c = 0, or with P < target < s."
 pub data Runs (b : Bounds) (at : Sweep) : Type 0 where
   outside : at .target ≡ 0 → at .cursor ≡ 0 → Runs b at
-  inside : Waits b (at .target) → Runs b at
+  inside : Waits (b .persisted) (b .epoch) (at .target) → Runs b at
 
 pub record Pass (b : Bounds) (work : List ℕ) (at : Sweep) : Type 0 where
   pub within : at .cursor ≤ b .slots
@@ -62,7 +58,7 @@ not-begun : (work : List ℕ) (target c : ℕ) → c ≡ 0 → SweptTo work c ta
 not-begun work target c e = subst (λ (n : ℕ). SweptTo work n target) (sym e) (swept-none work target)
 
 -- a pass begins: "it visits no slot"
-pub pass-begun : {b : Bounds} {work : List ℕ} {at : Sweep} → Pass b work at → at .target ≡ 0 → (target : ℕ) → Waits b target
+pub pass-begun : {b : Bounds} {work : List ℕ} {at : Sweep} → Pass b work at → at .target ≡ 0 → (target : ℕ) → Waits (b .persisted) (b .epoch) target
     → Pass b work (aimed at target)
 pass-begun {b} {work} {at} pass none target waits =
     record { within = pass .within; runs = inside waits; swept = not-begun work target (at .cursor) (start (pass .runs)) }
@@ -118,7 +114,7 @@ module _ {b : Bounds} {work : List ℕ} {at : Sweep} (pass : Pass b work at) whe
 
 -- ---- a visit of the slot at the cursor
 
-module _ {b : Bounds} {work : List ℕ} {at : Sweep} (pass : Pass b work at) (waits : Waits b (at .target)) (below : at .cursor < b .slots) where
+module _ {b : Bounds} {work : List ℕ} {at : Sweep} (pass : Pass b work at) (waits : Waits (b .persisted) (b .epoch) (at .target)) (below : at .cursor < b .slots) where
   pub pass-visited : {s : Slot} {word : ℕ} {lines : ℕ → Line} {work′ : List ℕ} → Stored b work (at .cursor) s word lines work′ → s .dirty ≡ false
       → Pass b work′ (next at)
   pass-visited {s = s} st clean =

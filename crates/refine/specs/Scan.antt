@@ -13,6 +13,7 @@ use Rattle.undo.specs.declared.LogState.{LogState}
 use Rattle.undo.specs.Log as undo
 use Rattle.undo.specs.Filter.{hits}
 use Rattle.undo.specs.Log.{advanceStores, dropped}
+use Rattle.ranges.specs.Ranges.{Waits}
 use Rattle.slots.specs.declared.Bounds.{Bounds}
 use Rattle.steps.specs.Effects.{nothing, flushingIf, writingOut, cleaning, visiting, persisting}
 use Rattle.slots.specs.Slots.{dirtySlot}
@@ -27,7 +28,7 @@ use Rattle.volatile.specs.Proper.{AtHome, is-clean, is-dirty, ProperSlot, is-em
 use Rattle.volatile.specs.Slotted.{slot-kind}
 use Rattle.volatile.specs.Stores.{cleaned-held}
 use Rattle.volatile.specs.Swept.{SweptTo, swept-scanned, advance-slotted}
-use Rattle.refine.specs.Pass.{Sweep, idle, aimed, next, Waits, Pass, pass-none, pass-begun, pass-visited, pass-passed}
+use Rattle.refine.specs.Pass.{Sweep, idle, aimed, next, Pass, pass-none, pass-begun, pass-visited, pass-passed}
 use Rattle.refine.specs.State.{Ok}
 use Rattle.refine.specs.Along.{Along, along-none, along-one, along-then}
 use Rattle.refine.specs.Flush.{Keeps, ok-off, flushing-if-keeps}
@@ -55,11 +56,11 @@ moved-ok o pass =
 -- ---- a pass begins
 
 pub begun-ok : {L : ℕ} {b : Bounds} {at : Sweep} {board work : List ℕ} {u : LogState} {g : Reference} → Ok L b at board work u g → at .target ≡ 0
-    → (target : ℕ) → Waits b target → Ok L b (aimed at target) board work u g
+    → (target : ℕ) → Waits (b .persisted) (b .epoch) target → Ok L b (aimed at target) board work u g
 begun-ok o none target waits = moved-ok o (pass-begun (o .pass) none target waits)
 
 module _ {L : ℕ} {b : Bounds} {at : Sweep} {board work : List ℕ} {u : LogState} {g : Reference} (o : Ok L b at board work u g)
-    (waits : Waits b (at .target)) where
+    (waits : Waits (b .persisted) (b .epoch) (at .target)) where
   abbrev c : ℕ
   c = at .cursor
 

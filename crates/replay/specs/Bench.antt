@@ -10,7 +10,7 @@ use Rattle.status.specs.Numbers.{isOk}
 use Rattle.checks.specs.declared.Registers.{Registers}
 use Rattle.checks.specs.Registers as registers
 use Rattle.picl.specs.declared.Answer.{Answer}
-use Rattle.benchboard.specs.Calls.{fullAllowance, woken}
+use Rattle.benchboard.specs.Calls.{fullAllowance, started}
 use Rattle.benchboard.specs.Sizes.{benchSized}
 use Rattle.script.specs.declared.Command.{Command}
 use Rattle.script.specs.declared.Command.the-variants as command
@@ -25,7 +25,7 @@ use Rattle.replay.specs.Calls.{requested, within}
 
 -- the bench before the first line
 abbrev pub newBench : Bench
-newBench = record { ready = false; board = 0; work = 0; registers = registers.zero; allowance = fullAllowance }
+newBench = record { ready = false; board = 0; work = 0; registers = registers.allZero; allowance = fullAllowance }
 
 -- a bench of which `n` was done, with the registers that a call returned; "allowance for the next call"
 abbrev pub readyBench : (boardWords workWords : ℕ) → Registers → (allowance : ℕ) → Bench
@@ -61,11 +61,11 @@ pub record Effect : Type 0 where
   pub work : List ℕ
 
 -- "Any other line, larger sizes included, gives `?` .. and ends it"
-abbrev pub refusedStep : Bench → Step
-refusedStep b = record { bench = b; reply = Bad }
+abbrev pub badStep : Bench → Step
+badStep b = record { bench = b; reply = Bad }
 
 abbrev pub refusing : Bench → (board work : List ℕ) → Effect
-refusing b board work = record { step = refusedStep b; board = board; work = work }
+refusing b board work = record { step = badStep b; board = board; work = work }
 
 -- "`k count` (allowance for the next call, the last `k` before it counting, no output"
 abbrev pub readyStep : Bench → (count : ℕ) → Step
@@ -73,7 +73,7 @@ readyStep b count = record { bench = readyBench (b .board) (b .work) (b .registe
 
 -- "first": none comes before `n`
 unfoldable pub allowedStep : Bench → (count : ℕ) → Step
-allowedStep b count = cond (b .ready) (readyStep b count) (refusedStep b)
+allowedStep b count = cond (b .ready) (readyStep b count) (badStep b)
 
 unfoldable pub allowing : Bench → (count : ℕ) → (board work : List ℕ) → Effect
 allowing b count board work = record { step = allowedStep b count; board = board; work = work }
@@ -93,7 +93,7 @@ requesting b q board work = cond (b .ready) (running b q board work) (refusing b
 
 unfoldable pub starting : (lines entries slots : ℕ) → (board work : List ℕ) → Effect
 starting lines entries slots board work =
-    let l = within (boardWords lines entries) (workWords slots) (woken lines entries) board work in
+    let l = within (boardWords lines entries) (workWords slots) (started lines entries) board work in
     record {
       step = record {
         bench = readyBench (boardWords lines entries) (workWords slots) (l .answer .registers) fullAllowance;

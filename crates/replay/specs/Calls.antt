@@ -3,8 +3,9 @@ use Prim.Native.Nat.{ℕ}
 use mathlib.Core.List.{List, _++_}
 use lib.ListN.{take, drop}
 use Rattle.checks.specs.declared.Registers.{Registers}
-use Rattle.picl.specs.Calls.{verdictOf}
-use Rattle.benchboard.specs.Calls.{Left, left, callOf, powered}
+use Rattle.checks.specs.Registers as registers
+use Rattle.picl.specs.Calls.{verdictOf, powerUpVerdict}
+use Rattle.benchboard.specs.Calls.{Left, left, callOf}
 use Rattle.replay.specs.declared.Request.{Request}
 use Rattle.replay.specs.declared.Request.the-variants.{Call, PowerUp}
 
@@ -12,7 +13,7 @@ use Rattle.replay.specs.declared.Request.the-variants.{Call, PowerUp}
 -- work memory, so both are lost.
 unfoldable pub requested : Request → Registers → (allowance : ℕ) → (board work : List ℕ) → Left
 requested (Call c) r allowance board work = left allowance r board work (verdictOf board work r (callOf c))
-requested PowerUp r allowance board work = powered allowance board work
+requested PowerUp r allowance board work = left allowance registers.allZero board work (powerUpVerdict board work)
 
 -- what is lent the first words of each memory: the others stay
 unfoldable pub within : (boardWords workWords : ℕ) → (List ℕ → List ℕ → Left) → (board work : List ℕ) → Left

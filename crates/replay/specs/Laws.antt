@@ -17,8 +17,8 @@ use Rattle.picl.specs.declared.Answer.{Answer}
 use Rattle.picl.specs.Answers.{Verdict}
 use Rattle.picl.specs.Calls.{powerUpVerdict}
 use Rattle.picl.specs.Contracts.{Answers, Calls}
-use Rattle.benchcalls.specs.declared.Call.{Call}
-use Rattle.benchboard.specs.Calls.{Left, fullAllowance, callOf, left, woken, Leaves}
+use Rattle.records.specs.declared.Call.{Call}
+use Rattle.benchboard.specs.Calls.{Left, fullAllowance, callOf, left, started, Leaves}
 use Rattle.benchboard.specs.Sizes.{benchSized, Sizes, sizes-tested}
 use Rattle.script.specs.declared.Command.{Command}
 use Rattle.script.specs.declared.Command.the-variants as command
@@ -31,7 +31,7 @@ use Rattle.replay.specs.declared.Bench.{Bench}
 use Rattle.replay.specs.declared.Step.{Step}
 use Rattle.replay.specs.Calls.{requested, within}
 use Rattle.replay.specs.Bench.{Effect, newBench, readyBench, answeredBench, lineWith, lineOf, startReply}
-use Rattle.replay.specs.Bench.{refusedStep, refusing, readyStep, allowedStep, allowing}
+use Rattle.replay.specs.Bench.{badStep, refusing, readyStep, allowedStep, allowing}
 use Rattle.replay.specs.Bench.{running, requesting, starting, formatting, performed}
 use Rattle.replay.specs.Contracts.{Performs, Lent}
 
@@ -53,7 +53,7 @@ module _ (q : Request) (r : Registers) (allowance : ℕ) (board work board′ wo
   unfolding requested
   requested-call c e p = rw e (answered p)
 
-  pub requested-power-up : q ≡ request.PowerUp → Answers allowance registers.zero board work (powerUpVerdict board work) board′ work′ a
+  pub requested-power-up : q ≡ request.PowerUp → Answers allowance registers.allZero board work (powerUpVerdict board work) board′ work′ a
       → Leaves (requested q r allowance board work) board′ work′ a
   unfolding requested
   requested-power-up e p = rw e (answered p)
@@ -72,19 +72,19 @@ module _ (l : Line) (t : Bool) (is : t ≡ isOk (l .status)) where
 
 -- ── the bench ──
 
-pub bench-new : (z : Registers) → z ≡ registers.zero
+pub bench-new : (z : Registers) → z ≡ registers.allZero
     → _≡_ {A = Bench} (record { ready = false; board = 0; work = 0; registers = z; allowance = fullAllowance }) newBench
 bench-new z e = rw e
 
 module _ (b : Bench) where
-  pub allow-refused : (count : ℕ) (s : Step) → not (b .ready) ≡ true → s ≡ refusedStep b → s ≡ allowedStep b count
+  pub allow-refused : (count : ℕ) (s : Step) → not (b .ready) ≡ true → s ≡ badStep b → s ≡ allowedStep b count
   unfolding allowedStep
-  allow-refused count s h e = e ∙ sym (cond-false (b .ready) (readyStep b count) (refusedStep b) (not-true (b .ready) h))
+  allow-refused count s h e = e ∙ sym (cond-false (b .ready) (readyStep b count) (badStep b) (not-true (b .ready) h))
 
   pub allow-done : (count : ℕ) → not (b .ready) ≡ false
       → readyStep b count ≡ allowedStep b count
   unfolding allowedStep
-  allow-done count h = sym (cond-true (b .ready) (readyStep b count) (refusedStep b) (not-false (b .ready) h))
+  allow-done count h = sym (cond-true (b .ready) (readyStep b count) (badStep b) (not-false (b .ready) h))
 
 -- a part from the memory's start, as it is lent and as it comes back
 abbrev lent : ℕ → List ℕ → List ℕ
@@ -113,17 +113,17 @@ module _ (board work part workPart : List ℕ) (a : Answer) (line : Line) where
       record { step = rw (g, d, k .answer, k .board-left); board-left = k .board-left; work-left = k .work-left }
 
   pub start-done : (lines entries slots n w : ℕ) (reply : Reply) → n ≡ boardWords lines entries → w ≡ workWords slots
-      → Leaves (woken lines entries (lent n board) (lent w work)) part workPart a
+      → Leaves (started lines entries (lent n board) (lent w work)) part workPart a
       → line ≡ lineOf a (getD (back n board part) controlAt 0) → reply ≡ startReply line
       → Performs (starting lines entries slots board work) (back n board part) (back w work workPart)
       (record { bench = readyBench n w (a .registers) fullAllowance; reply = reply })
   unfolding starting
   start-done lines entries slots n w reply i j l d g =
-      let k = part-within n w (woken lines entries) board work part workPart a l in
+      let k = part-within n w (started lines entries) board work part workPart a l in
       rw (← i, ← j) (record { step = rw (g, d, k .answer, k .board-left); board-left = k .board-left; work-left = k .work-left })
 
 module _ (b : Bench) (board work : List ℕ) (s : Step) where
-  pub request-refused : (q : Request) → not (b .ready) ≡ true → s ≡ refusedStep b → Performs (requesting b q board work) board work s
+  pub request-refused : (q : Request) → not (b .ready) ≡ true → s ≡ badStep b → Performs (requesting b q board work) board work s
   unfolding requesting
   request-refused q h e = moved (cond-false (b .ready) (running b q board work) (refusing b board work) (not-true (b .ready) h)) (still e)
 
@@ -136,7 +136,7 @@ module _ (b : Bench) (board work : List ℕ) (s : Step) where
     abbrev sized : Bool → Effect
     sized good = cond good (starting lines entries slots board work) (refusing b board work)
 
-    pub format-again : b .ready ≡ true → s ≡ refusedStep b → Performs (formatting b lines entries slots board work) board work s
+    pub format-again : b .ready ≡ true → s ≡ badStep b → Performs (formatting b lines entries slots board work) board work s
     unfolding formatting
     format-again h e = moved (cond-true (b .ready) (refusing b board work) (sized (benchSized lines entries slots)) h) (still e)
 
@@ -145,7 +145,7 @@ module _ (b : Bench) (board work : List ℕ) (s : Step) where
       unfolding formatting
       format-first = cond-false (b .ready) (refusing b board work) (sized (benchSized lines entries slots)) first ∙ ap sized (sym is)
 
-      pub format-large : not good ≡ true → s ≡ refusedStep b → Performs (formatting b lines entries slots board work) board work s
+      pub format-large : not good ≡ true → s ≡ badStep b → Performs (formatting b lines entries slots board work) board work s
       format-large h e = moved (format-first ∙ ap sized (not-true good h)) (still e)
 
       pub format-starts : (board′ work′ : List ℕ) → not good ≡ false → Performs (starting lines entries slots board work) board′ work′ s
@@ -167,6 +167,6 @@ module _ (b : Bench) (k : Command) (board work : List ℕ) (s : Step) where
   unfolding performed allowing
   command-allow count e p = rw e (still p)
 
-  pub command-bad : k ≡ command.Bad → s ≡ refusedStep b → Performs (performed b k board work) board work s
+  pub command-bad : k ≡ command.Bad → s ≡ badStep b → Performs (performed b k board work) board work s
   unfolding performed
   command-bad e p = rw e (still p)

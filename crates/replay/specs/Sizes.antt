@@ -11,7 +11,7 @@ use Rattle.replay.specs.declared.Request.{Request}
 use Rattle.replay.specs.declared.Request.the-variants as request
 use Rattle.replay.specs.declared.Bench.{Bench}
 use Rattle.replay.specs.declared.Step.{Step}
-use Rattle.replay.specs.Bench.{Effect, newBench, refusing, refusedStep, readyStep, allowedStep, allowing}
+use Rattle.replay.specs.Bench.{Effect, newBench, refusing, badStep, readyStep, allowedStep, allowing}
 use Rattle.replay.specs.Bench.{running, requesting, starting, formatting, performed}
 use Rattle.replay.specs.Contracts.{Performs, Sized}
 
@@ -23,7 +23,7 @@ module _ (b : Bench) (board work : List ℕ) (s : Sized b) where
   choice-sized true e f p q = p
   choice-sized false e f p q = q
 
-  allow-sized : (t : Bool) (count : ℕ) → Sized (cond t (readyStep b count) (refusedStep b) .bench)
+  allow-sized : (t : Bool) (count : ℕ) → Sized (cond t (readyStep b count) (badStep b) .bench)
   allow-sized true count = record { board = s .board; work = s .work }
   allow-sized false count = s
 

@@ -4,15 +4,15 @@ ghost use mathlib.Core.Path.{_≡_};
 ghost use Rattle.benchboard.specs.Calls.{Leaves};
 ghost use Rattle.benchboard.specs.Sizes.{Sizes};
 ghost use Rattle.replay.specs.Calls.{requested};
-ghost use Rattle.replay.specs.Bench.{newBench, answeredBench, refusedStep, allowedStep, lineOf, startReply};
+ghost use Rattle.replay.specs.Bench.{newBench, answeredBench, badStep, allowedStep, lineOf, startReply};
 ghost use Rattle.replay.specs.Bench.{running, requesting, starting, formatting, performed};
 ghost use Rattle.replay.specs.Contracts.{Performs, Lent};
 use benchboard::FULL_ALLOWANCE;
-use benchcalls::Call;
 use checks::Registers;
 use layout::CONTROL_AT;
 use layout::Control;
 use picl::Answer;
+use records::Call;
 use script::Command;
 use status::Status;
 
@@ -70,7 +70,7 @@ impl Bench {
             ready: false,
             board: 0,
             work: 0,
-            registers: Registers::zero(),
+            registers: Registers::all_zero(),
             allowance: FULL_ALLOWANCE,
         }
     }
@@ -88,8 +88,8 @@ impl Bench {
         }
     }
 
-    fn refused(self) -> Step
-        ensures { λ r. ⌜ r ≡ refusedStep self ⌝ }
+    fn bad(self) -> Step
+        ensures { λ r. ⌜ r ≡ badStep self ⌝ }
     {
         Step {
             bench: self,
@@ -102,7 +102,7 @@ impl Bench {
         ensures { λ r. ⌜ r ≡ allowedStep self count ⌝ }
     {
         if !self.ready {
-            return self.refused();
+            return self.bad();
         }
         let registers = self.registers;
         Step {
@@ -179,7 +179,7 @@ fn perform_request(board: &mut [u64], work: &mut [u64], bench: Bench, request: R
     ensures { λ r. ⌜ Performs (requesting bench request (now (board .entry)) (now (work .entry))) (now (board .exit)) (now (work .exit)) r ⌝ }
 {
     if !bench.ready {
-        return bench.refused();
+        return bench.bad();
     }
     run_within(board, work, bench, request)
 }
@@ -201,7 +201,7 @@ fn start(board: &mut [u64], work: &mut [u64], lines: u64, entries: u64, slots: u
 {
     let words = layout::board_words(lines, entries);
     let work_words = layout::work_words(slots as usize);
-    let answer = benchboard::wake(
+    let answer = benchboard::start(
         &mut board[0..words],
         &mut work[0..work_words],
         lines,
@@ -235,10 +235,10 @@ fn format(
     ensures { λ r. ⌜ Performs (formatting bench lines entries slots (now (board .entry)) (now (work .entry))) (now (board .exit)) (now (work .exit)) r ⌝ }
 {
     if bench.ready {
-        return bench.refused();
+        return bench.bad();
     }
     if !benchboard::is_bench_sized(lines, entries, slots) {
-        return bench.refused();
+        return bench.bad();
     }
     start(board, work, lines, entries, slots)
 }
@@ -253,6 +253,6 @@ pub fn perform(board: &mut [u64], work: &mut [u64], bench: Bench, command: Comma
         Command::Call(call) => perform_request(board, work, bench, Request::Call(call)),
         Command::PowerUp => perform_request(board, work, bench, Request::PowerUp),
         Command::Allow(count) => bench.allow(count),
-        Command::Bad => bench.refused(),
+        Command::Bad => bench.bad(),
     }
 }

@@ -1,7 +1,7 @@
 -- Lines that the definition reads as the paper does: of its worked script those of each kind, and the bounds.
 use mathlib.Core.Path.{_≡_, refl}
 use mathlib.Core.List.{[], _∷_}
-use Rattle.benchcalls.specs.declared.Call.the-variants.{Load, Store, Evict, Commit, Scan}
+use Rattle.records.specs.declared.Call.the-variants.{Load, Store, Evict, Commit, Scan}
 use Rattle.script.specs.declared.Command.the-variants.{Format, Call, PowerUp, Allow, Bad}
 use Rattle.script.specs.Syntax.{fields, every, isNumber, commandWith, commandIn, commandOf}
 

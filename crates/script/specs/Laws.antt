@@ -1,7 +1,8 @@
--- That the reader reads what the syntax says: `reads`, for every list of bytes. Before it, the laws that the functions' proofs cite; after it, those for a caller's loop.
+-- That the reader reads what the syntax says: `reads`, for every list of bytes. Before it, the laws that the functions'
+-- proofs cite; after it, that the letter is the first byte, and the laws for a caller's loop.
 use Prim.Native.Nat.{ℕ, zero, suc, _+_, _-_, _/_, _^_, _≤_, _<_}
-use mathlib.Core.Path.{_≡_, refl, _∙_}
-use mathlib.Core.Bool.{Bool, true, false, cond, not, _&&_, _||_, and-false}
+use mathlib.Core.Path.{_≡_, refl, sym, _∙_}
+use mathlib.Core.Bool.{Bool, true, false, cond, not, _&&_, _||_, and-false, false≢true}
 use mathlib.Core.List.{List, [], _∷_, _++_, map, foldl, foldl-append}
 use lib.Dec.{ltb, leb, eqb, eqb·suc-zero}
 use lib.ListN.{length, take, getD}
@@ -13,7 +14,7 @@ use Rattle.script.specs.declared.Command.{Command}
 use Rattle.script.specs.declared.Command.the-variants.{Bad}
 use Rattle.script.specs.declared.Reader.{Reader}
 use Rattle.script.specs.Syntax.{Fields, spaced, prefixed, fields, every, isEmpty, isDigit, longer, valueOf, isNumber, commandWith, commandIn, commandOf}
-use Rattle.script.specs.Steps.{newReader, badReader, nextField, withLetter, withDigit, ended, lettered, digited, stepOf, numbersOf, commandBy, readerOf}
+use Rattle.script.specs.Steps.{newReader, badReader, nextField, withLetter, withDigit, ended, lettered, digited, stepOf, numbersOf, letterBy, commandBy, readerOf}
 
 pub ruleset tests = (lt-ltb, le-ltb, le-leb, lt-leb, eq-eqb, ne-eqb)
 
@@ -241,6 +242,59 @@ reads-on (b ∷ line) r = reads-on line (stepOf r b) ∙ at-byte r b (fields lin
 pub reads : (line : List ℕ) → commandBy (readerOf line) ≡ commandOf line
 unfolding commandOf meant readerOf
 reads line = reads-on line newReader
+
+-- ── the letter of a line is its first byte ──
+
+-- the reader has its letter, or the line is bad
+record HasLetter (letter : ℕ) (r : Reader) : Type 0 where
+  some : r .bad ≡ false → eqb (r .count) 0 && not (r .full) ≡ false
+  is : r .bad ≡ false → r .letter ≡ letter
+
+bad-letter : (letter : ℕ) → HasLetter letter badReader
+bad-letter letter = record { some = λ e. absurd (false≢true (sym e)); is = λ e. absurd (false≢true (sym e)) }
+
+-- it keeps it
+letter-kept : (letter : ℕ) (r : Reader) (b : ℕ) → HasLetter letter r → HasLetter letter (stepOf r b)
+unfolding stepOf ended lettered digited
+letter-kept letter r b h =
+    go (r .bad) (eqb b 32) (eqb (r .count) 0) (r .full) (ltb (r .count) 3) (isDigit b && ltb (longer (r .third) b) (2 ^ 64)) refl refl refl
+  where
+    go : (bad space first full few digit : Bool) → r .bad ≡ bad → eqb (r .count) 0 ≡ first → r .full ≡ full
+        → HasLetter letter (cond bad r (cond space (cond (full && few) (nextField r) badReader)
+        (cond first (cond full badReader (withLetter r b)) (cond digit (withDigit r b) badReader))))
+    go true space first full few digit e f g = h
+    go false true first true true digit e f g = record { some = λ x. rw (add-one, eqb·suc-zero (r .count)); is = λ x. h .is e }
+    go false true first true false digit e f g = bad-letter letter
+    go false true first false few digit e f g = bad-letter letter
+    go false false true true few digit e f g = bad-letter letter
+    go false false true false few digit e f g = absurd (false≢true (sym (rw (f, g) at (h .some e))))
+    go false false false full few true e f g = record { some = λ x. rw f; is = λ x. h .is e }
+    go false false false full few false e f g = bad-letter letter
+
+letter-begun : (b : ℕ) → HasLetter b (stepOf newReader b)
+unfolding stepOf ended lettered
+letter-begun b = go (eqb b 32)
+  where
+    go : (space : Bool) → HasLetter b (cond space badReader (withLetter newReader b))
+    go true = bad-letter b
+    go false = record { some = λ x. refl; is = λ x. refl }
+
+letter-on : (line : List ℕ) (letter : ℕ) (r : Reader) → HasLetter letter r → HasLetter letter (foldl stepOf r line)
+letter-on [] letter r h = h
+letter-on (b ∷ line) letter r h = letter-on line letter (stepOf r b) (letter-kept letter r b h)
+
+letter-is : (line : List ℕ) → readerOf line .bad ≡ false → letterBy (readerOf line) ≡ getD line 0 0
+unfolding readerOf
+letter-is [] e = refl
+letter-is (b ∷ line) e = letter-on line b (stepOf newReader b) (letter-begun b) .is e
+
+-- the reader's letter is the first byte, or the line is bad
+pub letter-or-bad : {C : Type 0} (line : List ℕ) → (letterBy (readerOf line) ≡ getD line 0 0 → C) → (commandOf line ≡ Bad → C) → C
+letter-or-bad {C} line good bad = go (readerOf line .bad) refl
+  where
+    go : (t : Bool) → readerOf line .bad ≡ t → C
+    go true e = bad (sym (reads line) ∙ sym (command-bad (readerOf line) e))
+    go false e = good (letter-is line e)
 
 -- ── for a caller's loop over the bytes of a line ──
 

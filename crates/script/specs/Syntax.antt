@@ -4,7 +4,7 @@ use Prim.Native.Nat.{ℕ, _+_, _-_, _*_, _^_}
 use mathlib.Core.Bool.{Bool, true, false, cond, not, _&&_}
 use mathlib.Core.List.{List, [], _∷_, map, foldl}
 use lib.Dec.{ltb, leb, eqb}
-use Rattle.benchcalls.specs.declared.Call.the-variants.{Load, Store, Evict, Commit, Scan}
+use Rattle.records.specs.declared.Call.the-variants.{Load, Store, Evict, Commit, Scan}
 use Rattle.script.specs.declared.Command.{Command}
 use Rattle.script.specs.declared.Command.the-variants.{Format, Call, PowerUp, Allow, Bad}
 

@@ -4,7 +4,7 @@ ghost use mathlib.Core.Path.{_≡_};
 ghost use mathlib.Core.List.{[], _∷_};
 ghost use Rattle.script.specs.Syntax.{commandWith};
 ghost use Rattle.script.specs.Steps.{readerOf, badReader, ended, lettered, digited, stepOf, letterBy, commandBy};
-use benchcalls::Call;
+use records::Call;
 
 const SPACE: u8 = b' ';
 
@@ -114,7 +114,7 @@ impl Reader {
 }
 
 // The reader of a bad line.
-fn refused() -> Reader
+fn bad_reader() -> Reader
     ensures { λ r. ⌜ r ≡ badReader ⌝ }
 {
     Reader {
@@ -133,10 +133,10 @@ fn end_field(r: Reader) -> Reader
     ensures { λ s. ⌜ s ≡ ended r ⌝ }
 {
     if !r.full {
-        return refused();
+        return bad_reader();
     }
     if r.count >= MOST {
-        return refused();
+        return bad_reader();
     }
     Reader {
         letter: r.letter,
@@ -154,7 +154,7 @@ fn take_letter(r: Reader, byte: u8) -> Reader
     ensures { λ s. ⌜ s ≡ lettered r byte ⌝ }
 {
     if r.full {
-        return refused();
+        return bad_reader();
     }
     Reader {
         letter: byte,
@@ -172,14 +172,14 @@ fn take_digit(r: Reader, byte: u8) -> Reader
     ensures { λ s. ⌜ s ≡ digited r byte ⌝ }
 {
     if byte < ZERO {
-        return refused();
+        return bad_reader();
     }
     if byte > NINE {
-        return refused();
+        return bad_reader();
     }
     let digit = (byte - ZERO) as u64;
     if r.third > (LARGEST - digit) / 10 {
-        return refused();
+        return bad_reader();
     }
     Reader {
         letter: r.letter,

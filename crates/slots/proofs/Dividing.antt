@@ -14,8 +14,8 @@ use Rattle.base.specs.Cases.{below-or-not}
 use Rattle.base.specs.Tests.{hold-together}
 use Rattle.layout.specs.Limits.{addressBits, ways, mostSlots}
 use Rattle.slots.specs.declared.sets.Sets.{Sets}
-use Rattle.slots.specs.Contracts.{SlotsReady}
-use Rattle.slots.specs.Passes.{one, near, Dividing, SetsOf, fractionOf, Remains}
+use Rattle.layout.specs.Sizes.{WholeSets}
+use Rattle.slots.specs.Passes.{scale, near, Dividing, SetsOf, fractionOf, Remains}
 
 -- one more, times m
 times-next : (r n m : ℕ) → r < n → r * m + m ≤ n * m
@@ -31,9 +31,9 @@ module _ (s : Sets) (d : Dividing s) where
   m = s .inverse
 
   abbrev excess : ℕ
-  excess = m * n - one
+  excess = m * n - scale
 
-  whole : m * n ≡ one + excess
+  whole : m * n ≡ scale + excess
   whole = omega (arith, d .least)
 
   -- the inverse is large
@@ -58,11 +58,11 @@ module _ (s : Sets) (d : Dividing s) where
     below : r < n
     below = mod-lt x (d .some)
 
-    product : x * m ≡ q * one + rest
+    product : x * m ≡ q * scale + rest
     product =
         let a : (n * q + r) * m ≡ n * q * m + r * m = add-mul (n * q) r m in
         let b : n * q * m ≡ q * (m * n) = ap (λ (y : ℕ). y * m) (mul-comm n q) ∙ mul-assoc q n m ∙ ap (λ (y : ℕ). q * y) (mul-comm n m) in
-        let c : q * (m * n) ≡ q * one + q * excess = ap (λ (y : ℕ). q * y) whole ∙ mul-add q one excess in
+        let c : q * (m * n) ≡ q * scale + q * excess = ap (λ (y : ℕ). q * y) whole ∙ mul-add q scale excess in
         let e : x * m ≡ (n * q + r) * m = ap (λ (y : ℕ). y * m) (sym parts) in
         omega (arith, a, b, c, e)
 
@@ -72,7 +72,7 @@ module _ (s : Sets) (d : Dividing s) where
         omega (arith, few, mul-comm q n, parts)
 
     -- n - 1 times the inverse is about the inverse below 2^32
-    rest-below : rest < one
+    rest-below : rest < scale
     rest-below =
         let most = times-next r n m below in
         omega (arith, most, mul-comm n m, whole, d .closely, d .most, inverse-large, excess-few)
@@ -99,35 +99,35 @@ module _ (s : Sets) (d : Dividing s) where
             absurd (omega (arith, least, inverse-large))
 
     -- and times the number of sets it gives the remainder back
-    remainder-product : rest * n ≡ r * one + excess * x
+    remainder-product : rest * n ≡ r * scale + excess * x
     remainder-product =
         let a : rest * n ≡ q * excess * n + r * m * n = add-mul (q * excess) (r * m) n in
-        let b : r * m * n ≡ r * one + r * excess = mul-assoc r m n ∙ ap (λ (y : ℕ). r * y) whole ∙ mul-add r one excess in
+        let b : r * m * n ≡ r * scale + r * excess = mul-assoc r m n ∙ ap (λ (y : ℕ). r * y) whole ∙ mul-add r scale excess in
         let c : q * excess * n ≡ excess * (n * q) =
         ap (λ (y : ℕ). y * n) (mul-comm q excess) ∙ mul-assoc excess q n ∙ ap (λ (y : ℕ). excess * y) (mul-comm q n) in
         let e : excess * x ≡ excess * (n * q) + excess * r = ap (λ (y : ℕ). excess * y) (sym parts) ∙ mul-add excess (n * q) r in
         omega (arith, a, b, c, e, mul-comm r excess)
 
-    excess-product : excess * x < one
+    excess-product : excess * x < scale
     excess-product =
         let most : excess * x ≤ excess * near = mul-le-mul-left excess (omega arith) in
         omega (arith, most, whole, d .closely, d .most)
 
-    remainder-is : fractionOf s x * n / one ≡ r
+    remainder-is : fractionOf s x * n / scale ≡ r
     remainder-is = rw (fraction-is, remainder-product) (digits-div r excess-product)
 
-    remainder : Remains n x (fractionOf s x * n / one)
+    remainder : Remains n x (fractionOf s x * n / scale)
     remainder = record { is = remainder-is; below = rw remainder-is below }
 
   pub product-fits : (x : ℕ) → x < near → Fits w64 (x * m)
-  product-fits x h = record { fits = omega (arith, mul-le-mul {n₁ = x} {m₁ = m} {n₂ = near} {m₂ = one} (omega arith) (d .fits)) }
+  product-fits x h = record { fits = omega (arith, mul-le-mul {n₁ = x} {m₁ = m} {n₂ = near} {m₂ = scale} (omega arith) (d .fits)) }
 
   pub fraction-fits : (x f : ℕ) → f ≡ fractionOf s x → Fits w64 (f * n)
   fraction-fits x f e =
-      let below : fractionOf s x < one = mod-lt (x * m) (omega arith) in
-      record { fits = omega (arith, mul-le-mul {n₁ = f} {m₁ = n} {n₂ = one} {m₂ = mostSlots / ways} (omega arith) (d .most)) }
+      let below : fractionOf s x < scale = mod-lt (x * m) (omega arith) in
+      record { fits = omega (arith, mul-le-mul {n₁ = f} {m₁ = n} {n₂ = scale} {m₂ = mostSlots / ways} (omega arith) (d .most)) }
 
-  pub remains : (x f : ℕ) → x < 2 ^ addressBits → f ≡ fractionOf s x → Remains n x (f * n / one)
+  pub remains : (x f : ℕ) → x < 2 ^ addressBits → f ≡ fractionOf s x → Remains n x (f * n / scale)
   remains x f h e = rw e (remainder x (omega arith))
 
   -- so far away from the number of sets as a multiple is from it
@@ -153,7 +153,7 @@ module _ (k : ℕ) (some : 1 ≤ k) where
   quotient-most : (2 ^ 32 - 1) / k ≤ 2 ^ 32 - 1
   quotient-most = omega (arith, div-add-mod (2 ^ 32 - 1) k, mul-le-mul-right ((2 ^ 32 - 1) / k) some)
 
-module _ (slots : ℕ) (ready : SlotsReady slots) where
+module _ (slots : ℕ) (ready : WholeSets slots) where
   some-sets : 1 ≤ slots / ways
   some-sets = omega (arith, ready .some)
 
@@ -163,7 +163,7 @@ module _ (slots : ℕ) (ready : SlotsReady slots) where
   pub inverse-fits : Fits w64 ((2 ^ 32 - 1) / (slots / ways) + 1)
   inverse-fits = record { fits = omega (arith, quotient-most (slots / ways) some-sets) }
 
-pub sets-of : (slots : ℕ) → SlotsReady slots
+pub sets-of : (slots : ℕ) → WholeSets slots
     → SetsOf slots (record { count = slots / ways; inverse = (2 ^ 32 - 1) / (slots / ways) + 1 })
 sets-of slots ready =
     record {

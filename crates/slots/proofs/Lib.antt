@@ -1,6 +1,6 @@
 pub mod Finding
 pub mod Dividing
 pub mod Lines
-pub mod Taking
+pub mod Victims
 pub mod Sites
 pub mod Dirty

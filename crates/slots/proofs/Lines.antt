@@ -163,5 +163,5 @@ module _ (word lines least tags : ℕ) (s : Sets) (away way form : ℕ) (ready :
 -- the set that an address of 16 bits belongs in, as a number
 pub set-fits : (b : Bounds) (address : ℕ) → BoundsReady b → Fits w64 (address % (b .slots / ways))
 set-fits b address ready =
-    let some : 1 ≤ b .slots / ways = omega (arith, ready .slots-ready .some) in
-    record { fits = omega (arith, mod-lt address some, ready .slots-ready .most) }
+    let some : 1 ≤ b .slots / ways = omega (arith, ready .sets .some) in
+    record { fits = omega (arith, mod-lt address some, ready .sets .most) }

@@ -23,11 +23,11 @@ use Rattle.slots.specs.declared.Bounds.{Bounds}
 use Rattle.slots.specs.declared.sets.Line.{Line}
 use Rattle.slots.specs.declared.sets.Sets.{Sets}
 use Rattle.slots.specs.Contracts.{SpotReady, TagsReady}
-use Rattle.slots.specs.Passes.{near, SetsOf, Remains, boundsBy, LinesReady, lineOf, properIn, noLine, nameOf, LineIn, twiceOf, lowerOf, lowestOf, nowhere, beyondOf, siteBy, siteAmong, siteFor}
-use Rattle.slots.specs.Sets.{slotsFrom, placesOf, heldTwice, properSet, takenOf, spotOf}
+use Rattle.slots.specs.Passes.{near, SetsOf, Remains, boundsBy, LinesReady, lineOf, properIn, noLine, addressOrNone, LineIn, twiceOf, lowerOf, lowestOf, nowhere, beyondOf, siteBy, siteAmong, siteFor}
+use Rattle.slots.specs.Sets.{slotsFrom, placesOf, heldTwice, properSet, victimOf, spotOf}
 use Rattle.slots.specs.Slots.{setOf, properTag, properAt, holds}
 use Rattle.slots.proofs.Lines.{proper-in}
-use Rattle.slots.proofs.Taking.{Ranked, is-empty, is-clean, is-dirty, taken-least, whole, lowest-least}
+use Rattle.slots.proofs.Victims.{Ranked, is-empty, is-clean, is-dirty, taken-least, whole, lowest-least}
 
 pub lowest-is : (a b c d x y z : ℕ) → z ≡ lowerOf (c + 2) (d + 3) → y ≡ lowerOf (b + 1) z → x ≡ lowerOf a y → x % ways ≡ lowestOf a b c d
 lowest-is a b c d x y z p q r = rw (r, q, p)
@@ -119,7 +119,7 @@ module _ (b : Bounds) (work : List ℕ) (set k : ℕ) where
 
     -- it holds an address where it is named so
     module _ (way address : ℕ) (fits : address < noLine) where
-      holds-named : (n : ℕ) → n ≡ nameOf word way → holds work k address ≡ eqb n address
+      holds-named : (n : ℕ) → n ≡ addressOrNone word way → holds work k address ≡ eqb n address
       unfolding holds
       holds-named n e = go (eqb word 0) refl
         where
@@ -138,7 +138,7 @@ module _ (b : Bounds) (work : List ℕ) (set k : ℕ) where
 
 module _ (b : Bounds) (work : List ℕ) (set i j : ℕ) (p : properIn b set (getD work (slotAt i) 0) ≡ true)
     (q : properIn b set (getD work (slotAt j) 0) ≡ true) (v w : ℕ) (apart : v ≡ w → ⊥) (m n : ℕ)
-    (mine : m ≡ nameOf (getD work (slotAt i) 0) v) (other : n ≡ nameOf (getD work (slotAt j) 0) w) where
+    (mine : m ≡ addressOrNone (getD work (slotAt i) 0) v) (other : n ≡ addressOrNone (getD work (slotAt j) 0) w) where
   -- both hold one line exactly where they are named the same
   same-named : eqb n m ≡ slotIn work i .valid && holds work j (slotIn work i .address)
   same-named = go (eqb (getD work (slotAt i) 0) 0) refl
@@ -260,8 +260,8 @@ module _ (b : Bounds) (work : List ℕ) (set address : ℕ) (fits : address < no
             one-of,
           )
 
-      -- the slot that a newcomer takes
-      taken-is : takenOf work (slotsFrom k) ≡ k + lowestOf (l .form) (m .form) (n .form) (o .form)
+      -- the victim
+      taken-is : victimOf work (slotsFrom k) ≡ k + lowestOf (l .form) (m .form) (n .form) (o .form)
       taken-is =
           let f : ℕ → ℕ = λ j. slotForm (slotIn work j) in
           let r0 = ranked b work set k p0 in
@@ -273,12 +273,12 @@ module _ (b : Bounds) (work : List ℕ) (set address : ℕ) (fits : address < no
           (rw (a .form, c .form, d .form, e .form)
           (lowest-least f k (whole work k r0) (whole work (k + 1) r1) (whole work (k + 2) r2) (whole work (k + 3) r3)))
 
-      here : (j way : ℕ) (x : Line) → inSet j ≡ true → x .address ≡ nameOf (getD work (slotAt j) 0) way
+      here : (j way : ℕ) (x : Line) → inSet j ≡ true → x .address ≡ addressOrNone (getD work (slotAt j) 0) way
           → holds work j address ≡ eqb (x .address) address
       here j way x p e = holds-named b work set j p way address fits (x .address) e
 
       site-is : siteBy k address l m n o
-          ≡ 2 * firstOf (λ j. holds work j address) (slotsFrom k) (takenOf work (slotsFrom k)) + bit (anyOf (λ j. holds work j address) (slotsFrom k))
+          ≡ 2 * firstOf (λ j. holds work j address) (slotsFrom k) (victimOf work (slotsFrom k)) + bit (anyOf (λ j. holds work j address) (slotsFrom k))
       site-is =
           rw (
             taken-is,
@@ -308,7 +308,7 @@ module _ (b : Bounds) (work : List ℕ) (set address : ℕ) (fits : address < no
         go : (t : Bool) → allOf (properAt b work) (slotsFrom k) ≡ t
             → cond (t && not (twiceOf (l .address) (m .address) (n .address) (o .address))) (siteBy k address l m n o) nowhere
             ≡ cond (t && not (heldTwice work (slotsFrom k)))
-            (2 * firstOf (λ j. holds work j address) (slotsFrom k) (takenOf work (slotsFrom k)) + bit (anyOf (λ j. holds work j address) (slotsFrom k)))
+            (2 * firstOf (λ j. holds work j address) (slotsFrom k) (victimOf work (slotsFrom k)) + bit (anyOf (λ j. holds work j address) (slotsFrom k)))
             nowhere
         go true all = rw (twice-is all, site-is all)
         go false all = refl
@@ -331,7 +331,7 @@ line-room b set way word r h = rw (h .form) (form-below (decodeSlot word) (slot-
 module _ (work : List ℕ) (slots least tags address : ℕ) (ready : SpotReady work slots address) (s : Sets) (so : SetsOf slots s) (set : ℕ)
     (remains : Remains (s .count) address set) where
   pub set-room : ways * set + ways ≤ mostSlots
-  set-room = omega (arith, remains .below, so .count, ready .slots-ready .most)
+  set-room = omega (arith, remains .below, so .count, ready .sets .most)
 
   pub last-word : 2 * (ways * set) + 6 < length work
   last-word = omega (arith, remains .below, so .count, ready .words)
@@ -350,7 +350,7 @@ module _ (work : List ℕ) (slots least tags address : ℕ) (ready : SpotReady w
     unfolding setOf
     site-found lines l m n o r a c d e x =
         let back : s .count - away ≡ set = omega (arith, remains .below) in
-        let same : ways * s .count ≡ slots = omega (arith, so .count, ready .slots-ready .whole) in
+        let same : ways * s .count ≡ slots = omega (arith, so .count, ready .sets .whole) in
         let second : 2 * (ways * set) + 2 ≡ 2 * (ways * set + 1) = omega arith in
         let third : 2 * (ways * set) + 4 ≡ 2 * (ways * set + 2) = omega arith in
         let fourth : 2 * (ways * set) + 6 ≡ 2 * (ways * set + 3) = omega arith in

@@ -6,7 +6,7 @@ use mathlib.Core.List.{List, [], _∷_}
 use native.Mathlib.Nat.{mod-lt}
 use native.Mathlib.Omega.{arith}
 use borrow.Author.Tests.{eqb-true, eqb-false, eq-eqb, not-true}
-use lib.Dec.{eqb}
+use lib.Dec.{leb, eqb}
 use lib.ListN.{getD}
 use Rattle.base.specs.Cases.{either}
 use Rattle.base.specs.Several.{allOf, anyOf, firstOf, all-head, all-tail, first-all, first-holds, none-all}
@@ -17,7 +17,7 @@ use Rattle.layout.specs.Memory.{slotIn, slotAt}
 use Rattle.layout.specs.Words.{decodeSlot}
 use Rattle.slots.specs.declared.Bounds.{Bounds}
 use Rattle.slots.specs.Slots.{setOf, holds, properFull, properSlot, properAt}
-use Rattle.slots.specs.Sets.{slotsFrom, placesOf, properSet, emptyAt, cleanAt, olderAt, smallestTag, takenOf, spotOf}
+use Rattle.slots.specs.Sets.{slotsFrom, placesOf, properSet, emptyAt, cleanAt, smallestTag, victimOf, spotOf}
 
 -- ---- the slots of a set
 
@@ -64,10 +64,10 @@ smallest-all : (work : List ℕ) (p : ℕ → Bool) (k : ℕ) (ks : List ℕ) �
 smallest-all work p k [] h = all-head p k [] h
 smallest-all work p k (j ∷ ks) h =
     let rest = smallestTag work (j ∷ ks) in
-    either (λ i. p i ≡ true) (olderAt work k rest) (all-head p k (j ∷ ks) h) (smallest-all work p j ks (all-tail p k (j ∷ ks) h))
+    either (λ i. p i ≡ true) (leb (slotIn work k .tag) (slotIn work rest .tag)) (all-head p k (j ∷ ks) h) (smallest-all work p j ks (all-tail p k (j ∷ ks) h))
 
-taken-all : (work : List ℕ) (p : ℕ → Bool) (k : ℕ) (ks : List ℕ) → allOf p (k ∷ ks) ≡ true → p (takenOf work (k ∷ ks)) ≡ true
-unfolding takenOf
+taken-all : (work : List ℕ) (p : ℕ → Bool) (k : ℕ) (ks : List ℕ) → allOf p (k ∷ ks) ≡ true → p (victimOf work (k ∷ ks)) ≡ true
+unfolding victimOf
 taken-all work p k ks h =
     first-all (emptyAt work) p (k ∷ ks) (firstOf (cleanAt work) (k ∷ ks) (smallestTag work (k ∷ ks))) h
     (first-all (cleanAt work) p (k ∷ ks) (smallestTag work (k ∷ ks)) h (smallest-all work p k ks h))
@@ -77,7 +77,7 @@ module _ (work : List ℕ) (slots address : ℕ) where
   unfolding spotOf placesOf
   spot-all p h =
       let g = ways * setOf slots address in
-      first-all (λ k. holds work k address) p (slotsFrom g) (takenOf work (slotsFrom g)) h
+      first-all (λ k. holds work k address) p (slotsFrom g) (victimOf work (slotsFrom g)) h
       (taken-all work p g ((g + 1) ∷ (g + 2) ∷ (g + 3) ∷ []) h)
 
   pub spot-belongs : setOf slots address ≡ spotOf work slots address .slot / ways
@@ -97,7 +97,7 @@ module _ (work : List ℕ) (slots address : ℕ) where
       here k = holds work k address
 
       go : (t : Bool) → anyOf here (placesOf slots address) ≡ t → t ≡ here (spotOf work slots address .slot)
-      go true e = sym (first-holds here (placesOf slots address) (takenOf work (placesOf slots address)) e)
+      go true e = sym (first-holds here (placesOf slots address) (victimOf work (placesOf slots address)) e)
       go false e = sym (not-true _ (spot-all (λ k. not (here k)) (none-all here (placesOf slots address) e)))
 
   -- and no other slot of the set does where it is not

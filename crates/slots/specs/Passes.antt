@@ -19,8 +19,8 @@ use Rattle.slots.specs.Sets.{placesOf, properSet, spotOf}
 
 -- ---- sets, without a division for each address
 
-abbrev pub one : ℕ
-one = 2 ^ 32
+abbrev pub scale : ℕ
+scale = 2 ^ 32
 
 -- numbers that are divided, and the fractions of multiples, are below this
 abbrev pub near : ℕ
@@ -29,16 +29,16 @@ near = 2 ^ 17
 pub record Dividing (s : Sets) : Type 0 where
   pub some : 1 ≤ s .count
   pub most : s .count ≤ mostSlots / ways
-  pub least : one ≤ s .inverse * s .count
-  pub closely : s .inverse * s .count < one + s .count
-  pub fits : s .inverse ≤ one
+  pub least : scale ≤ s .inverse * s .count
+  pub closely : s .inverse * s .count < scale + s .count
+  pub fits : s .inverse ≤ scale
 
 pub record SetsOf (slots : ℕ) (s : Sets) : Type 0 where
   pub count : s .count ≡ slots / ways
   pub dividing : Dividing s
 
 abbrev pub fractionOf : Sets → ℕ → ℕ
-fractionOf s n = n * s .inverse % one
+fractionOf s n = n * s .inverse % scale
 
 pub record Remains (count n r : ℕ) : Type 0 where
   pub is : r ≡ n % count
@@ -62,8 +62,8 @@ properIn b set word = eqb word 0 || lineOf b (decodeSlot word) && eqb (setOf (b 
 abbrev pub noLine : ℕ
 noLine = 2 ^ addressBits
 
-abbrev pub nameOf : (word way : ℕ) → ℕ
-nameOf word way = cond (eqb word 0) (noLine + way) (decodeSlot word .address)
+abbrev pub addressOrNone : (word way : ℕ) → ℕ
+addressOrNone word way = cond (eqb word 0) (noLine + way) (decodeSlot word .address)
 
 abbrev pub lineless : (way beyond form : ℕ) → Line
 lineless way beyond form = record { address = noLine + way; beyond = beyond; form = form }
@@ -77,7 +77,7 @@ pub record LinesReady (least tags : ℕ) (s : Sets) (away : ℕ) : Type 0 where
 
 pub record LineIn (b : Bounds) (set way word : ℕ) (r : Line) : Type 0 where
   pub beyond : ltb (r .beyond) near ≡ properIn b set word
-  pub named : properIn b set word ≡ true → r .address ≡ nameOf word way
+  pub named : properIn b set word ≡ true → r .address ≡ addressOrNone word way
   pub form : r .form ≡ slotForm (decodeSlot word)
 
 -- ---- four of them
@@ -101,8 +101,8 @@ nowhere = 2 * mostSlots
 abbrev pub spotAt : ℕ → Spot
 spotAt site = record { slot = site / 2; held = eqb (site % 2) 1 }
 
-abbrev pub firstOf : ℕ → ℕ
-firstOf site = site / (2 * ways) * ways
+abbrev pub firstSlotOf : ℕ → ℕ
+firstSlotOf site = site / (2 * ways) * ways
 
 abbrev pub siteBy : (first address : ℕ) → (a b c d : Line) → ℕ
 siteBy first address a b c d =

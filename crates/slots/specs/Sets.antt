@@ -29,15 +29,12 @@ heldTwice work (k ∷ ks) = slotIn work k .valid && anyOf (λ j. holds work j (s
 unfoldable pub properSet : Bounds → (work visited : List ℕ) → Bool
 properSet b work visited = allOf (properAt b work) visited && not (heldTwice work visited)
 
--- "the dirty one with the smallest tag, lowest slot among equals": slot k is it, and not a slot j behind it
-abbrev pub olderAt : List ℕ → (k j : ℕ) → Bool
-olderAt work k j = leb (slotIn work k .tag) (slotIn work j .tag)
-
+-- "the dirty one with the smallest tag, lowest slot among equals"
 abbrev pub smallestTag : (work visited : List ℕ) → ℕ
 smallestTag work [] = 0
 smallestTag work (k ∷ []) = k
 smallestTag work (k ∷ j ∷ ks) =
-    let rest = smallestTag work (j ∷ ks) in cond (olderAt work k rest) k rest
+    let rest = smallestTag work (j ∷ ks) in cond (leb (slotIn work k .tag) (slotIn work rest .tag)) k rest
 
 -- "A line not held takes the first empty slot, else the first clean one, else the dirty one .."
 abbrev pub emptyAt : List ℕ → (k : ℕ) → Bool
@@ -46,12 +43,12 @@ emptyAt work k = eqb (getD work (slotAt k) 0) 0
 abbrev pub cleanAt : List ℕ → (k : ℕ) → Bool
 cleanAt work k = slotIn work k .valid && not (dirtyAt work k)
 
-unfoldable pub takenOf : (work visited : List ℕ) → ℕ
-takenOf work visited = firstOf (emptyAt work) visited (firstOf (cleanAt work) visited (smallestTag work visited))
+unfoldable pub victimOf : (work visited : List ℕ) → ℕ
+victimOf work visited = firstOf (emptyAt work) visited (firstOf (cleanAt work) visited (smallestTag work visited))
 
 -- the slot that holds the line at an address, or else takes it
 unfoldable pub spotOf : List ℕ → (slots address : ℕ) → Spot
 spotOf work slots address =
     let places = placesOf slots address in
     let here : ℕ → Bool = λ k. holds work k address in
-    record { slot = firstOf here places (takenOf work places); held = anyOf here places }
+    record { slot = firstOf here places (victimOf work places); held = anyOf here places }

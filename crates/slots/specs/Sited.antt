@@ -16,7 +16,7 @@ use Rattle.slots.specs.declared.Bounds.{Bounds}
 use Rattle.slots.specs.declared.Spot.{Spot}
 use Rattle.slots.specs.Contracts.{BoundsReady, TagsReady}
 use Rattle.slots.specs.Laws.{set-below, spot-belongs, spot-below}
-use Rattle.slots.specs.Passes.{boundsBy, siteOf, nowhere, spotAt, firstOf, siteFor}
+use Rattle.slots.specs.Passes.{boundsBy, siteOf, nowhere, spotAt, firstSlotOf, siteFor}
 use Rattle.slots.specs.Sets.{slotsFrom, placesOf, properSet, spotOf}
 use Rattle.slots.specs.Slots.{setOf, dirtySlot}
 
@@ -98,14 +98,14 @@ module _ (b : Bounds) (work : List ℕ) (address : ℕ) (some : ways ≤ b .slot
         (ne-eqb (siteOf (spotOf work (b .slots) address)) nowhere
         (λ e. omega (arith, site-below (spotOf work (b .slots) address) (omega (arith, spot-below work (b .slots) address some)))))
 
-    pub site-first : slotsFrom (firstOf (siteFor b work address)) ≡ placesOf (b .slots) address
+    pub site-first : slotsFrom (firstSlotOf (siteFor b work address)) ≡ placesOf (b .slots) address
     unfolding placesOf
     site-first =
-        let same : firstOf (siteFor b work address) ≡ ways * setOf (b .slots) address =
+        let same : firstSlotOf (siteFor b work address) ≡ ways * setOf (b .slots) address =
         rw (site-proper, site-slot (spotOf work (b .slots) address)) (omega (arith, spot-belongs work (b .slots) address)) in
         rw same
 
-    pub site-words : slotWords * b .slots ≤ length work → slotAt (firstOf (siteFor b work address) + ways) ≤ length work
+    pub site-words : slotWords * b .slots ≤ length work → slotAt (firstSlotOf (siteFor b work address) + ways) ≤ length work
     site-words words =
         let below = spot-below work (b .slots) address some in
         let within = set-below (b .slots) address some in

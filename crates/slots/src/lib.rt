@@ -13,7 +13,7 @@ ghost use Rattle.slots.specs.Contracts.{BoundsReady};
 use layout::SLOT_WORDS;
 use layout::Slot;
 use layout::WAYS;
-pub use sets::first_of;
+pub use sets::first_slot_of;
 pub use sets::is_all_dirty;
 pub use sets::is_any_dirty;
 pub use sets::is_nowhere;

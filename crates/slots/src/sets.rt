@@ -7,9 +7,10 @@ ghost use Rattle.base.specs.Several.{allOf, anyOf};
 ghost use Rattle.layout.specs.Limits.{addressBits, ways, mostSlots};
 ghost use Rattle.layout.specs.Memory.{slotAt, slotWords};
 ghost use Rattle.layout.specs.Words.{bit};
-ghost use Rattle.slots.specs.Contracts.{SlotsReady, SpotReady, TagsReady};
+ghost use Rattle.layout.specs.Sizes.{WholeSets};
+ghost use Rattle.slots.specs.Contracts.{SpotReady, TagsReady};
 ghost use Rattle.slots.specs.Passes.{near, Dividing, SetsOf, fractionOf, Remains, boundsBy, LinesReady, lineless, LineIn, twiceOf, lowerOf, lowestOf};
-ghost use Rattle.slots.specs.Passes.{nowhere, spotAt, firstOf, siteBy, siteAmong, siteFor};
+ghost use Rattle.slots.specs.Passes.{nowhere, spotAt, firstSlotOf, siteBy, siteAmong, siteFor};
 ghost use Rattle.slots.specs.Sets.{slotsFrom};
 ghost use Rattle.slots.specs.Slots.{dirtyAt};
 use crate::Spot;
@@ -25,10 +26,10 @@ struct Sets {
     inverse: u64,
 }
 
-const ONE: u64 = 1 << 32;
+const SCALE: u64 = 1 << 32;
 
 fn sets_of(slots: usize) -> Sets
-    requires { ⌜ SlotsReady slots ⌝ }
+    requires { ⌜ WholeSets slots ⌝ }
     ensures { λ r. ⌜ SetsOf slots r ⌝ }
 {
     let count = slots as u32 / WAYS as u32;
@@ -45,7 +46,7 @@ fn fraction(sets: Sets, number: u64) -> u64
     requires { ⌜ number < near ⌝ }
     ensures { λ r. ⌜ r ≡ fractionOf sets number ⌝ }
 {
-    number * sets.inverse % ONE
+    number * sets.inverse % SCALE
 }
 
 // The set that an address belongs in.
@@ -54,7 +55,7 @@ fn set_of(sets: Sets, address: u64) -> u64
     requires { ⌜ address < 2 ^ addressBits ⌝ }
     ensures { λ r. ⌜ Remains (sets .count) address r ⌝ }
 {
-    fraction(sets, address) * sets.count / ONE
+    fraction(sets, address) * sets.count / SCALE
 }
 
 // Below this a fraction is that of a multiple of the number of sets.
@@ -135,7 +136,7 @@ fn lower(x: u64, y: u64) -> u64
     x
 }
 
-// The slot of a set that a newcomer takes. The forms have no last bits of their own, so that these tell the slots apart.
+// The slot of a set that an incoming line takes, the victim. The forms have no last bits of their own, so that these tell the slots apart.
 fn lowest(a: u64, b: u64, c: u64, d: u64) -> usize
     requires { ⌜ b + 3 < 2 ^ 64 ⌝ }
     requires { ⌜ c + 3 < 2 ^ 64 ⌝ }
@@ -238,8 +239,8 @@ pub fn spot_at(site: usize) -> Spot
 }
 
 // The first slot of the set in which a site is.
-pub fn first_of(site: usize) -> usize
-    ensures { λ r. ⌜ r ≡ firstOf site ⌝ }
+pub fn first_slot_of(site: usize) -> usize
+    ensures { λ r. ⌜ r ≡ firstSlotOf site ⌝ }
 {
     site / (2 * WAYS) * WAYS
 }

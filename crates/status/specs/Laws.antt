@@ -35,7 +35,7 @@ name-is n =
     ∙ ap (λ (l : List (List ℕ)). getD l n []) rows-unspaced
     ∙ List·getD-map bytes names n ""
 
--- "every other number gives the empty name"
+-- every other number has the empty name
 pub name-none : (n : ℕ) → length names ≤ n → nameOf n ≡ []
 name-none n h = name-is n ∙ rw (List·getD-eq-default names "" h)
 

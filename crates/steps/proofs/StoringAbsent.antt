@@ -3,25 +3,23 @@ use Prim.Native.Nat.{ℕ, _+_, _-_, _*_, _^_, _<_, _≤_}
 use mathlib.Core.Path.{_≡_, sym, ap, _∙_}
 use mathlib.Core.List.{List}
 use native.Mathlib.Omega.{arith}
-use lib.Dec.{eqb}
 use lib.ListN.{length, getD, take, set, length-set, length-take}
 use lib.Seq.{getD-set-same, getD-set-other, set-set, set-comm, set-append-left, take-set-lt, drop-set-lt}
 use Rattle.base.specs.Parts.{setPair}
 use Rattle.board.specs.declared.Meter.{Meter}
 use Rattle.layout.specs.declared.Entry.{Entry}
 use Rattle.layout.specs.Laws.{slot-laws}
-use Rattle.layout.specs.Limits.{addressBits, bufferPlaces}
+use Rattle.layout.specs.Limits.{addressBits}
 use Rattle.layout.specs.Memory.{linesAt, bufferWords, bufferAt, bufferIn, slotIn, dataIn}
 use Rattle.layout.specs.Words.{decodeSlot, encodeSlot}
 use Rattle.undo.specs.declared.LogState.{LogState}
 use Rattle.undo.specs.declared.Progress.{Progress}
-use Rattle.undo.specs.Laws.{sound-counted}
-use Rattle.undo.specs.Log.{pushed, counted}
+use Rattle.undo.specs.Log.{pushed}
 use Rattle.slots.specs.Slots.{cleanSlot, dirtySlot, zeroed, filled, dirtied}
 use Rattle.layout.specs.Memory.{withBuffer}
-use Rattle.steps.specs.Effects.{flushingIf, lineIn, entryFor, logged, storingHeld}
+use Rattle.steps.specs.Effects.{lineIn, entryFor, logged, storingHeld}
 use Rattle.slots.specs.Slots.{entryDue}
-use Rattle.steps.specs.Contracts.{Acts, Logs, Ready, StoreAbsentReady}
+use Rattle.steps.specs.Contracts.{Acts, loggingStore, StoreAbsentReady}
 
 pair-again : (memory : List ℕ) (at a b x y : ℕ) → setPair (setPair memory at a b) at x y ≡ setPair memory at x y
 pair-again memory at a b x y =
@@ -71,34 +69,23 @@ module _ (work : List ℕ) (k address line : ℕ) (within : 2 * k + 2 + bufferWo
   -- a slot filled clean makes the entry P, s with its line, and its words give way to the dirty ones
   storingHeld-filled : (u : LogState) (epoch value : ℕ) → address < 2 ^ addressBits
       → storingHeld u (filled work k address line) k address epoch value
-      ≡ flushingIf (eqb (u .buffered + 1) bufferPlaces) (counted u)
-      (dirtied (logged u work (record { address = address; from = u .control .persisted; till = epoch }) line) k address epoch value)
+      ≡ loggingStore u work k (record { address = address; from = u .control .persisted; till = epoch }) line value
   unfolding storingHeld entryDue entryFor
   storingHeld-filled u epoch value fits =
       rw (slot-filled fits, data-filled, logged-filled u (record { address = address; from = u .control .persisted; till = epoch }) line, dirtied-filled)
 
 -- the way out of a store to a line that was not held
-module _ (board work : List ℕ) (u : LogState) (k address epoch : ℕ) (ready : StoreAbsentReady board work u k address epoch) (work′ : List ℕ) (u′ : LogState) where
-  pub absent-flush-ready : (e : Entry) (old : ℕ) (work″ : List ℕ) → Logs work u e old work′ u′ → length work″ ≡ length work → Ready board work″ u′
-  absent-flush-ready e old work″ log l =
-      rw (log .undo) record {
-        sound = sound-counted u (ready .ready .sound) (ready .place) (ready .room);
-        board-words = ready .ready .board-words;
-        work-words = rw l (ready .ready .work-words);
-      }
+module _ (board work : List ℕ) (u : LogState) (k address epoch : ℕ) (ready : StoreAbsentReady board work u k address epoch) where
+  abbrev entry : Entry
+  entry = record { address = address; from = u .control .persisted; till = epoch }
 
-  pub absent-stored : (lines word value : ℕ) (m : Meter) (work″ board′ work‴ : List ℕ) (r : Progress) → lines ≡ linesAt (u .entries)
-      → Logs work u (record { address = address; from = u .control .persisted; till = epoch }) (getD board (lines + address) 0) work′ u′
-      → word ≡ encodeSlot (dirtySlot address epoch) → work″ ≡ setPair work′ (2 * k) word value
-      → Acts board m (flushingIf (eqb (u′ .buffered) bufferPlaces) u′ work″) board′ work‴ r
-      → Acts board m (storingHeld u (filled work k address (lineIn board u address)) k address epoch value) board′ work‴ r
-  unfolding lineIn dirtied
-  absent-stored lines word value m work″ board′ work‴ r at log dirty put x =
+  pub absent-stored : (lines value : ℕ) (m : Meter) (board′ work′ : List ℕ) (r : Progress) → lines ≡ linesAt (u .entries)
+      → Acts board m (loggingStore u work k entry (getD board (lines + address) 0) value) board′ work′ r
+      → Acts board m (storingHeld u (filled work k address (lineIn board u address)) k address epoch value) board′ work′ r
+  unfolding lineIn
+  absent-stored lines value m board′ work′ r at x =
       rw (
         storingHeld-filled work k address (lineIn board u address) (ready .taken .within) u epoch value (ready .taken .fits),
         ← at,
-        ← log .memory,
-        ← dirty,
-        ← put,
       )
-      (rw (log .undo) at x)
+      x

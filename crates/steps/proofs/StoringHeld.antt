@@ -23,7 +23,7 @@ use Rattle.slots.specs.Slots.{dirtySlot, dirtied}
 use Rattle.layout.specs.Memory.{withBuffer}
 use Rattle.steps.specs.Effects.{flushingIf, entryFor, logged, storingHeld}
 use Rattle.slots.specs.Slots.{entryDue}
-use Rattle.steps.specs.Contracts.{Acts, Logs, LogReady, LogsStore, LogStoreReady, Ready, StoreHeldReady}
+use Rattle.steps.specs.Contracts.{Acts, Logs, loggingStore, LogStoreReady, Ready, StoreHeldReady}
 
 -- the undo entry of a store
 module _ (s : Slot) (epoch : ℕ) where
@@ -47,25 +47,21 @@ log-done work u e old at buffer′ r here x =
     record { undo = x .undo; memory = rw (rest-back at work buffer′, x .memory, rest-lent at work, here) }
 
 -- the entry and the line together
-module _ (work : List ℕ) (u : LogState) (k : ℕ) (s : Slot) (address epoch : ℕ) (e : Entry) (entry : e ≡ entryFor (u .control .persisted) epoch address s) where
-  pub log-ready : LogStoreReady work u k s address epoch → LogReady work u e
-  unfolding entryFor
-  log-ready ready =
-      rw entry record {
-        fits = record { address = ready .address-fits; from = earlier (s .dirty); till = ready .epoch-fits };
-        place = ready .place;
-        work-words = omega (arith, ready .within);
-      }
-    where
-      earlier : (d : Bool) → cond d (s .tag) (u .control .persisted) < 2 ^ epochBits
-      earlier true = ready .tag
-      earlier false = ready .persisted
+module _ (board work : List ℕ) (u : LogState) (k : ℕ) (e : Entry) (ready : LogStoreReady board work u k e) where
+  module _ (old : ℕ) (work′ : List ℕ) (u′ : LogState) (log : Logs work u e old work′ u′) where
+    pub log-flush-ready : (work″ : List ℕ) → length work″ ≡ length work → Ready board work″ u′
+    log-flush-ready work″ l =
+        rw (log .undo) record {
+          sound = sound-counted u (ready .ready .sound) (ready .place) (ready .room);
+          board-words = ready .ready .board-words;
+          work-words = rw l (ready .ready .work-words);
+        }
 
-  pub log-stored : (value word : ℕ) (work′ work″ : List ℕ) (r : LogState) → Logs work u e (dataIn work k) work′ r
-      → word ≡ encodeSlot (dirtySlot address epoch) → work″ ≡ setPair work′ (2 * k) word value
-      → LogsStore work u k s address epoch value work″ r
-  unfolding dirtied
-  log-stored value word work′ work″ r x w y = record { undo = x .undo; memory = rw (← entry, ← x .memory, ← w) y }
+    pub log-stored : (value word : ℕ) (m : Meter) (work″ board′ work‴ : List ℕ) (r : Progress) → word ≡ encodeSlot (dirtySlot (e .address) (e .till))
+        → work″ ≡ setPair work′ (2 * k) word value → Acts board m (flushingIf (eqb (u′ .buffered) bufferPlaces) u′ work″) board′ work‴ r
+        → Acts board m (loggingStore u work k e old value) board′ work‴ r
+    unfolding dirtied
+    log-stored value word m work″ board′ work‴ r dirty put x = rw (← log .memory, ← dirty, ← put) (rw (log .undo) at x)
 
 -- a store to the line that slot k holds
 module _ (board work : List ℕ) (u : LogState) (k address epoch value : ℕ) (m : Meter) (s : Slot) (read : Decoded SlotFits (slotIn work k) s)
@@ -79,16 +75,23 @@ module _ (board work : List ℕ) (u : LogState) (k address epoch value : ℕ) (m
   unfolding storingHeld dirtied
   held-again word work′ h w x = rw (← due, not-true t h, ← w) record { ran = ran-none board m; undo = refl; memory = x }
 
-  module _ (work′ : List ℕ) (u′ : LogState) (made : not t ≡ false) (log : LogsStore work u k s address epoch value work′ u′) where
-    pub held-flush-ready : StoreHeldReady board work u k address epoch → length work′ ≡ length work → Ready board work′ u′
-    held-flush-ready ready l =
-        rw (log .undo) record {
-          sound = sound-counted u (ready .ready .sound) (ready .place) (ready .room (sym due ∙ not-false t made));
-          board-words = ready .ready .board-words;
-          work-words = rw l (ready .ready .work-words);
+  module _ (made : not t ≡ false) (e : Entry) (entry : e ≡ entryFor (u .control .persisted) epoch address s) where
+    pub held-log-ready : StoreHeldReady board work u k address epoch → LogStoreReady board work u k e
+    unfolding entryFor
+    held-log-ready ready =
+        rw entry record {
+          ready = ready .ready;
+          within = ready .within;
+          place = ready .place;
+          room = ready .room (sym due ∙ not-false t made);
+          fits = record { address = ready .address-fits; from = earlier (s .dirty); till = ready .epoch-fits };
         }
+      where
+        earlier : (d : Bool) → cond d (s .tag) (u .control .persisted) < 2 ^ epochBits
+        earlier true = read .fits .tag
+        earlier false = ready .ready .sound .persisted
 
-    pub held-logged : (board′ work″ : List ℕ) (r : Progress) → Acts board m (flushingIf (eqb (u′ .buffered) bufferPlaces) u′ work′) board′ work″ r
-        → Acts board m (storingHeld u work k address epoch value) board′ work″ r
-    unfolding storingHeld
-    held-logged board′ work″ r y = rw (← due, not-false t made, ← read .is, ← log .memory) (rw (log .undo) at y)
+    pub held-logged : (board′ work′ : List ℕ) (r : Progress) → Acts board m (loggingStore u work k e (dataIn work k) value) board′ work′ r
+        → Acts board m (storingHeld u work k address epoch value) board′ work′ r
+    unfolding storingHeld entryFor
+    held-logged board′ work′ r x = rw (← due, not-false t made, ← read .is) (rw entry at x)

@@ -3,20 +3,20 @@ use Prim.Native.Nat.{ℕ, _+_, _^_, _<_, _≤_}
 use mathlib.Core.Path.{_≡_}
 use mathlib.Core.Bool.{true}
 use mathlib.Core.List.{List}
+use lib.Dec.{eqb}
 use lib.ListN.{length}
 use Rattle.board.specs.declared.Meter.{Meter}
 use Rattle.board.specs.Stores.{allowed, Ran}
 use Rattle.layout.specs.declared.Entry.{Entry}
-use Rattle.layout.specs.declared.Slot.{Slot}
 use Rattle.layout.specs.Words.{EntryFits}
 use Rattle.layout.specs.Limits.{epochBits, addressBits, mostEntries, bufferPlaces}
-use Rattle.layout.specs.Memory.{linesAt, bufferWords, slotIn, dataIn, slotAt, slotWords}
+use Rattle.layout.specs.Memory.{linesAt, bufferWords, slotIn, slotAt, slotWords}
 use Rattle.undo.specs.declared.LogState.{LogState}
 use Rattle.undo.specs.declared.Progress.{Progress}
 use Rattle.undo.specs.Log.{Sound, counted}
 use Rattle.slots.specs.declared.Spot.{Spot}
 use Rattle.slots.specs.Slots.{dirtied}
-use Rattle.steps.specs.Effects.{Effect, entryFor, logged}
+use Rattle.steps.specs.Effects.{Effect, flushingIf, logged}
 use Rattle.slots.specs.Slots.{entryDue, undoDue}
 
 -- An effect that does not depend on the board comes about; where the call is cut the board has the first of its stores.
@@ -102,15 +102,14 @@ pub record LogReady (work : List ℕ) (u : LogState) (e : Entry) : Type 0 where
   pub place : u .buffered < bufferPlaces
   pub work-words : bufferWords ≤ length work
 
--- The undo entry of a store goes to the buffer's end, and the line is dirty in slot k.
-pub record LogsStore (work : List ℕ) (u : LogState) (k : ℕ) (s : Slot) (address epoch value : ℕ) (work′ : List ℕ) (r : LogState) : Type 0 where
-  pub undo : r ≡ counted u
-  pub memory : work′ ≡ dirtied (logged u work (entryFor (u .control .persisted) epoch address s) (dataIn work k)) k address epoch value
+-- an entry to the buffer's end, and the line in slot k dirty; at 32 entries a flush
+abbrev pub loggingStore : LogState → List ℕ → (k : ℕ) → Entry → (old value : ℕ) → Effect
+loggingStore u work k e old value =
+    flushingIf (eqb (u .buffered + 1) bufferPlaces) (counted u) (dirtied (logged u work e old) k (e .address) (e .till) value)
 
-pub record LogStoreReady (work : List ℕ) (u : LogState) (k : ℕ) (s : Slot) (address epoch : ℕ) : Type 0 where
+pub record LogStoreReady (board work : List ℕ) (u : LogState) (k : ℕ) (e : Entry) : Type 0 where
+  pub ready : Ready board work u
   pub within : slotAt k + slotWords + bufferWords ≤ length work
   pub place : u .buffered < bufferPlaces
-  pub persisted : u .control .persisted < 2 ^ epochBits
-  pub tag : s .tag < 2 ^ epochBits
-  pub address-fits : address < 2 ^ addressBits
-  pub epoch-fits : epoch < 2 ^ epochBits
+  pub room : u .control .length + u .buffered + 1 ≤ u .entries
+  pub fits : EntryFits e

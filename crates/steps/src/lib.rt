@@ -9,7 +9,7 @@ ghost use Rattle.slots.specs.Slots.{filled};
 ghost use Rattle.steps.specs.Effects.{entryFor, storingHeld, lineIn};
 ghost use Rattle.steps.specs.Effects.{loading, storing, evicting, cleaning, visiting, persisting};
 ghost use Rattle.steps.specs.Contracts.{Acts, Carries, SlotReady, FillReady, StoreHeldReady, StoreAbsentReady};
-ghost use Rattle.steps.specs.Contracts.{Logs, LogReady, LogsStore, LogStoreReady, StoreReady, PersistReady};
+ghost use Rattle.steps.specs.Contracts.{Logs, LogReady, loggingStore, LogStoreReady, StoreReady, PersistReady};
 use board::Meter;
 use layout::BUFFER_PLACES;
 use layout::Entry;
@@ -46,32 +46,37 @@ fn push_entry(work: &mut [u64], undo: LogState, entry: Entry, old: u64) -> LogSt
     undo::push(&mut work[at..], undo, entry, old)
 }
 
-// The undo entry of a store to the buffer's end, and the line in slot k dirty.
+// The undo entry of a store to the buffer's end, and the line in slot k dirty. A full buffer goes to the log at once.
 fn log_store(
+    board: &mut [u64],
     work: &mut [u64],
     undo: LogState,
     k: usize,
-    slot: Slot,
-    address: u64,
-    epoch: u64,
+    entry: Entry,
+    old: u64,
     value: u64,
-) -> LogState
-    requires { ⌜ LogStoreReady (now work) undo k slot address epoch ⌝ }
-    ensures { λ r. ⌜ LogsStore (now (work .entry)) undo k slot address epoch value (now (work .exit)) r ⌝ }
+    meter: Meter,
+) -> Progress
+    requires { ⌜ LogStoreReady (now board) (now work) undo k entry ⌝ }
+    ensures { λ r. ⌜ Acts (now (board .entry)) meter (loggingStore undo (now (work .entry)) k entry old value) (now (board .exit)) (now (work .exit)) r ⌝ }
 {
-    let old = work[SLOT_WORDS * k + 1];
-    let entry = entry_for(slot, undo.control.persisted, epoch, address);
     let counted = push_entry(work, undo, entry, old);
     base::set_pair(
         work,
         SLOT_WORDS * k,
-        slots::dirty_word(address, epoch),
+        slots::dirty_word(entry.address, entry.till),
         value,
     );
-    counted
+    moves::flush_if(
+        counted.buffered == BUFFER_PLACES as u64,
+        board,
+        work,
+        counted,
+        meter,
+    )
 }
 
-// A store to the line that slot k holds. A full buffer goes to the log at once.
+// A store to the line that slot k holds.
 fn store_held(
     board: &mut [u64],
     work: &mut [u64],
@@ -95,14 +100,9 @@ fn store_held(
         );
         return Progress { undo, meter };
     }
-    let counted = log_store(work, undo, k, slot, address, epoch, value);
-    moves::flush_if(
-        counted.buffered == BUFFER_PLACES as u64,
-        board,
-        work,
-        counted,
-        meter,
-    )
+    let entry = entry_for(slot, undo.control.persisted, epoch, address);
+    let old = work[SLOT_WORDS * k + 1];
+    log_store(board, work, undo, k, entry, old, value, meter)
 }
 
 // A store to a line that slot k takes from the board: what `store_held` does once the slot is filled, without filling it.
@@ -127,20 +127,7 @@ fn store_absent(
         from: undo.control.persisted,
         till: epoch,
     };
-    let counted = push_entry(work, undo, entry, old);
-    base::set_pair(
-        work,
-        SLOT_WORDS * k,
-        slots::dirty_word(address, epoch),
-        value,
-    );
-    moves::flush_if(
-        counted.buffered == BUFFER_PLACES as u64,
-        board,
-        work,
-        counted,
-        meter,
-    )
+    log_store(board, work, undo, k, entry, old, value, meter)
 }
 
 // The line of slot k to the board, and clean from then on.

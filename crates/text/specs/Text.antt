@@ -23,11 +23,11 @@ abbrev pub numberBytes : ℕ
 numberBytes = 1 + mostDigits
 
 -- how many digits a word has: the first k from 1 on with n < 10^k, which is at most `mostDigits`
-unfoldable pub placesOf : ℕ → ℕ
-placesOf n = firstFrom (λ k. leb (10 ^ k) n) 1 mostDigits
+unfoldable pub decimalPlaces : ℕ → ℕ
+decimalPlaces n = firstFrom (λ k. leb (10 ^ k) n) 1 mostDigits
 
 unfoldable pub decimalOf : ℕ → List ℕ
-decimalOf n = digits 10 (placesOf n) n
+decimalOf n = digits 10 (decimalPlaces n) n
 
 -- each number with a space before it
 unfoldable pub numbersText : List ℕ → List ℕ

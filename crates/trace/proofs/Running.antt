@@ -16,9 +16,9 @@ use Rattle.status.specs.Numbers.{isOk}
 use Rattle.checks.specs.declared.Registers.{Registers}
 use Rattle.picl.specs.declared.Answer.{Answer}
 use Rattle.picl.specs.Contracts.{Calls}
-use Rattle.benchcalls.specs.declared.Call.{Call}
-use Rattle.benchcalls.specs.declared.Call.the-variants.{Load, Store, Evict, Scan}
-use Rattle.benchboard.specs.Calls.{fullAllowance, callOf, woken, Leaves}
+use Rattle.benchboard.specs.Calls.{fullAllowance, callOf, started, Leaves}
+use Rattle.records.specs.declared.Call.{Call}
+use Rattle.records.specs.declared.Call.the-variants.{Load, Store, Evict, Scan}
 use Rattle.records.specs.declared.Reader.{Reader}
 use Rattle.records.specs.declared.Reading.{Reading}
 use Rattle.records.specs.declared.Reading.the-variants.{End, Recorded, Refused}
@@ -27,7 +27,7 @@ use Rattle.records.specs.Steps.{newReader, isNew, isFull, stepOf, readingBy}
 use Rattle.records.specs.Laws.{new-reader}
 use Rattle.trace.specs.declared.Run.{Run}
 use Rattle.trace.specs.declared.Totals.{Totals}
-use Rattle.trace.specs.Run.{noTotals, plus, counted, wokenState, called, taken, turn}
+use Rattle.trace.specs.Run.{noTotals, plus, counted, startedState, called, taken, turn}
 use Rattle.trace.specs.Steps.{Machine, machineOf, newRun, readingRun, endedRun, resting, turned, waiting, stepped, hasRecord, fed, finished}
 use Rattle.trace.specs.declared.Fed.{Fed}
 use Rattle.trace.specs.Contracts.{Runs, Feeds}
@@ -41,8 +41,8 @@ pub run-ended : (r : Run) (status : Status) (reader : Reader) → reader ≡ new
     → record { status = status; registers = r .registers; totals = r .totals; reader = reader } ≡ endedRun r status
 run-ended r status reader e = rw e
 
-pub start-runs : (lines entries : ℕ) (board work board′ work′ : List ℕ) (a : Answer) (r : Run) → Leaves (woken lines entries board work) board′ work′ a
-    → r ≡ newRun (a .status) (a .registers) → Runs (resting (wokenState (woken lines entries board work))) board′ work′ r
+pub start-runs : (lines entries : ℕ) (board work board′ work′ : List ℕ) (a : Answer) (r : Run) → Leaves (started lines entries board work) board′ work′ a
+    → r ≡ newRun (a .status) (a .registers) → Runs (resting (startedState (started lines entries board work))) board′ work′ r
 start-runs lines entries board work board′ work′ a r l e =
     record { run = e ∙ ap (λ (x : Answer). newRun (x .status) (x .registers)) (l .answer); board-left = l .board-left; work-left = l .work-left }
 

@@ -16,7 +16,7 @@ use Rattle.records.specs.declared.Reader.{Reader}
 use Rattle.records.specs.Records.{recordBytes, reading}
 use Rattle.records.specs.Steps.{stepOf, isFull, readingBy}
 use Rattle.records.specs.Laws.{readerOf, reader-new, reader-steps, reader-reads, reading-first}
-use Rattle.trace.specs.Run.{State, begun, turn, recordAt, after, ran, failed, lineOf, printed}
+use Rattle.trace.specs.Run.{State, begun, turn, recordAt, after, ran, failed, lineText, printed}
 use Rattle.trace.specs.Steps.{Machine, resting, turned, waiting, stepped, fed, finished, broken}
 
 -- the whole records of some bytes, and what is behind them
@@ -168,6 +168,9 @@ finished-ran s file =
 pub broken-failed : (s : State) (bytes : List ℕ) → broken (soFar s bytes) ≡ resting (failed s bytes)
 unfolding failed
 broken-failed s bytes = refl
+
+abbrev lineOf : State → List ℕ
+lineOf s = lineText (s .status) (s .totals)
 
 -- so the line of a run whose file has come in parts is the definition's
 pub parts-printed : (lines entries slots : ℕ) (parts : List (List ℕ)) → AreBytes (flatten parts)

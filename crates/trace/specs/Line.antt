@@ -7,11 +7,14 @@ use Rattle.status.specs.Names.{mostLetters}
 use Rattle.text.specs.Text.{lineFeed, numberBytes, numbersText, nameText}
 use Rattle.text.specs.Printing.{Prints, prints-then}
 use Rattle.trace.specs.declared.Totals.{Totals}
-use Rattle.trace.specs.Run.{totalsIn, lineText}
+use Rattle.trace.specs.Run.{lineText}
 
 -- the most bytes of a line: a name, four numbers with a space before each, and the line feed
 abbrev pub longest : ℕ
 longest = mostLetters + (numberBytes * 4 + 1)
+
+abbrev totalsIn : Totals → List ℕ
+totalsIn t = t .loads ∷ t .stores ∷ t .evictions ∷ t .scans ∷ []
 
 pub line-printed : (status : Status) (t : Totals) (out out′ out″ out‴ : List ℕ) (at p q r : ℕ) → Prints mostLetters out at (nameText status) out′ p
     → Prints (numberBytes * length (totalsIn t)) out′ p (numbersText (totalsIn t)) out″ q → Prints 1 out″ q (lineFeed ∷ []) out‴ r

@@ -12,10 +12,10 @@ use Rattle.status.specs.Numbers.{isOk}
 use Rattle.checks.specs.declared.Registers.{Registers}
 use Rattle.checks.specs.Registers as registers
 use Rattle.picl.specs.Calls.{verdictOf}
-use Rattle.benchcalls.specs.declared.Call.{Call}
-use Rattle.benchcalls.specs.declared.Call.the-variants.{Load, Store, Evict, Commit, Scan}
 use Rattle.benchboard.specs.Sizes.{benchSized}
-use Rattle.benchboard.specs.Calls.{fullAllowance, callOf, Left, left, woken}
+use Rattle.benchboard.specs.Calls.{fullAllowance, callOf, Left, left, started}
+use Rattle.records.specs.declared.Call.{Call}
+use Rattle.records.specs.declared.Call.the-variants.{Load, Store, Evict, Commit, Scan}
 use Rattle.records.specs.declared.Reading.{Reading}
 use Rattle.records.specs.declared.Reading.the-variants.{End, Recorded, Refused}
 use Rattle.records.specs.Records.{recordBytes, reading}
@@ -44,16 +44,16 @@ counted t (Evict address) n = record { loads = t .loads; stores = t .stores; evi
 counted t Commit n = t
 counted t Scan n = record { loads = t .loads; stores = t .stores; evictions = t .evictions; scans = plus (t .scans) n }
 
--- a board that has been woken, or the refusal of that
-abbrev pub wokenState : Left → State
-wokenState l = record { status = l .answer .status; registers = l .answer .registers; totals = noTotals; board = l .board; work = l .work }
+-- a board that has powered up, or the refusal of that
+abbrev pub startedState : Left → State
+startedState l = record { status = l .answer .status; registers = l .answer .registers; totals = noTotals; board = l .board; work = l .work }
 
 -- "Its arguments are N, L, S, within the replay's sizes (else shape)"
 unfoldable pub begun : (lines entries slots : ℕ) → State
 begun lines entries slots =
     cond (benchSized lines entries slots)
-    (wokenState (woken lines entries (replicate (boardWords lines entries) 0) (replicate (workWords slots) 0)))
-    (record { status = Shape; registers = registers.zero; totals = noTotals; board = []; work = [] })
+    (startedState (started lines entries (replicate (boardWords lines entries) 0) (replicate (workWords slots) 0)))
+    (record { status = Shape; registers = registers.allZero; totals = noTotals; board = []; work = [] })
 
 -- "allowances are 2^32 − 1", "Refused calls do not end it"
 abbrev pub madeCall : State → Left → Call → State
@@ -93,14 +93,8 @@ unfoldable pub failed : State → (bytes : List ℕ) → State
 failed s bytes = turn (after s bytes (length bytes / recordBytes)) (Refused Trace)
 
 -- "It prints one line, single spaces"
-abbrev pub totalsIn : Totals → List ℕ
-totalsIn t = t .loads ∷ t .stores ∷ t .evictions ∷ t .scans ∷ []
-
 unfoldable pub lineText : Status → Totals → List ℕ
-lineText status t = nameText status ++ (numbersText (totalsIn t) ++ (lineFeed ∷ []))
-
-abbrev pub lineOf : State → List ℕ
-lineOf s = lineText (s .status) (s .totals)
+lineText status t = nameText status ++ (numbersText (t .loads ∷ t .stores ∷ t .evictions ∷ t .scans ∷ []) ++ (lineFeed ∷ []))
 
 abbrev pub printed : (lines entries slots : ℕ) → (file : List ℕ) → List ℕ
-printed lines entries slots file = lineOf (ran (begun lines entries slots) file)
+printed lines entries slots file = let s = ran (begun lines entries slots) file in lineText (s .status) (s .totals)

@@ -1,17 +1,17 @@
-// Runs a trace: recorded calls, one after the other, on a fresh woken board, and the totals of the board stores that they make.
+// Runs a trace: recorded calls, one after the other, on a fresh board that has powered up, and the totals of the board stores that they make.
 // The bytes of the trace come in parts of any length.
 ghost use Prim.Native.Nat.{_<_, _≤_};
 ghost use mathlib.Core.Path.{_≡_};
 ghost use lib.ListN.{length};
-ghost use Rattle.benchboard.specs.Calls.{woken};
+ghost use Rattle.benchboard.specs.Calls.{started};
 ghost use Rattle.text.specs.Printing.{Prints};
-ghost use Rattle.trace.specs.Run.{noTotals, plus, counted, wokenState, called, lineText};
+ghost use Rattle.trace.specs.Run.{noTotals, plus, counted, startedState, called, lineText};
 ghost use Rattle.trace.specs.Steps.{machineOf, newRun, readingRun, endedRun, resting, turned, stepped, hasRecord, fed, finished, broken};
 ghost use Rattle.trace.specs.Contracts.{Runs, Feeds};
 ghost use Rattle.trace.specs.Line.{longest};
 use benchboard::FULL_ALLOWANCE;
-use benchcalls::Call;
 use checks::Registers;
+use records::Call;
 use records::RECORD_BYTES;
 use records::Reader;
 use records::Reading;
@@ -131,9 +131,9 @@ impl Run {
 
 // Format and power-up, on the words that are the board and the work memory of the run.
 pub fn start(board: &mut [u64], work: &mut [u64], lines: u64, entries: u64) -> Run
-    ensures { λ r. ⌜ Runs (resting (wokenState (woken lines entries (now (board .entry)) (now (work .entry))))) (now (board .exit)) (now (work .exit)) r ⌝ }
+    ensures { λ r. ⌜ Runs (resting (startedState (started lines entries (now (board .entry)) (now (work .entry))))) (now (board .exit)) (now (work .exit)) r ⌝ }
 {
-    let answer = benchboard::wake(board, work, lines, entries);
+    let answer = benchboard::start(board, work, lines, entries);
     let status = answer.status;
     let registers = answer.registers;
     Run::new(status, registers)

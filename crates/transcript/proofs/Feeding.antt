@@ -2,36 +2,49 @@
 use Prim.Native.Nat.{ℕ, _+_, _-_, _<_, _≤_}
 use mathlib.Core.Path.{_≡_, refl, sym, ap, _∙_}
 use mathlib.Core.Bool.{Bool, true, false, not}
-use mathlib.Core.List.{List, _++_, append-assoc}
+use mathlib.Core.List.{List, [], _∷_, _++_, foldl-append, append-assoc}
 use borrow.Author.Tests.{lt-leb, le-leb}
 use native.Mathlib.Numerals.{add-one}
 use native.Mathlib.Omega.{arith}
-use lib.ListN.{length, getD, take}
+use lib.ListN.{length, getD, take, length-append}
+use lib.Seq.{take-suc}
 use Rattle.base.specs.Walk.{Walked, walk-start, walk-end, walk-found, walk-next}
+use Rattle.text.specs.Printing.{same-behind}
 use Rattle.transcript.specs.declared.Session.{Session}
 use Rattle.transcript.specs.Printing.{longest}
-use Rattle.transcript.specs.Session.{Turn, roomy, feedTurn, bytesTurn, takenOf, Ready, Turns, Feeds}
+use Rattle.transcript.specs.Session.{Machine, machineOf, sessionOf, Turn, resting, roomy, feedTurn, fedByte, fed, victimOf, Ready, Turns, Feeds}
 use Rattle.transcript.specs.Laws.{still, ready-roomy}
 
 -- ── whether the buffer has room ──
 
 module _ (s : Session) (bytes : ℕ) where
-  pub roomy-short : bytes < longest → false ≡ roomy s bytes
+  pub roomy-short : bytes < longest → false ≡ roomy (s .used) bytes
   unfolding roomy
   roomy-short h = sym (lt-leb (s .used + longest) bytes (omega arith))
 
-  pub roomy-full : longest ≤ bytes → bytes - longest < s .used → false ≡ roomy s bytes
+  pub roomy-full : longest ≤ bytes → bytes - longest < s .used → false ≡ roomy (s .used) bytes
   unfolding roomy
   roomy-full g h = sym (lt-leb (s .used + longest) bytes (omega arith))
 
-  pub roomy-so : longest ≤ bytes → s .used ≤ bytes - longest → true ≡ roomy s bytes
+  pub roomy-so : longest ≤ bytes → s .used ≤ bytes - longest → true ≡ roomy (s .used) bytes
   unfolding roomy
   roomy-so g h = sym (le-leb (s .used + longest) bytes (omega arith))
 
 -- ── the loop ──
 
+-- the turn of the first k bytes
+abbrev turnOf : Session → (input board work : List ℕ) → ℕ → Turn
+turnOf s input board work k = fed (resting (machineOf s board work)) (take k input)
+
 abbrev roomAfter : Session → (input board work out : List ℕ) → ℕ → Bool
-roomAfter s input board work out k = roomy (bytesTurn s input board work k .session) (length out)
+roomAfter s input board work out k = roomy (s .used + length (turnOf s input board work k .text)) (length out)
+
+-- one byte more
+turn-next : (s : Session) (input board work : List ℕ) (k : ℕ) → k < length input
+    → turnOf s input board work (k + 1) ≡ fedByte (turnOf s input board work k) (getD input k 0)
+unfolding fed
+turn-next s input board work k h =
+    rw (add-one, take-suc input k 0 h) (foldl-append fedByte (resting (machineOf s board work)) (take k input) (getD input k 0 ∷ []))
 
 -- the first i bytes were read, each where there was room
 pub record Feeding (s₀ : Session) (input board₀ work₀ out₀ board work out : List ℕ) (s : Session) (i : ℕ) : Type 0 where
@@ -40,10 +53,10 @@ pub record Feeding (s₀ : Session) (input board₀ work₀ out₀ board work ou
   pub same-work : length work ≡ length work₀
   pub same-out : length out ≡ length out₀
   pub walked : Walked (roomAfter s₀ input board₀ work₀ out₀) (length input) i
-  pub turns : Turns (length out₀) s₀ out₀ (bytesTurn s₀ input board₀ work₀ i) board work out s
+  pub turns : Turns (length out₀) s₀ out₀ (turnOf s₀ input board₀ work₀ i) board work out s
 
 pub feeding-start : (s : Session) (input board work out : List ℕ) → Ready s board work out → Feeding s input board work out board work out s 0
-unfolding bytesTurn
+unfolding fed
 feeding-start s input board work out ready =
     record {
       ready = ready;
@@ -51,50 +64,52 @@ feeding-start s input board work out ready =
       same-work = refl;
       same-out = refl;
       walked = walk-start (roomAfter s input board work out) (length input);
-      turns = still s board work out ready (length out) (omega (arith, ready .room)) s s refl refl refl;
+      turns = still s board work out ready (length out) (omega (arith, ready .room)) s (machineOf s board work) refl refl;
     }
 
 module _ (s₀ : Session) (input board₀ work₀ out₀ board work out : List ℕ) (s : Session) (i : ℕ) (f : Feeding s₀ input board₀ work₀ out₀ board work out s i) where
   pub feeding-end : length input ≤ i → Feeds s₀ input board₀ work₀ out₀ board work out (record { session = s; taken = i })
-  unfolding takenOf
+  unfolding victimOf
   feeding-end h = record { taken = walk-end (f .walked) h; turns = f .turns }
 
-  module _ (t : Bool) (is : t ≡ roomy s (length out)) where
+  module _ (t : Bool) (is : t ≡ roomy (s .used) (length out)) where
     tested : t ≡ roomAfter s₀ input board₀ work₀ out₀ i
     tested = is ∙ rw (f .turns .session, f .same-out)
 
     pub feeding-full : i < length input → not t ≡ true → Feeds s₀ input board₀ work₀ out₀ board work out (record { session = s; taken = i })
-    unfolding takenOf
+    unfolding victimOf
     feeding-full g h = record { taken = walk-found (f .walked) t tested g h; turns = f .turns }
 
     module _ (h : not t ≡ false) where
+      abbrev before : Turn
+      before = turnOf s₀ input board₀ work₀ i
+
       pub feed-ready : Ready s board work out
       feed-ready =
-          ready-roomy (length out₀) s₀ s (bytesTurn s₀ input board₀ work₀ i) board₀ work₀ out₀ board work out (f .ready .lent .board-length) (f .ready .lent .work-length)
+          ready-roomy (length out₀) s₀ s before board₀ work₀ out₀ board work out (f .ready .lent .board-length) (f .ready .lent .work-length)
           (f .turns) (f .same-board) (f .same-work) t is h
 
-      module _ (board′ work′ out′ : List ℕ) (s′ : Session) (p : Turns (s .used + longest) s out (feedTurn s (getD input i 0) board work) board′ work′ out′ s′) where
-        abbrev before : Turn
-        before = bytesTurn s₀ input board₀ work₀ i
-
+      module _ (board′ work′ out′ : List ℕ) (s′ : Session) (p : Turns (s .used + longest) s out (feedTurn (machineOf s board work) (getD input i 0)) board′ work′ out′ s′) where
         abbrev next : Turn
-        next = feedTurn (before .session) (getD input i 0) (before .board) (before .work)
+        next = feedTurn (before .machine) (getD input i 0)
 
-        from-before : feedTurn s (getD input i 0) board work ≡ next
+        from-before : feedTurn (machineOf s board work) (getD input i 0) ≡ next
         from-before = rw (f .turns .session, f .turns .board-left, f .turns .work-left)
 
-        followed-by : Turns (length out₀) s₀ out₀ (bytesTurn s₀ input board₀ work₀ (i + 1)) board′ work′ out′ s′
-        unfolding bytesTurn
-        followed-by =
-            rw add-one (record {
-              session = p .session ∙ ap (λ (u : Turn). u .session) from-before;
-              shown = p .shown
-                  ∙ ap (λ (u : Turn). take (s .used) out ++ u .text) from-before
-                  ∙ ap (λ (x : List ℕ). x ++ next .text) (f .turns .shown)
+        followed-by : i < length input → Turns (length out₀) s₀ out₀ (turnOf s₀ input board₀ work₀ (i + 1)) board′ work′ out′ s′
+        followed-by g =
+            let used : s .used ≡ s₀ .used + length (before .text) = ap (λ (x : Session). x .used) (f .turns .session) in
+            let q : Turns (s .used + longest) s out next board′ work′ out′ s′ = rw from-before at p in
+            let used′ : s′ .used ≡ s .used + length (next .text) = ap (λ (x : Session). x .used) (q .session) in
+            rw (turn-next s₀ input board₀ work₀ i g) (record {
+              session = q .session
+                  ∙ ap (sessionOf (next .machine)) (rw (used, length-append (before .text) (next .text)) (omega arith));
+              shown = q .shown ∙ ap (λ (x : List ℕ). x ++ next .text) (f .turns .shown)
                   ∙ append-assoc (take (s₀ .used) out₀) (before .text) (next .text);
-              board-left = p .board-left ∙ ap (λ (u : Turn). u .board) from-before;
-              work-left = p .work-left ∙ ap (λ (u : Turn). u .work) from-before;
-              kept = record { sized = p .kept .sized; used-most = omega (arith, p .kept .used-most, feed-ready .room, f .same-out) };
+              behind = q .behind ∙ same-behind (s .used) (s′ .used) out out₀ (omega (arith, used′)) (f .turns .behind);
+              board-left = q .board-left;
+              work-left = q .work-left;
+              kept = record { sized = q .kept .sized; used-most = omega (arith, q .kept .used-most, feed-ready .room, f .same-out) };
             })
 
         pub feeding-next : i < length input → length board′ ≡ length board → length work′ ≡ length work → length out′ ≡ length out
@@ -106,5 +121,5 @@ module _ (s₀ : Session) (input board₀ work₀ out₀ board work out : List �
               same-work = w ∙ f .same-work;
               same-out = o ∙ f .same-out;
               walked = walk-next (f .walked) t tested g h;
-              turns = followed-by;
+              turns = followed-by g;
             }

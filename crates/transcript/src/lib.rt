@@ -6,8 +6,9 @@ ghost use lib.ListN.{length};
 ghost use Rattle.text.specs.Printing.{Prints};
 ghost use Rattle.transcript.specs.Text.{headText, lineText, badText, replyText};
 ghost use Rattle.transcript.specs.Printing.{longest};
-ghost use Rattle.transcript.specs.Session.{newSession, emptiedSession, closed, ends, roomy, lineTurn, feedTurn, finishTurn, Ready, Turns, Feeds};
-ghost use Rattle.transcript.specs.Session.{reading as readOn};
+ghost use Rattle.transcript.specs.Script.{ends};
+ghost use Rattle.transcript.specs.Session.{newSession, emptiedSession, readingSession, closedSession, machineOf, roomy};
+ghost use Rattle.transcript.specs.Session.{lineTurn, feedTurn, finishTurn, Ready, Turns, Feeds};
 use replay::Bench;
 use replay::Line;
 use replay::Reply;
@@ -134,7 +135,7 @@ impl Session {
 
     // Whether a buffer of so many bytes has room for one more line.
     pub fn is_roomy(self, bytes: usize) -> bool
-        ensures { λ r. ⌜ r ≡ roomy self bytes ⌝ }
+        ensures { λ r. ⌜ r ≡ roomy (self .used) bytes ⌝ }
     {
         if bytes < LONGEST_LINE {
             return false;
@@ -147,7 +148,7 @@ impl Session {
 
     // One more byte of the line that is being read.
     fn reading(self, byte: u8) -> Session
-        ensures { λ r. ⌜ r ≡ readOn self byte ⌝ }
+        ensures { λ r. ⌜ r ≡ readingSession self byte ⌝ }
     {
         let bench = self.bench;
         let reader = self.reader;
@@ -162,7 +163,7 @@ impl Session {
     }
 
     fn closed(self) -> Session
-        ensures { λ r. ⌜ r ≡ closed self ⌝ }
+        ensures { λ r. ⌜ r ≡ closedSession self ⌝ }
     {
         let bench = self.bench;
         let reader = self.reader;
@@ -180,7 +181,7 @@ impl Session {
 // The line that has been read is performed. No script has 2^64 lines, so its number does not wrap.
 fn end_line(session: Session, board: &mut [u64], work: &mut [u64], out: &mut [u8]) -> Session
     requires { ⌜ Ready session (now board) (now work) (now out) ⌝ }
-    ensures { λ r. ⌜ Turns (session .used + longest) session (now (out .entry)) (lineTurn session (now (board .entry)) (now (work .entry))) (now (board .exit)) (now (work .exit)) (now (out .exit)) r ⌝ }
+    ensures { λ r. ⌜ Turns (session .used + longest) session (now (out .entry)) (lineTurn (machineOf session (now (board .entry)) (now (work .entry)))) (now (board .exit)) (now (work .exit)) (now (out .exit)) r ⌝ }
 {
     let bench = session.bench;
     let reader = session.reader;
@@ -200,7 +201,7 @@ fn end_line(session: Session, board: &mut [u64], work: &mut [u64], out: &mut [u8
 // One byte of the script.
 fn feed(session: Session, byte: u8, board: &mut [u64], work: &mut [u64], out: &mut [u8]) -> Session
     requires { ⌜ Ready session (now board) (now work) (now out) ⌝ }
-    ensures { λ r. ⌜ Turns (session .used + longest) session (now (out .entry)) (feedTurn session byte (now (board .entry)) (now (work .entry))) (now (board .exit)) (now (work .exit)) (now (out .exit)) r ⌝ }
+    ensures { λ r. ⌜ Turns (session .used + longest) session (now (out .entry)) (feedTurn (machineOf session (now (board .entry)) (now (work .entry))) byte) (now (board .exit)) (now (work .exit)) (now (out .exit)) r ⌝ }
 {
     if session.over {
         return session;
@@ -240,7 +241,7 @@ pub fn feed_bytes(
 // The end of the script: a last line with no line feed is a line, if it has a byte.
 pub fn finish(session: Session, board: &mut [u64], work: &mut [u64], out: &mut [u8]) -> Session
     requires { ⌜ Ready session (now board) (now work) (now out) ⌝ }
-    ensures { λ r. ⌜ Turns (session .used + longest) session (now (out .entry)) (finishTurn session (now (board .entry)) (now (work .entry))) (now (board .exit)) (now (work .exit)) (now (out .exit)) r ⌝ }
+    ensures { λ r. ⌜ Turns (session .used + longest) session (now (out .entry)) (finishTurn (machineOf session (now (board .entry)) (now (work .entry)))) (now (board .exit)) (now (work .exit)) (now (out .exit)) r ⌝ }
 {
     if session.over {
         return session;

@@ -2,7 +2,7 @@
 -- advance drops.
 use Prim.Native.Nat.{ℕ, zero, suc, _+_, _-_, _*_, _<_, _≤_}
 use mathlib.Core.Path.{_≡_, refl, sym, ap, _∙_}
-use mathlib.Core.Bool.{Bool, true, false, not, _&&_, and-true, and-false, and-assoc}
+use mathlib.Core.Bool.{Bool, true, false, not, _&&_, and-true, and-false}
 use mathlib.Core.List.{List}
 use native.Mathlib.Numerals.{add-one}
 use native.Mathlib.Omega.{arith}
@@ -10,16 +10,18 @@ use borrow.Author.Tests.{lt-ltb, le-leb, lt-leb, ltb-true, ltb-false, leb-true, 
 use lib.Dec.{ltb, leb}
 use lib.ListN.{length, getD}
 use Rattle.base.specs.Walk.{first, Walked, walk-start, walk-end, walk-stop, walk-pass, walk-found, walk-next, walk-all, walk-not-all, first-same, first-early, first-late, first-all, both-first}
+use Rattle.ranges.specs.Ranges.{Range, properRange}
 use Rattle.layout.specs.declared.Entry.{Entry}
 use Rattle.layout.specs.Limits.{mostLines, mostAhead}
 use Rattle.layout.specs.Memory.{logAt, linesAt}
 use Rattle.layout.specs.Words.{Decoded, EntryFits, decodeEntry}
 use Rattle.undo.specs.declared.LogState.{LogState}
-use Rattle.undo.specs.Entries.{properEntry, properBuffered}
-use Rattle.undo.specs.Log.{Sound, Placed, placeOf, entryIn, olderTill, properAt, firstImproper}
+use Rattle.undo.specs.Entries.{rangeOf, properEntry}
+use Rattle.undo.specs.Recovery.{olderTill, properAt, firstImproper}
+use Rattle.undo.specs.Log.{Sound, Placed, placeOf, entryIn, logIn}
 use Rattle.undo.specs.Filter.{marks}
 use Rattle.undo.specs.Log.{bufferedIn, bufferedProper, bufferProper, bufferedMarked, bufferMarked, expired, dropped, KeptBy}
-use Rattle.undo.specs.Contracts.{properBetween, Straight, Bounds, Searched, SearchReady, expiredFrom, KeptFrom}
+use Rattle.undo.specs.Contracts.{Straight, Bounds, Searched, SearchReady, expiredFrom, KeptFrom}
 use Rattle.undo.specs.Laws.{proper-till}
 use Rattle.undo.specs.Ring.{entryAt}
 use Rattle.undo.proofs.Ring.{straight-place, turned-place}
@@ -34,18 +36,18 @@ module _ (epoch least most : ℕ) where
 
 -- the test of an entry's word, one law for each way out
 module _ (word lines least most : ℕ) (t : Bool) (address : t ≡ ltb (decodeEntry word .address) lines) where
-  pub word-address : not t ≡ true → false ≡ properBetween lines least most (decodeEntry word)
-  unfolding properBetween
+  pub word-address : not t ≡ true → false ≡ properRange lines least most (rangeOf (decodeEntry word))
+  unfolding properRange
   word-address x = rw (← address, not-true t x)
 
   module _ (named : not t ≡ false) (s : Bool) (range : s ≡ ltb (decodeEntry word .from) (decodeEntry word .till)) where
-    pub word-empty : not s ≡ true → false ≡ properBetween lines least most (decodeEntry word)
-    unfolding properBetween
+    pub word-empty : not s ≡ true → false ≡ properRange lines least most (rangeOf (decodeEntry word))
+    unfolding properRange
     word-empty x = rw (← address, not-false t named, ← range, not-true s x)
 
     pub word-till : (r : Bool) → not s ≡ false → (e : Entry) → Decoded EntryFits (decodeEntry word) e
-        → r ≡ leb least (e .till) && leb (e .till) most → r ≡ properBetween lines least most (decodeEntry word)
-    unfolding properBetween
+        → r ≡ leb least (e .till) && leb (e .till) most → r ≡ properRange lines least most (rangeOf (decodeEntry word))
+    unfolding properRange
     word-till r x e d between = between ∙ rw (← address, not-false t named, ← range, not-false s x, d .is)
 
 -- the two lower bounds of a ValidTill that one stands for
@@ -69,17 +71,21 @@ bounds-next persisted older h till = go (leb older till) refl
         none true = refl
         none false = refl
 
-proper-between : (lines persisted older least : ℕ) → Bounds persisted older least → (e : Entry)
-    → properBetween lines least (persisted + mostAhead) e ≡ properEntry lines persisted older e
-unfolding properBetween properEntry
-proper-between lines persisted older least h e =
-    rw (h (e .till))
-    (ap (λ (t : Bool). t && leb (e .till) (persisted + mostAhead))
-    (sym (and-assoc (ltb (e .address) lines && ltb (e .from) (e .till)) (ltb persisted (e .till)) (leb older (e .till)))))
+proper-between : (lines persisted older least : ℕ) → Bounds persisted older least → (r : Range)
+    → properRange lines least (persisted + mostAhead) r ≡ properEntry lines persisted older r
+unfolding properRange properEntry
+proper-between lines persisted older least h r =
+    rw (h (r .till)) (go (ltb persisted (r .till)) (ltb (r .address) lines && ltb (r .from) (r .till)))
+  where
+    go : (t some : Bool)
+        → some && (t && leb older (r .till)) && leb (r .till) (persisted + mostAhead)
+        ≡ t && (some && leb older (r .till) && leb (r .till) (persisted + mostAhead))
+    go true some = refl
+    go false some = rw and-false
 
 -- the search for the first improper entry, from one on up to another
 module _ {board : List ℕ} {u : LogState} {lines i at least to : ℕ} (s : Searched board u lines i at least to) where
-  pub search-end : to ≤ i → i ≡ first (properAt board u lines) to
+  pub search-end : to ≤ i → i ≡ first (properAt (logIn board u) lines) to
   search-end h = walk-end (s .walked) h
 
   module _ (h : i < to) where
@@ -103,14 +109,14 @@ module _ {board : List ℕ} {u : LogState} {lines i at least to : ℕ} (s : Sear
               ap (placeOf u) e ∙ s .straight .placed (k + 1) (omega arith) ∙ p;
         }
 
-    module _ (t : Bool) (a : t ≡ properBetween lines least (u .control .persisted + mostAhead) (decodeEntry (getD board (logAt + at) 0))) where
-      tested : t ≡ properAt board u lines i
+    module _ (t : Bool) (a : t ≡ properRange lines least (u .control .persisted + mostAhead) (rangeOf (decodeEntry (getD board (logAt + at) 0)))) where
+      tested : t ≡ properAt (logIn board u) lines i
       unfolding properAt
       tested =
-          a ∙ ap (properBetween lines least (u .control .persisted + mostAhead)) word-read
-          ∙ proper-between lines _ _ least (s .carried) (entryIn board u i)
+          a ∙ ap (λ (e : Entry). properRange lines least (u .control .persisted + mostAhead) (rangeOf e)) word-read
+          ∙ proper-between lines _ _ least (s .carried) (rangeOf (entryIn board u i))
 
-      pub search-found : not t ≡ true → i ≡ first (properAt board u lines) to
+      pub search-found : not t ≡ true → i ≡ first (properAt (logIn board u) lines) to
       search-found x = walk-found (s .walked) t tested h x
 
       pub search-next : (e : Entry) → not t ≡ false → Decoded EntryFits (decodeEntry (getD board (logAt + at) 0)) e
@@ -118,7 +124,7 @@ module _ {board : List ℕ} {u : LogState} {lines i at least to : ℕ} (s : Sear
       unfolding olderTill
       search-next e x d =
           let same : e ≡ entryIn board u i = d .is ∙ word-read in
-          let above : u .control .persisted < entryIn board u i .till = proper-till board u lines i (sym tested ∙ not-false t x) in
+          let above : u .control .persisted < entryIn board u i .till = proper-till (logIn board u) lines i (sym tested ∙ not-false t x) in
           record {
             walked = walk-next (s .walked) t tested h x;
             straight = straight-next;
@@ -127,19 +133,21 @@ module _ {board : List ℕ} {u : LogState} {lines i at least to : ℕ} (s : Sear
 
 -- the test of a buffered entry's word, one law for each way out
 module _ (word lines epoch : ℕ) (t : Bool) (address : t ≡ ltb (decodeEntry word .address) lines) where
-  pub buffered-outside : not t ≡ true → false ≡ properBuffered lines epoch (decodeEntry word)
-  unfolding properBuffered
+  pub buffered-outside : not t ≡ true → false ≡ properRange lines 0 epoch (rangeOf (decodeEntry word))
+  unfolding properRange
   buffered-outside x = rw (← address, not-true t x)
 
   module _ (named : not t ≡ false) (s : Bool) (till : s ≡ leb (decodeEntry word .till) epoch) where
-    pub buffered-late : not s ≡ true → false ≡ properBuffered lines epoch (decodeEntry word)
-    unfolding properBuffered
+    pub buffered-late : not s ≡ true → false ≡ properRange lines 0 epoch (rangeOf (decodeEntry word))
+    unfolding properRange
     buffered-late x = rw (← address, not-false t named, ← till, not-true s x, and-false)
 
     pub buffered-range : (r : Bool) → not s ≡ false → r ≡ ltb (decodeEntry word .from) (decodeEntry word .till)
-        → r ≡ properBuffered lines epoch (decodeEntry word)
-    unfolding properBuffered
-    buffered-range r x range = rw (← address, not-false t named, ← till, not-false s x, ← range, and-true)
+        → r ≡ properRange lines 0 epoch (rangeOf (decodeEntry word))
+    unfolding properRange
+    buffered-range r x range =
+        let least : leb 0 (decodeEntry word .till) ≡ true = le-leb 0 (decodeEntry word .till) (omega arith) in
+        rw (← address, not-false t named, ← till, not-false s x, ← range, least, and-true, and-true)
 
 -- the walk over the buffered entries that tests each, and the filter's bits of each
 abbrev pub soundAt : List ℕ → (lines epoch : ℕ) → ℕ → Bool
@@ -153,7 +161,7 @@ module _ (buffer : List ℕ) (count lines epoch i : ℕ) (w : Walked (soundAt bu
   pub sound-end : count ≤ i → true ≡ bufferProper buffer count lines epoch && bufferMarked buffer count
   sound-end h = walk-all w h ∙ sound-both
 
-  module _ (h : i < count) (t : Bool) (proper : t ≡ properBuffered lines epoch (decodeEntry (getD buffer (2 * i) 0))) where
+  module _ (h : i < count) (t : Bool) (proper : t ≡ properRange lines 0 epoch (rangeOf (decodeEntry (getD buffer (2 * i) 0)))) where
     pub sound-improper : not t ≡ true → false ≡ bufferProper buffer count lines epoch && bufferMarked buffer count
     unfolding bufferedProper bufferedIn
     sound-improper x =
@@ -252,7 +260,7 @@ module _ (board : List ℕ) (u : LogState) (lines : ℕ) (sound : Sound u) (some
         board-words = words;
         searched =
             record {
-              walked = walk-start (properAt board u lines) to;
+              walked = walk-start (properAt (logIn board u) lines) to;
               straight = stretch-low u sound to h;
               carried = bounds-first (u .control .persisted);
             };
@@ -268,17 +276,17 @@ module _ (board : List ℕ) (u : LogState) (lines : ℕ) (sound : Sound u) (some
   pub search-low : SearchReady board u lines 0 (2 * u .control .start) (u .control .persisted + 1) before-end
   search-low = ready-low before-end (omega (arith, sound .begin))
 
-  module _ (turns : before-end < u .control .length) (r : ℕ) (found : r ≡ first (properAt board u lines) before-end) where
-    pub search-early : r < before-end → r ≡ firstImproper board u lines
+  module _ (turns : before-end < u .control .length) (r : ℕ) (found : r ≡ first (properAt (logIn board u) lines) before-end) where
+    pub search-early : r < before-end → r ≡ firstImproper (logIn board u) lines
     unfolding firstImproper
     search-early h =
         let whole : u .control .length ≡ before-end + (u .control .length - before-end) = omega arith in
-        found ∙ sym (first-early (properAt board u lines) before-end (u .control .length - before-end) (omega (arith, found)))
-        ∙ ap (first (properAt board u lines)) (sym whole)
+        found ∙ sym (first-early (properAt (logIn board u) lines) before-end (u .control .length - before-end) (omega (arith, found)))
+        ∙ ap (first (properAt (logIn board u) lines)) (sym whole)
 
     module _ (passed : before-end ≤ r) where
-      proper : (i : ℕ) → i < before-end → properAt board u lines i ≡ true
-      proper = first-all (properAt board u lines) before-end (omega (arith, found))
+      proper : (i : ℕ) → i < before-end → properAt (logIn board u) lines i ≡ true
+      proper = first-all (properAt (logIn board u) lines) before-end (omega (arith, found))
 
       abbrev last : ℕ
       last = before-end - 1
@@ -291,12 +299,12 @@ module _ (board : List ℕ) (u : LogState) (lines : ℕ) (sound : Sound u) (some
           ap (λ (p : ℕ). decodeEntry (getD board p 0)) e
 
       last-older : (e : Entry) → Decoded EntryFits (decodeEntry (getD board (linesAt (u .entries) - 2) 0)) e
-          → Bounds (u .control .persisted) (olderTill board u before-end) (e .till)
+          → Bounds (u .control .persisted) (olderTill (logIn board u) before-end) (e .till)
       unfolding olderTill
       last-older e d =
           let same : e ≡ entryIn board u last = d .is ∙ last-read in
           let behind : before-end ≡ suc last = omega (arith, sound .begin) in
-          let above : u .control .persisted < entryIn board u last .till = proper-till board u lines last (proper last (omega (arith, sound .begin))) in
+          let above : u .control .persisted < entryIn board u last .till = proper-till (logIn board u) lines last (proper last (omega (arith, sound .begin))) in
           rw (behind, same) (bounds-next (u .control .persisted) (entryIn board u last .till) above)
 
       pub search-high : (lines-place : ℕ) → lines-place ≡ linesAt (u .entries) → (e : Entry)
@@ -310,13 +318,13 @@ module _ (board : List ℕ) (u : LogState) (lines : ℕ) (sound : Sound u) (some
             board-words = words;
             searched =
                 record {
-                  walked = walked-to (properAt board u lines) (u .control .length) before-end (omega arith) proper;
+                  walked = walked-to (properAt (logIn board u) lines) (u .control .length) before-end (omega arith) proper;
                   straight = stretch-high u sound (omega arith);
                   carried = last-older e (rw p at d);
                 };
           }
 
-pub search-all : (board : List ℕ) (u : LogState) (lines r : ℕ) → r ≡ first (properAt board u lines) (u .control .length) → r ≡ firstImproper board u lines
+pub search-all : (board : List ℕ) (u : LogState) (lines r : ℕ) → r ≡ first (properAt (logIn board u) lines) (u .control .length) → r ≡ firstImproper (logIn board u) lines
 unfolding firstImproper
 search-all board u lines r h = h
 

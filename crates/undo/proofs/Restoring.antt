@@ -12,16 +12,28 @@ use Rattle.board.specs.Stores.{Store, one, shifted, each, Ran}
 use Rattle.board.specs.Laws.{ran-none, ran-then, ran-length, each-none, each-next}
 use Rattle.board.specs.Parts.{ran-part}
 use Rattle.board.specs.Kept.{Beyond, beyond-none, beyond-one, beyond-each, ran-kept}
+use Rattle.ranges.specs.Ranges.{covers}
 use Rattle.layout.specs.declared.Entry.{Entry}
 use Rattle.layout.specs.Memory.{controlAt, logAt, linesAt}
 use Rattle.layout.specs.Words.{Decoded, EntryFits, decodeEntry, encodeControl}
 use Rattle.undo.specs.declared.LogState.{LogState}
-use Rattle.undo.specs.Entries.{covers}
-use Rattle.undo.specs.Log.{Sound, placeOf, entryIn, oldIn, olderTill, properAt, restoreStores, restoreTurn, emptied, recoverStores}
+use Rattle.undo.specs.Entries.{rangeOf}
+use Rattle.undo.specs.Recovery.{olderTill, properAt, restoreStores, restoreTurn, restoreAll}
+use Rattle.undo.specs.Log.{Sound, placeOf, entryIn, oldIn, logIn, emptied, recoverStores}
 use Rattle.undo.specs.Ring.{entryAt, restoreAt}
 use Rattle.undo.specs.Contracts.{RecoverReady, turnFrom, Below, TurnsReady, RestoreReady}
 use Rattle.undo.specs.Laws.{proper-named, proper-till}
 use Rattle.undo.proofs.Ring.{place-below, straight-place, turned-place}
+
+-- recovery's stores from the log on the board: of one entry, of one turn, and all
+abbrev storesIn : List ℕ → LogState → ℕ → List Store
+storesIn board u = restoreStores (logIn board u) (linesAt (u .entries))
+
+abbrev turnIn : List ℕ → LogState → ℕ → List Store
+turnIn board u = restoreTurn (logIn board u) (linesAt (u .entries))
+
+abbrev pub allIn : List ℕ → LogState → List Store
+allIn board u = restoreAll (logIn board u) (linesAt (u .entries))
 
 -- one entry, at its place
 module _ (board : List ℕ) (u : LogState) (at : ℕ) (e : Entry) (read : Decoded EntryFits (entryAt board at) e) where
@@ -47,7 +59,7 @@ module _ (board : List ℕ) (u : LogState) (at : ℕ) (e : Entry) (read : Decode
 
 -- of an entry that ends above P, the test of its begin alone decides
 restore-same : (board : List ℕ) (u : LogState) (i at : ℕ) → at ≡ placeOf u i → u .control .persisted < entryIn board u i .till
-    → restoreAt board u at ≡ restoreStores board u i
+    → restoreAt board u at ≡ storesIn board u i
 unfolding restoreAt restoreStores covers entryIn oldIn
 restore-same board u i at p h = rw (p, lt-ltb (u .control .persisted) (entryIn board u i .till) h, and-true)
   where
@@ -56,15 +68,15 @@ restore-same board u i at p h = rw (p, lt-ltb (u .control .persisted) (entryIn b
     and-true false = refl
 
 -- all of them
-stores-beyond : (board : List ℕ) (u : LogState) (i : ℕ) → Beyond (linesAt (u .entries)) (restoreStores board u i)
+stores-beyond : (board : List ℕ) (u : LogState) (i : ℕ) → Beyond (linesAt (u .entries)) (storesIn board u i)
 unfolding restoreStores
-stores-beyond board u i = go (covers (entryIn board u i) (u .control .persisted))
+stores-beyond board u i = go (covers (rangeOf (entryIn board u i)) (u .control .persisted))
   where
     go : (t : Bool) → Beyond (linesAt (u .entries)) (cond t (one (linesAt (u .entries) + entryIn board u i .address) (oldIn board u i)) [])
     go true = beyond-one _ _ _ (omega arith)
     go false = beyond-none _
 
-turn-beyond : (board : List ℕ) (u : LogState) (j : ℕ) → Beyond (linesAt (u .entries)) (restoreTurn board u j)
+turn-beyond : (board : List ℕ) (u : LogState) (j : ℕ) → Beyond (linesAt (u .entries)) (turnIn board u j)
 unfolding restoreTurn
 turn-beyond board u j = stores-beyond board u _
 
@@ -86,7 +98,7 @@ module _ (board₀ : List ℕ) (u : LogState) (sound : Sound u) {m₀ : Meter} {
   unfolding oldIn
   old-kept i = kept (logAt + placeOf u i + 1) (omega (arith, place-below u sound i))
 
-  stores-kept : (i : ℕ) → restoreStores board u i ≡ restoreStores board₀ u i
+  stores-kept : (i : ℕ) → storesIn board u i ≡ storesIn board₀ u i
   unfolding restoreStores
   stores-kept i = rw (entry-kept i, old-kept i)
 
@@ -94,12 +106,12 @@ module _ (board₀ : List ℕ) (u : LogState) (sound : Sound u) {m₀ : Meter} {
   unfolding turnFrom restoreTurn
   turns-kept to j = stores-kept (u .control .length - (to + j + 1))
 
-  older-kept : (i : ℕ) → olderTill board u i ≡ olderTill board₀ u i
+  older-kept : (i : ℕ) → olderTill (logIn board u) i ≡ olderTill (logIn board₀ u) i
   unfolding olderTill
   older-kept zero = refl
   older-kept (suc i) = ap (λ (e : Entry). e .till) (entry-kept i)
 
-  proper-kept : (lines i : ℕ) → properAt board u lines i ≡ properAt board₀ u lines i
+  proper-kept : (lines i : ℕ) → properAt (logIn board u) lines i ≡ properAt (logIn board₀ u) lines i
   unfolding properAt
   proper-kept lines i = rw (entry-kept i, older-kept i)
 
@@ -142,13 +154,13 @@ module _ (board₀ : List ℕ) (u : LogState) (lines place from to : ℕ) (turns
         let same : placeOf u i + 2 * (0 + 1) ≡ at = ap (λ (k : ℕ). placeOf u (u .control .length - k) + 2 * (0 + 1)) (sym e) ∙ here in
         omega arith
 
-    proper : properAt board₀ u lines i ≡ true
+    proper : properAt (logIn board₀ u) lines i ≡ true
     proper = turns .ready .proper i (omega (arith, so-far .below .all))
 
     pub restore-ready : RestoreReady board u (at - 2)
     unfolding entryIn
     restore-ready =
-        let named : entryIn board₀ u i .address < lines = proper-named board₀ u lines i proper in
+        let named : entryIn board₀ u i .address < lines = proper-named (logIn board₀ u) lines i proper in
         record {
           sound = turns .ready .sound;
           below = omega (arith, placed, place-below u (turns .ready .sound) i);
@@ -178,10 +190,10 @@ module _ (board₀ : List ℕ) (u : LogState) (lines place from to : ℕ) (turns
     restore-next board′ m′ l x =
         let sound = turns .ready .sound in
         let till : u .control .persisted < entryIn board u i .till =
-        rw (entry-kept board₀ u sound from (j - from) (so-far .ran) i) (proper-till board₀ u lines i proper) in
+        rw (entry-kept board₀ u sound from (j - from) (so-far .ran) i) (proper-till (logIn board₀ u) lines i proper) in
         let more : j + 1 - from ≡ j - from + 1 = omega (arith, so-far .begun) in
         let turn : from + (j - from) + 1 ≡ j + 1 = omega (arith, so-far .begun) in
-        let there : Ran board m (restoreStores board₀ u i) board′ m′ =
+        let there : Ran board m (storesIn board₀ u i) board′ m′ =
         rw (restore-same board u i (at - 2) (sym placed) till, stores-kept board₀ u sound from (j - from) (so-far .ran) i) at x in
         record {
           begun = omega (arith, so-far .begun);
@@ -210,9 +222,9 @@ each-same f g same zero = refl
 each-same f g same (suc n) = ap₂ (λ (x y : List Store). x ++ y) (each-same f g same n) (same n)
 
 module _ (board : List ℕ) (u : LogState) (lines : ℕ) (ready : RecoverReady board u lines) where
-  from-newest : (n : ℕ) → each (turnFrom board u 0) n ≡ each (restoreTurn board u) n
+  from-newest : (n : ℕ) → each (turnFrom board u 0) n ≡ each (turnIn board u) n
   unfolding turnFrom
-  from-newest = each-same (turnFrom board u 0) (restoreTurn board u) (λ k. let e : 0 + k ≡ k = omega arith in ap (restoreTurn board u) e)
+  from-newest = each-same (turnFrom board u 0) (turnIn board u) (λ k. let e : 0 + k ≡ k = omega arith in ap (turnIn board u) e)
 
   pub turns-straight : u .control .length ≤ u .entries - u .control .start
       → TurnsReady board u lines (2 * (u .control .start + u .control .length)) 0 (u .control .length)
@@ -233,7 +245,7 @@ module _ (board : List ℕ) (u : LogState) (lines : ℕ) (ready : RecoverReady b
 
   pub restored-straight : {m : Meter} {board′ : List ℕ} {m′ : Meter}
       → Ran board m (each (turnFrom board u 0) (u .control .length - 0)) board′ m′
-      → Ran board m (each (restoreTurn board u) (u .control .length)) board′ m′
+      → Ran board m (allIn board u) board′ m′
   restored-straight x = let e : u .control .length - 0 ≡ u .control .length = omega arith in rw (e, from-newest (u .control .length)) at x
 
   module _ (turns : u .entries - u .control .start < u .control .length) where
@@ -277,23 +289,23 @@ module _ (board : List ℕ) (u : LogState) (lines : ℕ) (ready : RecoverReady b
           }
 
       pub restored-both : {board″ : List ℕ} {m″ : Meter} → Ran board′ m′ (each (turnFrom board′ u turned) (u .control .length - turned)) board″ m″
-          → Ran board m (each (restoreTurn board u) (u .control .length)) board″ m″
+          → Ran board m (allIn board u) board″ m″
       unfolding turnFrom
       restored-both y =
           let older = u .control .length - turned in
           let all : u .control .length ≡ turned + older = omega arith in
           let newer : turned - 0 ≡ turned = omega arith in
-          let same : each (turnFrom board′ u turned) older ≡ each (λ (k : ℕ). restoreTurn board u (turned + k)) older =
-          each-same (turnFrom board′ u turned) (λ (k : ℕ). restoreTurn board u (turned + k))
+          let same : each (turnFrom board′ u turned) older ≡ each (λ (k : ℕ). turnIn board u (turned + k)) older =
+          each-same (turnFrom board′ u turned) (λ (k : ℕ). turnIn board u (turned + k))
           (turns-kept board u (ready .sound) 0 (turned - 0) x turned) older in
-          let parts : each (restoreTurn board u) (u .control .length)
-          ≡ each (restoreTurn board u) turned ++ each (λ (k : ℕ). restoreTurn board u (turned + k)) older =
-          ap (each (restoreTurn board u)) all ∙ each-parts (restoreTurn board u) turned older in
+          let parts : allIn board u
+          ≡ each (turnIn board u) turned ++ each (λ (k : ℕ). turnIn board u (turned + k)) older =
+          ap (each (turnIn board u)) all ∙ each-parts (turnIn board u) turned older in
           rw parts (ran-then (rw (newer, from-newest turned) at x) (rw same at y))
 
 -- and then the control word
 pub recover-done : (u : LogState) (w : ℕ) {board board′ board″ : List ℕ} {m m′ m″ : Meter}
-    → Ran board m (each (restoreTurn board u) (u .control .length)) board′ m′ → w ≡ encodeControl (emptied (u .control))
+    → Ran board m (allIn board u) board′ m′ → w ≡ encodeControl (emptied (u .control))
     → Ran board′ m′ (one controlAt w) board″ m″ → Ran board m (recoverStores board u) board″ m″
 unfolding recoverStores
 recover-done u w x h y = rw (← h) (ran-then x y)

@@ -16,13 +16,9 @@ use Rattle.layout.specs.Words.{EntryFits}
 use Rattle.undo.specs.declared.LogState.{LogState}
 use Rattle.undo.specs.declared.Progress.{Progress}
 use Rattle.undo.specs.Filter.{firstBit, secondBit, isSet}
-use Rattle.undo.specs.Log.{Sound, placeOf, olderTill, properAt, restoreTurn, flushStores, flushed, flushedBuffer, pushed, counted}
+use Rattle.undo.specs.Recovery.{olderTill, restoreTurn, properAt}
+use Rattle.undo.specs.Log.{Sound, placeOf, logIn, flushStores, flushed, flushedBuffer, pushed, counted}
 use Rattle.undo.specs.Ring.{entryAt}
-
--- a proper entry, with one bound of ValidTill on either side: from below the larger of P + 1 and the next older entry's ValidTill
-unfoldable pub properBetween : (lines least most : ℕ) → Entry → Bool
-properBetween lines least most e =
-    ltb (e .address) lines && ltb (e .from) (e .till) && leb least (e .till) && leb (e .till) most
 
 -- the two bits of an address
 pub record FirstBit (address r : ℕ) : Type 0 where
@@ -79,9 +75,9 @@ Bounds persisted older least = (till : ℕ) → leb least till ≡ ltb persisted
 
 -- a search for the first improper entry that has come to entry i, which stands at a place, and goes on up to another
 pub record Searched (board : List ℕ) (u : LogState) (lines i at least to : ℕ) : Type 0 where
-  pub walked : Walked (properAt board u lines) to i
+  pub walked : Walked (properAt (logIn board u) lines) to i
   pub straight : Straight u i at to
-  pub carried : Bounds (u .control .persisted) (olderTill board u i) least
+  pub carried : Bounds (u .control .persisted) (olderTill (logIn board u) i) least
 
 pub record SearchReady (board : List ℕ) (u : LogState) (lines i at least to : ℕ) : Type 0 where
   pub sound : Sound u
@@ -110,11 +106,11 @@ pub record AdvanceReady (board : List ℕ) (u : LogState) (target : ℕ) : Type 
 pub record RecoverReady (board : List ℕ) (u : LogState) (lines : ℕ) : Type 0 where
   pub sound : Sound u
   pub board-words : boardWords lines (u .entries) ≤ length board
-  pub proper : (i : ℕ) → i < u .control .length → properAt board u lines i ≡ true
+  pub proper : (i : ℕ) → i < u .control .length → properAt (logIn board u) lines i ≡ true
 
 -- turn j from one on
 unfoldable pub turnFrom : List ℕ → LogState → (from : ℕ) → ℕ → List Store
-turnFrom board u from j = restoreTurn board u (from + j)
+turnFrom board u from j = restoreTurn (logIn board u) (linesAt (u .entries)) (from + j)
 
 -- the entries of the turns from one on up to another stand one before the other below a place
 pub record Below (u : LogState) (place from to : ℕ) : Type 0 where

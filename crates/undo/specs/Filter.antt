@@ -50,6 +50,3 @@ hits buffer count a = ltb 0 count && marks buffer a
 unfoldable pub onesOf : List ℕ → (words : ℕ) → ℕ
 onesOf buffer zero = 0
 onesOf buffer (suc k) = onesOf buffer k + ones (getD buffer (filterAt + k) 0)
-
-abbrev pub bitsSet : List ℕ → ℕ
-bitsSet buffer = onesOf buffer filterWords

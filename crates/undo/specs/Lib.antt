@@ -1,4 +1,5 @@
 pub mod Entries
+pub mod Recovery
 pub mod Filter
 pub mod Log
 pub mod Ring

@@ -2,10 +2,11 @@
 -- persisted epoch and a recovery owe.
 use Prim.Native.Nat.{ℕ, zero, suc, _+_, _-_, _*_, _%_, _^_, _<_, _≤_}
 use mathlib.Core.Path.{_≡_}
-use mathlib.Core.Bool.{Bool, false, cond, _||_}
+use mathlib.Core.Bool.{Bool, true, false, cond, _||_}
 use mathlib.Core.List.{List, [], _++_}
 use lib.Dec.{leb, eqb}
 use lib.ListN.{length, getD, set, replicate}
+use Rattle.ranges.specs.Ranges.{properRange}
 use Rattle.base.specs.Walk.{first}
 use Rattle.board.specs.Stores.{Store, one, each, shifted}
 use Rattle.layout.specs.declared.Control.{Control}
@@ -14,7 +15,8 @@ use Rattle.layout.specs.Limits.{epochBits, mostEntries, bufferPlaces}
 use Rattle.layout.specs.Memory.{controlAt, logAt, linesAt, entryWords}
 use Rattle.layout.specs.Words.{encodeControl, encodeEntry, decodeEntry}
 use Rattle.undo.specs.declared.LogState.{LogState}
-use Rattle.undo.specs.Entries.{covers, properEntry, properBuffered}
+use Rattle.undo.specs.Entries.{rangeOf}
+use Rattle.undo.specs.Recovery.{Log, properAt, firstImproper, restoreAll}
 use Rattle.undo.specs.Filter.{isBitOf, marks, marking}
 
 -- What holds of the log's numbers once a call's tests have passed.
@@ -41,24 +43,18 @@ entryIn board u i = decodeEntry (getD board (logAt + placeOf u i) 0)
 unfoldable pub oldIn : List ℕ → LogState → ℕ → ℕ
 oldIn board u i = getD board (logAt + placeOf u i + 1) 0
 
--- "a ValidTill not below that of the next older entry"; the oldest has none
-unfoldable pub olderTill : List ℕ → LogState → ℕ → ℕ
-olderTill board u zero = 0
-olderTill board u (suc i) = entryIn board u i .till
-
-unfoldable pub properAt : List ℕ → LogState → ℕ → ℕ → Bool
-properAt board u lines i = properEntry lines (u .control .persisted) (olderTill board u i) (entryIn board u i)
-
--- "value is i of the first, oldest counted 0"; the log's length where all entries are proper
-unfoldable pub firstImproper : List ℕ → LogState → ℕ → ℕ
-firstImproper board u lines = first (properAt board u lines) (u .control .length)
+-- as recovery reads it: an entry may have any word
+abbrev pub logIn : List ℕ → LogState → Log
+logIn board u =
+    record { persisted = u .control .persisted; count = u .control .length; formed = λ i. true; range = λ i. rangeOf (entryIn board u i); old = oldIn board u }
 
 -- The buffer, entry i behind i others.
 unfoldable pub bufferedIn : List ℕ → ℕ → Entry
 bufferedIn buffer i = decodeEntry (getD buffer (entryWords * i) 0)
 
+-- "A proper buffered entry has address < N and ValidFrom < ValidTill ≤ s."
 unfoldable pub bufferedProper : List ℕ → (lines epoch : ℕ) → ℕ → Bool
-bufferedProper buffer lines epoch i = properBuffered lines epoch (bufferedIn buffer i)
+bufferedProper buffer lines epoch i = properRange lines 0 epoch (rangeOf (bufferedIn buffer i))
 
 -- "7 buffer: a buffered entry is not proper": none of the first count is
 unfoldable pub bufferProper : List ℕ → (count lines epoch : ℕ) → Bool
@@ -131,21 +127,10 @@ advanced u target count = record { persisted = target; start = (u .control .star
 unfoldable pub advanceStores : List ℕ → LogState → ℕ → List Store
 advanceStores board u target = one controlAt (encodeControl (advanced u target (dropped board u target)))
 
--- "each entry with ValidFrom ≤ P < ValidTill has its data stored to its line"
-unfoldable pub restoreStores : List ℕ → LogState → ℕ → List Store
-restoreStores board u i =
-    cond (covers (entryIn board u i) (u .control .persisted))
-    (one (linesAt (u .entries) + entryIn board u i .address) (oldIn board u i))
-    []
-
--- "from the newest log entry to the oldest": turn j is at entry length - (j + 1)
-unfoldable pub restoreTurn : List ℕ → LogState → ℕ → List Store
-restoreTurn board u j = restoreStores board u (u .control .length - (j + 1))
-
 -- "Then the control word: same P, start 0, length 0, always stored."
 abbrev pub emptied : Control → Control
 emptied c = record { persisted = c .persisted; start = 0; length = 0 }
 
 unfoldable pub recoverStores : List ℕ → LogState → List Store
 recoverStores board u =
-    each (restoreTurn board u) (u .control .length) ++ one controlAt (encodeControl (emptied (u .control)))
+    restoreAll (logIn board u) (linesAt (u .entries)) ++ one controlAt (encodeControl (emptied (u .control)))

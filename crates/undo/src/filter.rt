@@ -4,8 +4,8 @@ ghost use Prim.Native.Nat.{_^_, _<_};
 ghost use lib.ListN.{length};
 ghost use mathlib.Core.Path.{_≡_};
 ghost use Rattle.layout.specs.Limits.{addressBits, filterSize};
-ghost use Rattle.layout.specs.Memory.{bufferWords};
-ghost use Rattle.undo.specs.Filter.{withBit, marking, marks, hits, bitsSet};
+ghost use Rattle.layout.specs.Memory.{filterWords, bufferWords};
+ghost use Rattle.undo.specs.Filter.{withBit, marking, marks, hits, onesOf};
 ghost use Rattle.undo.specs.Contracts.{FirstBit, SecondBit, ReadsBit, CountsOnes};
 use layout::FILTER_AT;
 use layout::FILTER_SIZE;
@@ -97,7 +97,7 @@ fn ones_in(word: u64) -> u64
 // The number of bits that are set.
 pub fn bits_set(buffer: &[u64]) -> u64
     requires { ⌜ length (now buffer) ≡ bufferWords ⌝ }
-    ensures { λ r. ⌜ r ≡ bitsSet (now (buffer .entry)) ⌝ }
+    ensures { λ r. ⌜ r ≡ onesOf (now (buffer .entry)) filterWords ⌝ }
 {
     let mut count: u64 = 0;
     for k in 0..FILTER_WORDS {

@@ -2,6 +2,7 @@
 mod filter;
 mod recovery;
 
+ghost use Rattle.undo.specs.Recovery.{properAt, firstImproper};
 ghost use Prim.Native.Nat.{_+_, _-_, _*_, _^_, _<_, _≤_};
 ghost use lib.Dec.{leb};
 ghost use lib.ListN.{length};
@@ -9,14 +10,15 @@ ghost use mathlib.Core.Bool.{_&&_};
 ghost use mathlib.Core.Path.{_≡_};
 ghost use Rattle.base.specs.Walk.{first};
 ghost use Rattle.board.specs.Stores.{Ran, each};
+ghost use Rattle.ranges.specs.Ranges.{properRange};
 ghost use Rattle.layout.specs.Limits.{epochBits, mostLines, mostEntries, bufferPlaces};
 ghost use Rattle.layout.specs.Memory.{logAt, linesAt, bufferWords, entryWords};
 ghost use Rattle.layout.specs.Words.{decodeEntry};
-ghost use Rattle.undo.specs.Entries.{properBuffered};
-ghost use Rattle.undo.specs.Log.{Sound, Placed, properAt, firstImproper, bufferProper, bufferMarked};
+ghost use Rattle.undo.specs.Entries.{rangeOf};
+ghost use Rattle.undo.specs.Log.{logIn, Sound, Placed, bufferProper, bufferMarked};
 ghost use Rattle.undo.specs.Log.{DroppedBy, KeptBy, entryStores, counted, flushed, advanceStores};
 ghost use Rattle.undo.specs.Ring.{nextPlace};
-ghost use Rattle.undo.specs.Contracts.{properBetween, SearchReady, KeptFrom, Flushes, FlushReady, Pushes, PushReady, AdvanceReady};
+ghost use Rattle.undo.specs.Contracts.{SearchReady, KeptFrom, Flushes, FlushReady, Pushes, PushReady, AdvanceReady};
 use board::Meter;
 pub use filter::bits_set;
 pub use filter::is_hit;
@@ -88,7 +90,7 @@ fn is_between(epoch: u64, least: u64, most: u64) -> bool
 fn is_proper_word(word: u64, lines: u64, least: u64, most: u64) -> bool
     requires { ⌜ 1 ≤ lines ⌝ }
     requires { ⌜ lines ≤ mostLines ⌝ }
-    ensures { λ r. ⌜ r ≡ properBetween lines least most (decodeEntry word) ⌝ }
+    ensures { λ r. ⌜ r ≡ properRange lines least most (rangeOf (decodeEntry word)) ⌝ }
 {
     if !layout::is_address_below(word, lines) {
         return false;
@@ -136,7 +138,7 @@ fn improper_from(
     to: u64,
 ) -> u64
     requires { ⌜ SearchReady (now board) undo lines from place bound to ⌝ }
-    ensures { λ r. ⌜ r ≡ first (properAt (now (board .entry)) undo lines) to ⌝ }
+    ensures { λ r. ⌜ r ≡ first (properAt (logIn (now (board .entry)) undo) lines) to ⌝ }
 {
     let mut i = from;
     let mut at = place;
@@ -164,7 +166,7 @@ pub fn first_improper(board: &[u64], undo: LogState, lines: u64) -> u64
     requires { ⌜ 1 ≤ lines ⌝ }
     requires { ⌜ lines ≤ mostLines ⌝ }
     requires { ⌜ linesAt (undo .entries) ≤ length (now board) ⌝ }
-    ensures { λ r. ⌜ r ≡ firstImproper (now (board .entry)) undo lines ⌝ }
+    ensures { λ r. ⌜ r ≡ firstImproper (logIn (now (board .entry)) undo) lines ⌝ }
 {
     let start = ENTRY_WORDS * undo.control.start as usize;
     let least = undo.control.persisted + 1;
@@ -238,7 +240,7 @@ fn is_buffered_proper(word: u64, lines: u64, epoch: u64) -> bool
     requires { ⌜ 1 ≤ lines ⌝ }
     requires { ⌜ lines ≤ mostLines ⌝ }
     requires { ⌜ epoch < 2 ^ epochBits ⌝ }
-    ensures { λ r. ⌜ r ≡ properBuffered lines epoch (decodeEntry word) ⌝ }
+    ensures { λ r. ⌜ r ≡ properRange lines 0 epoch (rangeOf (decodeEntry word)) ⌝ }
 {
     if !layout::is_address_below(word, lines) {
         return false;

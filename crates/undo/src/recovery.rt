@@ -1,7 +1,9 @@
 // Recovery: the lines as the log's entries say that they were in the persisted epoch.
 ghost use Prim.Native.Nat.{_-_};
 ghost use Rattle.board.specs.Stores.{Ran, each};
-ghost use Rattle.undo.specs.Log.{restoreTurn, recoverStores};
+ghost use Rattle.layout.specs.Memory.{linesAt};
+ghost use Rattle.undo.specs.Recovery.{restoreAll};
+ghost use Rattle.undo.specs.Log.{logIn, recoverStores};
 ghost use Rattle.undo.specs.Ring.{restoreAt};
 ghost use Rattle.undo.specs.Contracts.{RecoverReady, turnFrom, TurnsReady, RestoreReady};
 use crate::LogState;
@@ -55,7 +57,7 @@ fn restore_from(
 // those before its end.
 fn restore(board: &mut [u64], undo: LogState, lines: u64, meter: Meter) -> Meter
     requires { ⌜ RecoverReady (now board) undo lines ⌝ }
-    ensures { λ r. ⌜ Ran (now (board .entry)) meter (each (restoreTurn (now (board .entry)) undo) (undo .control .length)) (now (board .exit)) r ⌝ }
+    ensures { λ r. ⌜ Ran (now (board .entry)) meter (restoreAll (logIn (now (board .entry)) undo) (linesAt (undo .entries))) (now (board .exit)) r ⌝ }
 {
     let straight = undo.entries - undo.control.start;
     if undo.control.length <= straight {

@@ -5,23 +5,23 @@ use mathlib.Core.Bool.{Bool, true, false, cond}
 use mathlib.Core.List.{List, [], _∷_, _++_}
 use native.Mathlib.Numerals.{add-one}
 use native.Mathlib.Omega.{arith}
-use borrow.Author.Tests.{lt-ltb, le-leb}
 use lib.Dec.{eqb}
 use lib.ListN.{length, getD, set, length-set, length-drop, replicate, length-replicate}
 use lib.Seq.{getD-set-same, getD-set-other}
 use Rattle.base.specs.Walk.{all-first}
+use Rattle.ranges.specs.Ranges.{properRange, proper-rebound}
 use Rattle.layout.specs.declared.Entry as layout
 use Rattle.layout.specs.Laws.{entry-laws}
 use Rattle.layout.specs.Limits.{bufferPlaces}
 use Rattle.layout.specs.Memory.{filterAt, bufferWords, bufferIn}
 use Rattle.layout.specs.Words.{encodeEntry, EntryFits}
 use Rattle.undo.specs.declared.LogState.{LogState}
-use Rattle.undo.specs.Entries.{properBuffered}
 use Rattle.undo.specs.Log.{bufferedIn, bufferedProper, bufferProper, pushed, flushedBuffer}
 use Rattle.undo.specs.Marks.{marking-length, marking-before}
 use Rattle.base.specs.Every.{Every, every-split, every-map}
 use Rattle.history.specs.Invariant.{ProperEntry}
 use Rattle.history.specs.Machine.{Entry}
+use Rattle.history.specs.Proper.{entry-facts}
 use Rattle.base.specs.Cases.{here-or-there}
 use Rattle.base.specs.Listed.{listed, listed-same, listed-append, every-listed}
 use Rattle.durable.specs.View.{entryWith, bufferedAt, bufferOf}
@@ -115,20 +115,17 @@ module _ (buffer : List ℕ) (n : ℕ) (e : layout.Entry) (old : ℕ) where
 
 -- ---- "7 buffer: a buffered entry is not proper"
 
--- "A proper buffered entry has address < N and ValidFrom < ValidTill ≤ s."
-abbrev pub ProperBuffered : (lines epoch : ℕ) → Entry → Type 0
-ProperBuffered lines epoch x = (x .address < lines) × (x .from < x .till) × (x .till ≤ epoch)
-
 module _ (buffer : List ℕ) (count lines epoch : ℕ) where
-  pub buffer-proper : Every (ProperBuffered lines epoch) (bufferOf buffer count) → bufferProper buffer count lines epoch ≡ true
-  unfolding bufferProper bufferedProper properBuffered bufferedAt
-  buffer-proper h = all-first (bufferedProper buffer lines epoch) count (λ i below.
-      let p = buffered-every (ProperBuffered lines epoch) buffer count h i below in
-      rw (lt-ltb _ _ (p .0), lt-ltb _ _ (p .1), le-leb _ _ (p .2)))
+  buffer-proper : Every (λ x. properRange lines 0 epoch (x .range) ≡ true) (bufferOf buffer count) → bufferProper buffer count lines epoch ≡ true
+  unfolding bufferProper bufferedProper bufferedAt
+  buffer-proper h =
+      all-first (bufferedProper buffer lines epoch) count
+      (buffered-every (λ x. properRange lines 0 epoch (x .range) ≡ true) buffer count h)
 
   -- the buffered entries are the last of all entries
   pub entries-buffer-proper : (W low : ℕ) (log : List Entry) → Every (ProperEntry lines W low epoch) (log ++ bufferOf buffer count)
       → bufferProper buffer count lines epoch ≡ true
-  entries-buffer-proper W low log h = buffer-proper
-      (every-map (ProperEntry lines W low epoch) (ProperBuffered lines epoch) (λ x p. (p .inside, p .nonempty, p .before))
+  entries-buffer-proper W low log h =
+      buffer-proper (every-map (ProperEntry lines W low epoch) (λ x. properRange lines 0 epoch (x .range) ≡ true)
+      (λ x p. proper-rebound lines low epoch 0 epoch (x .range) (omega arith) (entry-facts p .before) (p .proper))
       (bufferOf buffer count) (every-split _ log (bufferOf buffer count) h .1))

@@ -55,8 +55,8 @@ exact-none : (buffer : List ℕ) → ((i : ℕ) → getD buffer i 0 ≡ 0) → E
 unfolding isBitBuffered
 exact-none buffer none i h = zero-bit buffer i (none (bitPlace i))
 
-pub exact-awake : (slots : ℕ) → Exact (bufferIn (zeroWork slots)) 0
-exact-awake slots =
+pub exact-restarted : (slots : ℕ) → Exact (bufferIn (zeroWork slots)) 0
+exact-restarted slots =
     let work = zeroWork slots in
     exact-none (bufferIn work) (λ i. getD-drop (bufferAt (length work)) work i 0 ∙ zero-word (workWords slots) (bufferAt (length work) + i))
 
@@ -141,4 +141,4 @@ module _ (buffer : List ℕ) (count : ℕ) (exact : Exact buffer count) where
     unfolding bufferedAt
     missed-silent epoch =
         silent-away (bufferOf buffer count) epoch address
-        (every-buffered (λ x. x .address ≢ address) buffer count missed-elsewhere)
+        (every-buffered (λ x. x .range .address ≢ address) buffer count missed-elsewhere)

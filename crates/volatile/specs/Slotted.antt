@@ -1,12 +1,12 @@
 -- A work memory of the right size whose slots are all proper, with each line in one of them at most.
-use Prim.Native.Nat.{ℕ, _+_, _*_, _%_, _<_, _≤_}
+use Prim.Native.Nat.{ℕ, _+_, _*_, _<_, _≤_}
 use mathlib.Core.Path.{_≡_, sym, ap, _∙_}
 use mathlib.Core.Bool.{true, false≢true}
 use mathlib.Core.List.{List}
 use native.Mathlib.Omega.{arith}
 use lib.ListN.{length, getD, replicate, length-replicate, getD-replicate}
-use Rattle.layout.specs.Limits.{ways, mostSlots}
 use Rattle.layout.specs.Memory.{bufferWords, workWords, slotIn, dataIn}
+use Rattle.layout.specs.Sizes.{WholeSets}
 use Rattle.layout.specs.Words.{decodeSlot}
 use Rattle.slots.specs.declared.Bounds.{Bounds}
 use Rattle.slots.specs.Slots.{properSlot, properAt, holds, cleanSlot, dirtySlot}
@@ -17,12 +17,6 @@ use Rattle.volatile.specs.Parts.{with-length, with-word}
 use Rattle.volatile.specs.Held.{heldIn, clean-held, dirty-held}
 use Rattle.volatile.specs.Cache.{cacheOf, Alone, cache-at, cache-same, cache-empty}
 use Rattle.volatile.specs.Proper.{AtHome, FullSlot, ProperSlot, proper-slot, clean-holds, dirty-holds, empty-holds, held-home, held-full}
-
--- "S a multiple of 4, from 4 to 256"
-pub record WholeSets (slots : ℕ) : Type 0 where
-  pub whole : slots % ways ≡ 0
-  pub some : ways ≤ slots
-  pub most : slots ≤ mostSlots
 
 pub record Slotted (b : Bounds) (work : List ℕ) : Type 0 where
   pub proper : (k : ℕ) → k < b .slots → properAt b work k ≡ true

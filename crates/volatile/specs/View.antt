@@ -18,7 +18,7 @@ use Rattle.slots.specs.declared.Bounds.{Bounds}
 use Rattle.slots.specs.Slots.{holds, dirtySlot, dirtied}
 use Rattle.layout.specs.Memory.{withBuffer}
 use Rattle.steps.specs.Effects.{logged}
-use Rattle.history.specs.Machine.{Entry, Line, dirty, Durable, Volatile, marked, unbuffered, nextEpoch, awake}
+use Rattle.history.specs.Machine.{Entry, Line, dirty, Durable, Volatile, marked, unbuffered, nextEpoch, restarted}
 use Rattle.base.specs.Cases.{update}
 use Rattle.volatile.specs.Parts.{with-buffer}
 use Rattle.volatile.specs.Cache.{cacheOf}
@@ -45,9 +45,9 @@ undoFields s address from = record { address = address; from = from; till = s }
 
 -- ---- power-up and commit
 
-pub view-awake : (d : Durable) (slots : ℕ) → volatileOf (zeroWork slots) slots (d .persisted + 1) 0 ≡ awake d
+pub view-restarted : (d : Durable) (slots : ℕ) → volatileOf (zeroWork slots) slots (d .persisted + 1) 0 ≡ restarted d
 unfolding listed
-view-awake d slots = λ i. record { running = add-one (d .persisted) i; buffer = []; cache = zero-cache slots i }
+view-restarted d slots = λ i. record { running = add-one (d .persisted) i; buffer = []; cache = zero-cache slots i }
 
 pub view-commit : (work : List ℕ) (slots epoch count : ℕ)
     → volatileOf work slots (epoch + 1) count ≡ nextEpoch (volatileOf work slots epoch count)

@@ -13,11 +13,12 @@ use Rattle.layout.specs.Memory.{shapeFor}
 use Rattle.layout.specs.Words.{bit, encodeControl, encodeShape, encodeEntry, encodeSlot}
 use Rattle.status.specs.declared.Status.the-variants as status
 use Rattle.checks.specs.declared.Registers.{Registers}
-use Rattle.checks.specs.Registers.{zero, given}
+use Rattle.checks.specs.Registers.{allZero, given}
 use Rattle.picl.specs.declared.Answer.{Answer}
 use Rattle.picl.specs.Answers.{Verdict, answer, answerOf}
 use Rattle.board.specs.Verdict.{due, boardAfter}
-use Rattle.picl.specs.Calls.{storeVerdict, evictVerdict, commitVerdict, scanVerdict, powerUpVerdict}
+use Rattle.picl.specs.Calls.{verdictOf, powerUpVerdict}
+use Rattle.picl.specs.Calls as calls
 
 -- words by their fields
 abbrev pub control : (persisted start length : ℕ) → Control
@@ -89,30 +90,30 @@ abbrev pub quiet : (persisted : ℕ) → List ℕ
 quiet persisted = board (control persisted 0 0) [] 7
 
 -- power-up
-abbrev pub wake : Control → (log : List ℕ) → Verdict
-wake c log = powerUpVerdict (board c log 7) (work clean 7 [] unmarked)
+abbrev pub powerUp : Control → (log : List ℕ) → Verdict
+powerUp c log = powerUpVerdict (board c log 7) (work clean 7 [] unmarked)
 
 -- with W5's range in the log: a power-up makes so many stores, and leaves line 3 so
-abbrev pub WakesAs : (persisted stores line : ℕ) → Type 0
-WakesAs persisted stores line =
-    (answerOf stores zero (wake (control persisted 7 2) around) ≡ answer status.Ok 0 stores (given (persisted + 1) 0 0 0 0))
-    × (boardAfter stores (board (control persisted 7 2) around 7) (wake (control persisted 7 2) around) ≡ board (control persisted 0 0) around line)
+abbrev pub RestoresAs : (persisted stores line : ℕ) → Type 0
+RestoresAs persisted stores line =
+    (answerOf stores allZero (powerUp (control persisted 7 2) around) ≡ answer status.Ok 0 stores (given (persisted + 1) 0 0 0 0))
+    × (boardAfter stores (board (control persisted 7 2) around 7) (powerUp (control persisted 7 2) around) ≡ board (control persisted 0 0) around line)
 
 -- a store to line 3, as slot 1 holds it: the others are empty, so that slot 1 alone counts as dirty or not
 abbrev pub store : (persisted epoch : ℕ) → Slot → Verdict
-store persisted epoch held = storeVerdict (quiet persisted) (work held 7 [] unmarked) (given epoch 0 0 (bit (held .dirty)) 0) 3 9
+store persisted epoch held = verdictOf (quiet persisted) (work held 7 [] unmarked) (given epoch 0 0 (bit (held .dirty)) 0) (calls.store 3 9)
 
 -- an eviction of line 3, stored to in the running epoch 2, with one entry buffered
 abbrev pub evict : (places filter : List ℕ) → Verdict
-evict places filter = evictVerdict (quiet 0) (work (dirty 2) 9 places filter) (given 2 1 0 1 0) 3
+evict places filter = verdictOf (quiet 0) (work (dirty 2) 9 places filter) (given 2 1 0 1 0) (calls.evict 3)
 
 -- a commit
 abbrev pub commit : (persisted epoch : ℕ) → Verdict
-commit persisted epoch = commitVerdict (quiet persisted) (work clean 7 [] unmarked) (given epoch 0 0 0 0)
+commit persisted epoch = verdictOf (quiet persisted) (work clean 7 [] unmarked) (given epoch 0 0 0 0) calls.commit
 
 -- a scan's visit of slot 1, its target 1, with line 3 stored to in epoch 1 or 2 and its entry buffered
 abbrev pub scan : (tag : ℕ) → Verdict
-scan tag = scanVerdict (quiet 0) (work (dirty tag) 9 (undo 3 0 tag 7) marked3) (given 2 1 1 1 1)
+scan tag = verdictOf (quiet 0) (work (dirty tag) 9 (undo 3 0 tag 7) marked3) (given 2 1 1 1 1) calls.scan
 
 -- what calls come to: a verdict with no store due, an answer of number 0, and one of number 3
 abbrev pub still : Registers → (work : List ℕ) → Verdict
@@ -123,4 +124,4 @@ ok value stores r = answer status.Ok value stores r
 
 -- "3 entry: a log entry is not proper; value is i of the first": no store made, and power-up leaves registers zero
 abbrev pub improper : (value : ℕ) → Answer
-improper value = answer status.Entry value 0 zero
+improper value = answer status.Entry value 0 allZero

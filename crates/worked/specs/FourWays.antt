@@ -9,7 +9,7 @@ use Rattle.board.specs.Verdict.{refused, boardAfter, workAfter}
 use Rattle.layout.specs.Fields.{width, pack, unpack, encode, decode}
 use Rattle.layout.specs.Memory.{withBuffer}
 use Rattle.status.specs.declared.Status.the-variants as status
-use Rattle.undo.specs.Entries.{properBuffered}
+use Rattle.ranges.specs.Ranges.{properRange}
 use Rattle.undo.specs.Filter.{firstBit, secondBit, isSet, withBit, marking, marks, hits, onesOf}
 use Rattle.undo.specs.Log.{placeOf, bufferedIn, bufferedProper, bufferProper, bufferedMarked, bufferMarked}
 use Rattle.undo.specs.Log.{pushed, entryStores, flushed, flushStores, flushedBuffer}
@@ -19,13 +19,13 @@ use Rattle.steps.specs.Effects as steps
 use Rattle.checks.specs.Registers.{given}
 use Rattle.checks.specs.View.{viewOf, goodSizes, goodControl, goodShape, goodSlots, goodWork, properEpoch, properCounts, waits, properPass, properRegisters, miscounted}
 use Rattle.checks.specs.View.{goodBuffer, goodFilter}
-use Rattle.checks.specs.Refusals.{memoriesChecked, runningChecked, lineChecked, storeChecked, scanChecked}
+use Rattle.checks.specs.Refusals.{memoriesChecked, powerUpChecked, runningChecked, readyChecked, namedChecked, lineChecked, storeChecked, scanChecked}
 use Rattle.picl.specs.Answers.{cutOff, answerOf}
 use Rattle.picl.specs.Calls as calls
 use Rattle.picl.specs.Calls.{report}
 use Rattle.worked.specs.Bench.{undo, ok}
 use Rattle.worked.specs.Sets.{empty, clean, dirty, cleaned, stored, odd, tagged, four, none, allDirty, lines, boardOf, board, holding, buffering, loadBuffering}
-use Rattle.worked.specs.Sets.{loadingOf, loading, storing, evicting, scanning, fullLog, waking, loadingFrom, bitsOf}
+use Rattle.worked.specs.Sets.{loadingOf, loading, storing, evicting, scanning, fullLog, poweringUp, loadingFrom, bitsOf}
 use Rattle.worked.specs.Sets.{unwritten, written, leaves, logs, visits}
 
 pub record FourWays : Type 0 where
@@ -49,7 +49,7 @@ pub record FourWays : Type 0 where
   pub equal-four : loading (allDirty 2 2 2 2) 4 ≡ leaves 103 (written 4) (four (clean 3) (dirty 5 2) (dirty 6 2) (dirty 7 2)) 3
   pub equal-two : loading (allDirty 3 1 2 1) 4 ≡ leaves 103 (written 5) (four (dirty 4 3) (clean 3) (dirty 6 2) (dirty 7 1)) 3
   pub equal-last : loading (allDirty 3 3 2 2) 4 ≡ leaves 103 (written 6) (four (dirty 4 3) (dirty 5 3) (clean 3) (dirty 7 2)) 3
-  -- a store's newcomer is dirty in the slot that was chosen as the call found the set: the count stays
+  -- the line that a store brings in is dirty in the slot that was chosen as the call found the set: the count stays
   pub over-dirty : storing (allDirty 2 3 1 2) 4 ≡ logs 0 103 (written 6) (four (dirty 4 2) (dirty 5 3) stored (dirty 7 2)) 4
   pub over-dirty-ok : answerOf 1 (given 3 0 0 4 0) (storing (allDirty 2 3 1 2) 4) ≡ ok 0 1 (given 3 1 0 4 0)
   pub over-dirty-board : boardAfter 1 board (storing (allDirty 2 3 1 2) 4) ≡ boardOf 0 [] (set lines 6 206)
@@ -163,27 +163,27 @@ pub record FourWays : Type 0 where
       × (bitsOf 6 ≡ report status.Work 0)
       × (bitsOf 63 ≡ report status.Work 0)
       × (bitsOf 260 ≡ report status.Work 0)
-  pub no-wake : (waking 2 ≡ refused status.Work 0)
-      × (waking 6 ≡ refused status.Work 0)
-      × (waking 63 ≡ refused status.Work 0)
-      × (waking 260 ≡ refused status.Work 0)
+  pub no-power-up : (poweringUp 2 ≡ refused status.Work 0)
+      × (poweringUp 6 ≡ refused status.Work 0)
+      × (poweringUp 63 ≡ refused status.Work 0)
+      × (poweringUp 260 ≡ refused status.Work 0)
   pub no-load : (loadingFrom 2 ≡ refused status.Work 0)
       × (loadingFrom 6 ≡ refused status.Work 0)
       × (loadingFrom 63 ≡ refused status.Work 0)
       × (loadingFrom 260 ≡ refused status.Work 0)
 
 pub four-ways : FourWays
-unfolding width pack unpack encode decode firstFrom applied each shifted boardAfter workAfter withBuffer properBuffered
+unfolding width pack unpack encode decode firstFrom applied each shifted boardAfter workAfter withBuffer properRange
     firstBit secondBit isSet withBit marking marks hits onesOf ones placeOf bufferedIn bufferedProper bufferProper bufferedMarked bufferMarked
     pushed entryStores flushed flushStores flushedBuffer
-    slots.setOf slots.properTag slots.properFull slots.properSlot slots.properAt slots.holds sets.placesOf sets.properSet sets.takenOf sets.spotOf
+    slots.setOf slots.properTag slots.properFull slots.properSlot slots.properAt slots.holds sets.placesOf sets.properSet sets.victimOf sets.spotOf
     slots.zeroed slots.filled slots.dirtied slots.cleaned slots.entryDue slots.undoDue
     steps.flushingIf steps.writingOut steps.writingBack steps.emptying steps.lineIn steps.bringing steps.entryFor steps.logged steps.storingHeld
     steps.loading steps.storing steps.evicting steps.cleaning steps.visiting
     viewOf goodSizes goodControl goodShape goodSlots goodWork properEpoch properCounts waits properPass properRegisters miscounted goodBuffer goodFilter
-    memoriesChecked runningChecked lineChecked storeChecked scanChecked answerOf
-    calls.loadAt calls.loadOutcome calls.loadVerdict calls.storeAt calls.storeOutcome calls.storeVerdict calls.evictAt calls.evictOutcome calls.evictVerdict
-    calls.scanAt calls.scanOutcome calls.scanVerdict calls.powerUpVerdict calls.filterBitsVerdict calls.filterBitsReport
+    memoriesChecked powerUpChecked runningChecked readyChecked namedChecked lineChecked storeChecked scanChecked answerOf
+    calls.loadAt calls.loadOutcome calls.storeAt calls.storeOutcome calls.evictAt calls.evictOutcome
+    calls.scanAt calls.scanOutcome calls.powerUpVerdict calls.filterBitsVerdict calls.filterBitsReport
 four-ways =
     record {
       empty-behind = refl;
@@ -244,6 +244,6 @@ four-ways =
       scan-all = refl;
       sizes = (refl, refl, refl);
       no-sizes = (refl, refl, refl, refl, refl);
-      no-wake = (refl, refl, refl, refl);
+      no-power-up = (refl, refl, refl, refl);
       no-load = (refl, refl, refl, refl);
     }

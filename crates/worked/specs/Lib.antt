@@ -6,4 +6,5 @@ pub mod Sets
 pub mod FourWays
 pub mod Hex
 pub mod Passes
+pub mod Replayed
 pub mod Table

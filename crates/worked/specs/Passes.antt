@@ -11,19 +11,21 @@ use Rattle.layout.specs.Fields.{width, pack, unpack, encode, decode}
 use Rattle.layout.specs.Memory.{shapeFor, withBuffer}
 use Rattle.layout.specs.Words.{encodeControl, encodeShape}
 use Rattle.status.specs.declared.Status.the-variants as status
-use Rattle.undo.specs.Entries.{covers, properEntry, properBuffered}
+use Rattle.ranges.specs.Ranges.{covers, properRange}
+use Rattle.undo.specs.Entries.{properEntry}
+use Rattle.undo.specs.Recovery as recovery
 use Rattle.undo.specs.Filter as filters
 use Rattle.undo.specs.Log as log
 use Rattle.slots.specs.Slots as slots
 use Rattle.slots.specs.Sets as sets
 use Rattle.steps.specs.Effects as steps
 use Rattle.checks.specs.declared.Registers.{Registers}
-use Rattle.checks.specs.Registers.{zero, given}
+use Rattle.checks.specs.Registers.{allZero, given}
 use Rattle.checks.specs.View as view
 use Rattle.checks.specs.Refusals as refusals
 use Rattle.picl.specs.Answers.{Verdict, answerOf, cutOff}
 use Rattle.picl.specs.Calls as calls
-use Rattle.picl.specs.Calls.{tallyVerdict, commitVerdict, beginVerdict, scanVerdict, powerUpVerdict}
+use Rattle.picl.specs.Calls.{verdictOf, powerUpVerdict}
 use Rattle.worked.specs.Bench as bench
 use Rattle.worked.specs.Bench.{control, undo, unmarked, padded, quiet, still, ok}
 use Rattle.worked.specs.Counted.{badEntry}
@@ -64,31 +66,31 @@ abbrev at : (cursor count target : ℕ) → Registers
 at cursor count target = given 4 0 cursor count target
 
 abbrev beginning : Registers → (target : ℕ) → Verdict
-beginning r target = beginVerdict before (holding swept0) r target
+beginning r target = verdictOf before (holding swept0) r (calls.begin target)
 
 abbrev scanning : (slots : List ℕ) → Registers → Verdict
-scanning slots r = scanVerdict before (holding slots) r
+scanning slots r = verdictOf before (holding slots) r calls.scan
 
 abbrev visited : List Store → (slots : List ℕ) → Registers → Verdict
 visited stores slots r = due (record { value = 0; registers = r; work = holding slots; stores = stores })
 
 abbrev tallied : (persisted : ℕ) → Registers → Verdict
-tallied persisted r = tallyVerdict (board (control persisted 0 0) (lines 104 105 106)) (holding none) r
+tallied persisted r = verdictOf (board (control persisted 0 0) (lines 104 105 106)) (holding none) r calls.tally
 
-abbrev woken : (board : List ℕ) → Verdict
-woken board = powerUpVerdict board (holding none)
+abbrev poweringUp : (board : List ℕ) → Verdict
+poweringUp board = powerUpVerdict board (holding none)
 
 pub record Passes : Type 0 where
   -- "A begin call takes a target from P + 1 to s − 1; it visits no slot": 1 and 3 are, 0 and 4 are not
   pub begins : (beginning (at 0 4 0) 1 ≡ still (at 0 4 1) (holding swept0)) × (beginning (at 0 4 0) 3 ≡ still (at 0 4 3) (holding swept0))
   pub out-of-range : (beginning (at 0 4 0) 0 ≡ refused status.Target 0) × (beginning (at 0 4 0) 4 ≡ refused status.Target 0)
   -- so with s = P + 1 every target is refused, and not as 11
-  pub none-waits : beginVerdict (quiet 0) (holding none) (given 1 0 0 0 0) 1 ≡ refused status.Target 0
+  pub none-waits : verdictOf (quiet 0) (holding none) (given 1 0 0 0 0) (calls.begin 1) ≡ refused status.Target 0
   -- "15 target, a begin call inside a pass": just begun, and under way
   pub begun-already : (beginning (at 0 4 2) 3 ≡ refused status.Target 0) × (beginning (at 2 4 3) 3 ≡ refused status.Target 0)
   -- "after commit's 1, 2, 4, 7 and 14": the target 9 is out of range as well
-  pub after-7 : beginVerdict (quiet 0) badEntry (given 2 1 0 1 0) 9 ≡ refused status.Buffer 0
-  pub after-14 : beginVerdict (quiet 0) (bench.work bench.clean 7 (undo 3 0 2 7) unmarked) (given 2 1 0 0 0) 9 ≡ refused status.Filter 0
+  pub after-7 : verdictOf (quiet 0) badEntry (given 2 1 0 1 0) (calls.begin 9) ≡ refused status.Buffer 0
+  pub after-14 : verdictOf (quiet 0) (bench.work bench.clean 7 (undo 3 0 2 7) unmarked) (given 2 1 0 0 0) (calls.begin 9) ≡ refused status.Filter 0
   -- "the pass then writes out dirty lines with tags up to the target": 1, 2 and 3, and not 4
   pub visits-1 : scanning swept0 (at 0 4 3) ≡ visited (written 4) swept1 (at 1 3 3)
   pub visits-2 : scanning swept1 (at 1 3 3) ≡ visited (written 5) swept2 (at 2 2 3)
@@ -97,19 +99,19 @@ pub record Passes : Type 0 where
   -- "and finishes with P = target, dropping entries by it": those that end in 1, 2 and 3. "The registers gain the target, 0 outside a pass."
   pub finishes : scanning swept3 (at 4 1 3)
       ≡ due (record { value = 3; registers = at 0 1 0; work = holding swept3; stores = one 0 (encodeControl (control 3 3 1)) })
-  -- "the crash rule includes such passes": cut before its last store, the board wakes as of epoch 0, and behind it as of epoch 3
+  -- "the crash rule includes such passes": cut before its last store, the board recovers to epoch 0, and behind it as of epoch 3
   pub cut-last : answerOf 0 (at 4 1 3) (scanning swept3 (at 4 1 3)) ≡ cutOff 0
-  pub wakes-0 : (answerOf 5 zero (woken (board (control 0 0 4) (lines 204 205 206))) ≡ ok 0 5 (given 1 0 0 0 0))
-      × (boardAfter 5 (board (control 0 0 4) (lines 204 205 206)) (woken (board (control 0 0 4) (lines 204 205 206)))
+  pub restores-0 : (answerOf 5 allZero (poweringUp (board (control 0 0 4) (lines 204 205 206))) ≡ ok 0 5 (given 1 0 0 0 0))
+      × (boardAfter 5 (board (control 0 0 4) (lines 204 205 206)) (poweringUp (board (control 0 0 4) (lines 204 205 206)))
       ≡ board (control 0 0 0) (lines 104 105 106))
-  pub wakes-3 : (answerOf 2 zero (woken (board (control 3 3 1) (lines 204 205 206))) ≡ ok 0 2 (given 4 0 0 0 0))
-      × (boardAfter 2 (board (control 3 3 1) (lines 204 205 206)) (woken (board (control 3 3 1) (lines 204 205 206)))
+  pub restores-3 : (answerOf 2 allZero (poweringUp (board (control 3 3 1) (lines 204 205 206))) ≡ ok 0 2 (given 4 0 0 0 0))
+      × (boardAfter 2 (board (control 3 3 1) (lines 204 205 206)) (poweringUp (board (control 3 3 1) (lines 204 205 206)))
       ≡ board (control 3 0 0) (lines 204 205 206))
   -- "A scan call outside a pass begins one with P + 1", and visits slot 0; tag 2 is then not its target
   pub begins-itself : scanning swept0 (at 0 4 0) ≡ visited (written 4) swept1 (at 1 3 1)
   pub goes-on : scanning swept1 (at 1 3 1) ≡ visited unwritten swept1 (at 2 3 1)
   -- the target stays when the running epoch ends
-  pub commits : commitVerdict before (holding swept2) (at 2 2 3) ≡ still (given 5 0 2 2 3) (holding swept2)
+  pub commits : verdictOf before (holding swept2) (at 2 2 3) calls.commit ≡ still (given 5 0 2 2 3) (holding swept2)
   -- "Registers are proper with target 0 and c = 0, or with P < target < s": not with a cursor alone, nor with P or s ..
   pub cursor-alone : tallied 0 (at 1 0 0) ≡ refused status.Regs 0
   pub target-out : (tallied 1 (at 0 0 1) ≡ refused status.Regs 0) × (tallied 0 (at 0 0 4) ≡ refused status.Regs 0)
@@ -118,18 +120,18 @@ pub record Passes : Type 0 where
   pub cursor-out : tallied 0 (at 5 0 3) ≡ refused status.Regs 0
 
 pub passes : Passes
-unfolding width pack unpack encode decode firstFrom applied each shifted boardAfter workAfter withBuffer covers properEntry properBuffered
+unfolding width pack unpack encode decode firstFrom applied each shifted boardAfter workAfter withBuffer covers properRange properEntry
     filters.firstBit filters.secondBit filters.isSet filters.marks filters.hits
-    log.placeOf log.entryIn log.oldIn log.olderTill log.properAt log.firstImproper log.bufferedIn log.bufferedProper log.bufferProper log.bufferedMarked
-    log.bufferMarked log.entryStores log.flushed log.flushStores log.flushedBuffer log.expired log.dropped log.advanceStores log.restoreStores
-    log.restoreTurn log.recoverStores
+    log.placeOf log.entryIn log.oldIn recovery.olderTill recovery.properAt recovery.firstImproper log.bufferedIn log.bufferedProper log.bufferProper log.bufferedMarked
+    log.bufferMarked log.entryStores log.flushed log.flushStores log.flushedBuffer log.expired log.dropped log.advanceStores recovery.restoreStores
+    recovery.restoreTurn log.recoverStores
     slots.setOf slots.properTag slots.properFull slots.properSlot slots.properAt slots.cleaned sets.placesOf sets.properSet
     steps.flushingIf steps.writingOut steps.cleaning steps.visiting steps.persisting
     view.viewOf view.goodSizes view.goodControl view.goodShape view.goodSlots view.goodWork view.properEpoch view.properCounts view.waits view.properPass
     view.properRegisters view.miscounted view.goodBuffer view.goodFilter
-    refusals.memoriesChecked refusals.runningChecked refusals.commitChecked refusals.beginChecked refusals.scanChecked answerOf
-    calls.tallyVerdict calls.commitOutcome calls.commitVerdict calls.beginOutcome calls.beginVerdict calls.scanAt calls.scanOutcome calls.scanVerdict
-    calls.wakeAt calls.wakeVerdict calls.powerUpVerdict
+    refusals.memoriesChecked refusals.powerUpChecked refusals.runningChecked refusals.readyChecked refusals.commitChecked refusals.beginChecked refusals.scanChecked answerOf
+    calls.scanAt calls.scanOutcome
+    calls.powerUpOutcome calls.powerUpVerdict
 passes =
     record {
       begins = (refl, refl);
@@ -144,8 +146,8 @@ passes =
       leaves-4 = refl;
       finishes = refl;
       cut-last = refl;
-      wakes-0 = (refl, refl);
-      wakes-3 = (refl, refl);
+      restores-0 = (refl, refl);
+      restores-3 = (refl, refl);
       begins-itself = refl;
       goes-on = refl;
       commits = refl;

@@ -12,7 +12,8 @@ use Rattle.board.specs.Verdict.{due}
 use Rattle.checks.specs.Registers.{given}
 use Rattle.picl.specs.declared.Report.{Report}
 use Rattle.picl.specs.Answers.{Verdict}
-use Rattle.picl.specs.Calls.{loadVerdict, storeVerdict, evictVerdict, scanVerdict, powerUpVerdict, filterBitsReport}
+use Rattle.picl.specs.Calls.{verdictOf, powerUpVerdict, filterBitsReport}
+use Rattle.picl.specs.Calls as calls
 use Rattle.worked.specs.Bench.{control, slot, undo, unmarked, marked3, padded}
 
 -- a slot's two words: of none, of a line as the board has it, and of one that was stored to in an epoch, which has 200 + a
@@ -68,41 +69,41 @@ holding slots = workOf slots [] unmarked
 
 -- the calls, with a count of dirty slots
 abbrev pub loadingOf : (slots : List ℕ) → (count address : ℕ) → Verdict
-loadingOf slots count address = loadVerdict board (holding slots) (given 3 0 0 count 0) address
+loadingOf slots count address = verdictOf board (holding slots) (given 3 0 0 count 0) (calls.load address)
 
 abbrev pub loading : (slots : List ℕ) → (count : ℕ) → Verdict
 loading slots count = loadingOf slots count 3
 
 abbrev pub storing : (slots : List ℕ) → (count : ℕ) → Verdict
-storing slots count = storeVerdict board (holding slots) (given 3 0 0 count 0) 3 9
+storing slots count = verdictOf board (holding slots) (given 3 0 0 count 0) (calls.store 3 9)
 
 abbrev pub evicting : (slots : List ℕ) → (count : ℕ) → Verdict
-evicting slots count = evictVerdict board (holding slots) (given 3 0 0 count 0) 3
+evicting slots count = verdictOf board (holding slots) (given 3 0 0 count 0) (calls.evict 3)
 
 -- a scan in the pass to epoch 1
 abbrev pub scanning : (slots : List ℕ) → (count cursor : ℕ) → Verdict
-scanning slots count cursor = scanVerdict board (holding slots) (given 3 0 cursor count 1)
+scanning slots count cursor = verdictOf board (holding slots) (given 3 0 cursor count 1) calls.scan
 
 -- a store with the log full
 abbrev pub fullLog : (slots : List ℕ) → (count : ℕ) → Verdict
-fullLog slots count = storeVerdict (boardOf 8 [] lines) (holding slots) (given 3 0 0 count 0) 3 9
+fullLog slots count = verdictOf (boardOf 8 [] lines) (holding slots) (given 3 0 0 count 0) (calls.store 3 9)
 
 -- a load of line 1, for which line 3 has to go; its entry is buffered
 abbrev pub buffering : List ℕ
 buffering = workOf (four (dirty 4 3) (dirty 3 2) (dirty 5 3) (dirty 6 3)) (undo 3 0 2 103) marked3
 
 abbrev pub loadBuffering : Verdict
-loadBuffering = loadVerdict board buffering (given 3 1 0 4 0) 1
+loadBuffering = verdictOf board buffering (given 3 1 0 4 0) (calls.load 1)
 
 -- work memories of S slots, all zero
 abbrev pub zeros : (slots : ℕ) → List ℕ
 zeros slots = replicate (2 * slots + 128) 0
 
-abbrev pub waking : (slots : ℕ) → Verdict
-waking slots = powerUpVerdict board (zeros slots)
+abbrev pub poweringUp : (slots : ℕ) → Verdict
+poweringUp slots = powerUpVerdict board (zeros slots)
 
 abbrev pub loadingFrom : (slots : ℕ) → Verdict
-loadingFrom slots = loadVerdict board (zeros slots) (given 3 0 0 0 0) 3
+loadingFrom slots = verdictOf board (zeros slots) (given 3 0 0 0 0) (calls.load 3)
 
 abbrev pub bitsOf : (slots : ℕ) → Report
 bitsOf slots = filterBitsReport (zeros slots)

@@ -11,11 +11,13 @@ use Rattle.layout.specs.Fields.{width, pack, unpack, encode, decode}
 use Rattle.layout.specs.Limits.{lastEpoch}
 use Rattle.layout.specs.Words.{encodeControl, encodeShape, encodeEntry, encodeSlot}
 use Rattle.status.specs.Numbers.{numberOf}
-use Rattle.undo.specs.Entries.{covers, properEntry, properBuffered}
-use Rattle.undo.specs.Log.{placeOf, entryIn, oldIn, olderTill, properAt, firstImproper, bufferedIn, bufferedProper, bufferProper}
+use Rattle.ranges.specs.Ranges.{covers, properRange}
+use Rattle.undo.specs.Entries.{rangeOf, properEntry}
+use Rattle.undo.specs.Recovery.{olderTill, properAt, firstImproper, restoreStores, restoreTurn}
+use Rattle.undo.specs.Log.{placeOf, entryIn, oldIn, bufferedIn, bufferedProper, bufferProper}
 use Rattle.undo.specs.Log.{expired, dropped, advanceStores}
 use Rattle.undo.specs.Filter.{firstBit, secondBit, isSet, withBit, marking, marks, hits, onesOf}
-use Rattle.undo.specs.Log.{bufferedMarked, bufferMarked, pushed, entryStores, flushed, flushStores, flushedBuffer, restoreStores, restoreTurn, recoverStores}
+use Rattle.undo.specs.Log.{bufferedMarked, bufferMarked, pushed, entryStores, flushed, flushStores, flushedBuffer, recoverStores}
 use Rattle.slots.specs.Slots as slots
 use Rattle.slots.specs.Sets as sets
 use Rattle.layout.specs.Memory.{withBuffer, shapeFor, formatted}
@@ -23,31 +25,33 @@ use Rattle.steps.specs.Effects.{flushingIf, writingOut, writingBack, emptying, 
 use Rattle.slots.specs.Slots.{entryDue, undoDue}
 use Rattle.steps.specs.Effects as steps
 use Rattle.steps.specs.Effects.{bringing, cleaning, visiting, persisting}
-use Rattle.checks.specs.Registers.{zero, given}
+use Rattle.checks.specs.Registers.{allZero, given}
 use Rattle.checks.specs.View.{viewOf, goodSizes, goodControl, goodShape, goodSlots, goodWork, properEpoch, properCounts, waits, properPass, properRegisters, miscounted, goodBuffer, goodFilter}
-use Rattle.checks.specs.Refusals.{memoriesChecked, runningChecked, lineChecked, storeChecked, commitChecked, scanChecked}
+use Rattle.checks.specs.Refusals.{memoriesChecked, powerUpChecked, runningChecked, readyChecked, namedChecked, lineChecked, storeChecked, commitChecked, scanChecked}
 use Rattle.picl.specs.Answers.{cutOff, answerOf}
 use Rattle.board.specs.Verdict.{refused, boardAfter, workAfter}
-use Rattle.picl.specs.Calls.{report, tallyVerdict, tallyReport, filterBitsVerdict, filterBitsReport, formatReport, formatAfter, loadAt, loadOutcome, loadVerdict}
-use Rattle.picl.specs.Calls.{storeAt, storeOutcome, storeVerdict, evictAt, evictOutcome, evictVerdict, commitOutcome, commitVerdict}
-use Rattle.picl.specs.Calls.{scanAt, scanOutcome, scanVerdict, wakeAt, wakeVerdict, powerUpVerdict}
+use Rattle.picl.specs.Calls.{verdictOf, report, tallyReport, filterBitsVerdict, filterBitsReport, formatReport, formatAfter, loadAt, loadOutcome}
+use Rattle.picl.specs.Calls.{storeAt, storeOutcome, evictAt, evictOutcome}
+use Rattle.picl.specs.Calls.{scanAt, scanOutcome, powerUpOutcome, powerUpVerdict}
+use Rattle.picl.specs.Calls as calls
 use Rattle.layout.specs.Bytes.{bytesOf, wordOf}
 use Rattle.status.specs.declared.Status.the-variants as status
 use Rattle.status.specs.Names.{bytes, rowOf, nameOf, withName}
-use Rattle.benchcalls.specs.declared.Call.the-variants.{Store}
 use Rattle.benchboard.specs.Sizes.{benchSized}
-use Rattle.benchboard.specs.Calls.{woken}
+use Rattle.benchboard.specs.Calls.{started}
+use Rattle.records.specs.declared.Call.the-variants.{Store}
 use Rattle.records.specs.declared.Reading.the-variants.{End, Recorded}
 use Rattle.records.specs.Records.{loadKind, storeKind, commitKind, scanKind, evictKind, hasPlace, callOf, firstWord, written, wordsReading, reading}
-use Rattle.text.specs.Text.{placesOf, decimalOf, numbersText, nameText}
+use Rattle.text.specs.Text.{decimalPlaces, decimalOf, numbersText, nameText}
 use Rattle.trace.specs.Run.{plus, begun, called, taken, turn, after, ran, lineText, printed}
-use Rattle.worked.specs.Recorded.{zeros, wrote, bad, listing, broken}
+use Rattle.worked.specs.Recorded.{zeros, wrote, bad, listing, fourKinds, onePass, badRecord}
 use Rattle.worked.specs.Bench.{control, entry, slot, clean, dirty, undo, twice, board, work, quiet, unmarked, filter, marked1, marked3, marked13}
-use Rattle.worked.specs.Bench.{around, ending, endingLast, wake, WakesAs, store, evict, commit, scan, still, ok, improper}
+use Rattle.worked.specs.Bench.{around, ending, endingLast, powerUp, RestoresAs, store, evict, commit, scan, still, ok, improper}
 use Rattle.worked.specs.Filtered.{buffer, full, store14, commit14, scan14, wide, evictShared}
 use Rattle.worked.specs.FourWays.{FourWays, four-ways}
 use Rattle.worked.specs.Hex.{Exported, exported}
 use Rattle.worked.specs.Passes.{Passes, passes}
+use Rattle.worked.specs.Replayed.{Replayed, replayed}
 use Rattle.worked.specs.Counted.{holding, loading, storing, evicting, scanning, committing, badEntry, before7, before11}
 
 pub record Worked : Type 0 where
@@ -67,15 +71,15 @@ pub record Worked : Type 0 where
   -- .. and 18 ones and 46 zeros; a one, 17 zeros, 24 ones and 22 zeros
   pub ones-slot : (encodeSlot (slot true true 65535 0) ≡ 0xFFFFC00000000000) × (encodeSlot (slot true false 0 lastEpoch) ≡ 0x80003FFFFFC00000)
   -- "W5 range 1, 3 covers 1 and 2, not 0, not 3."
-  pub w5-covers : (covers (entry 3 1 3) 1 ≡ true) × (covers (entry 3 1 3) 2 ≡ true)
-  pub w5-not : (covers (entry 3 1 3) 0 ≡ false) × (covers (entry 3 1 3) 3 ≡ false)
+  pub w5-covers : (covers (rangeOf (entry 3 1 3)) 1 ≡ true) × (covers (rangeOf (entry 3 1 3)) 2 ≡ true)
+  pub w5-not : (covers (rangeOf (entry 3 1 3)) 0 ≡ false) × (covers (rangeOf (entry 3 1 3)) 3 ≡ false)
   -- .. so a power-up with P 0 leaves the line, which is 7. With P 1 and 2 it stores the newer entry's data to it, and then the older's. With P 3 such
   -- an entry is refused: "P < ValidTill"
-  pub w5-wakes : WakesAs 0 1 7 × WakesAs 1 3 4 × WakesAs 2 3 4
-  pub w5-refused : answerOf 3 zero (wake (control 3 7 2) around) ≡ improper 0
+  pub w5-restores : RestoresAs 0 1 7 × RestoresAs 1 3 4 × RestoresAs 2 3 4
+  pub w5-refused : answerOf 3 allZero (powerUp (control 3 7 2) around) ≡ improper 0
   -- "W6 P = 1 and, oldest first, 0, 2 data 4 and 0, 2 data 6 for one line: it wakes as 4."
-  pub w6-ok : answerOf 3 zero (wake (control 1 0 2) twice) ≡ ok 0 3 (given 2 0 0 0 0)
-  pub w6-board : boardAfter 3 (board (control 1 0 2) twice 7) (wake (control 1 0 2) twice) ≡ board (control 1 0 0) twice 4
+  pub w6-ok : answerOf 3 allZero (powerUp (control 1 0 2) twice) ≡ ok 0 3 (given 2 0 0 0 0)
+  pub w6-board : boardAfter 3 (board (control 1 0 2) twice 7) (powerUp (control 1 0 2) twice) ≡ board (control 1 0 0) twice 4
   -- "W7 clean store at P 0, s 2 gives 0, 2."
   pub w7 : store 0 2 clean ≡ still (given 2 1 0 1 0) (work (dirty 2) 9 (undo 3 0 2 7) marked3)
   -- "W8 tag 1 at s 3 gives 1, 3."
@@ -97,11 +101,11 @@ pub record Worked : Type 0 where
   -- "The control word stored before the entries it counts."
   pub entries-first : boardAfter 2 (quiet 0) (evict (undo 3 0 2 7) marked3) ≡ board (control 0 0 0) (undo 3 0 2 7) 7
   -- "Clearing the log before the last line is restored, or not at all"
-  pub lines-first : boardAfter 2 (board (control 1 0 2) twice 7) (wake (control 1 0 2) twice) ≡ board (control 1 0 2) twice 4
+  pub lines-first : boardAfter 2 (board (control 1 0 2) twice 7) (powerUp (control 1 0 2) twice) ≡ board (control 1 0 2) twice 4
   -- "ValidFrom 0 for a clean line instead of P."
   pub valid-from : store 1 2 clean ≡ still (given 2 1 0 1 0) (work (dirty 2) 9 (undo 3 1 2 7) marked3)
   -- "Then the control word: same P, start 0, length 0, always stored."
-  pub always-stored : answerOf 1 zero (wake (control 1 0 0) []) ≡ ok 0 1 (given 2 0 0 0 0)
+  pub always-stored : answerOf 1 allZero (powerUp (control 1 0 0) []) ≡ ok 0 1 (given 2 0 0 0 0)
   -- "if dirty and tagged with the target": a line of another tag is left alone
   pub other-tag : scan 2 ≡ still (given 2 1 2 1 1) (work (dirty 2) 9 (undo 3 0 2 7) marked3)
   -- 3/13: "bit a mod 4,096 and bit (a × 40503 mod 65,536) divided by 16, rounded down": 4,095 × 40503 = 2,530 × 65,536 + 53,705, and
@@ -123,20 +127,20 @@ pub record Worked : Type 0 where
   pub no-flush : answerOf 1 (given 2 1 0 1 0) (evict (undo 1 0 2 7) marked1) ≡ ok 1 1 (given 2 1 0 0 0)
   -- .. nor with one bit, nor where b is 0 ..
   pub one-bit : answerOf 1 (given 2 1 0 1 0) (evict (undo 1 0 2 7) (set marked13 54 0)) ≡ ok 1 1 (given 2 1 0 0 0)
-  pub none-buffered : answerOf 1 (given 2 0 0 1 0) (evictVerdict (quiet 0) (work (dirty 2) 9 [] full) (given 2 0 0 1 0) 3) ≡ ok 1 1 (given 2 0 0 0 0)
+  pub none-buffered : answerOf 1 (given 2 0 0 1 0) (verdictOf (quiet 0) (work (dirty 2) 9 [] full) (given 2 0 0 1 0) (calls.evict 3)) ≡ ok 1 1 (given 2 0 0 0 0)
   -- .. but also where other lines have set them: a false hit
   pub false-hit : answerOf 4 (given 2 1 0 1 0) (evict (undo 1 0 2 7) marked13) ≡ ok 1 4 (given 2 0 0 0 0)
   pub false-hit-board : boardAfter 4 (quiet 0) (evict (undo 1 0 2 7) marked13) ≡ board (control 0 0 1) (undo 1 0 2 7) 9
   pub false-hit-shared : boardAfter 4 (wide 0 [] 7) evictShared ≡ wide 1 (undo 233 0 2 5) 9
   -- "The filter is cleared at each flush with b > 0."
   pub flush-clears : workAfter 4 (work (dirty 2) 9 (undo 3 0 2 7) marked3) (evict (undo 3 0 2 7) marked3) ≡ replicate (2 * 4 + 128) 0
-  pub flush-keeps : workAfter 1 (work (dirty 2) 9 [] full) (evictVerdict (quiet 0) (work (dirty 2) 9 [] full) (given 2 0 0 1 0) 3)
+  pub flush-keeps : workAfter 1 (work (dirty 2) 9 [] full) (verdictOf (quiet 0) (work (dirty 2) 9 [] full) (given 2 0 0 1 0) (calls.evict 3))
       ≡ replicate (2 * 4 + 64) 0 ++ full
   -- "14 filter, a buffered entry with either bit unset"
   pub lacks-first : evict (undo 3 0 2 7) (filter 54 0x200000) ≡ refused status.Filter 0
   pub lacks-second : evict (undo 3 0 2 7) (filter 0 0x1000000000000000) ≡ refused status.Filter 0
   -- "tested right after 7": all of 7 precedes any of 14; and 14 precedes 8, 9, 10 and 11
-  pub seven-first : evictVerdict (quiet 0) (work (dirty 2) 9 (undo 3 0 2 7 ++ undo 3 2 2 7) unmarked) (given 2 2 0 1 0) 3 ≡ refused status.Buffer 0
+  pub seven-first : verdictOf (quiet 0) (work (dirty 2) 9 (undo 3 0 2 7 ++ undo 3 2 2 7) unmarked) (given 2 2 0 1 0) (calls.evict 3) ≡ refused status.Buffer 0
   pub before-room : store14 ≡ refused status.Filter 0
   pub before-waiting : commit14 0 16 ≡ refused status.Filter 0
   pub before-last : commit14 (lastEpoch - 1) lastEpoch ≡ refused status.Filter 0
@@ -147,19 +151,19 @@ pub record Worked : Type 0 where
   pub bits-refused : filterBitsReport (replicate 137 0) ≡ report status.Work 0
   -- a work memory of 2S + 64 words, made for 36 slots before, is one of 4
   pub bits-of-old : filterBitsReport (replicate (2 * 36 + 64) 0) ≡ report status.Ok 0
-  -- 2/13: "A log entry is now proper only if ValidTill ≤ P + 16 as well." P is 1: 17 is taken, and the line wakes as the oldest has it ..
-  pub till-16 : answerOf 3 zero (wake (control 1 0 2) (ending 2 17)) ≡ ok 0 3 (given 2 0 0 0 0)
-  pub till-16-board : boardAfter 3 (board (control 1 0 2) (ending 2 17) 7) (wake (control 1 0 2) (ending 2 17)) ≡ board (control 1 0 0) (ending 2 17) 4
+  -- 2/13: "A log entry is now proper only if ValidTill ≤ P + 16 as well." P is 1: 17 is taken, and the line gets what the oldest has ..
+  pub till-16 : answerOf 3 allZero (powerUp (control 1 0 2) (ending 2 17)) ≡ ok 0 3 (given 2 0 0 0 0)
+  pub till-16-board : boardAfter 3 (board (control 1 0 2) (ending 2 17) 7) (powerUp (control 1 0 2) (ending 2 17)) ≡ board (control 1 0 0) (ending 2 17) 4
   -- .. 18 is refused as 3, with its place as value, and so is "a ValidTill 4,000 above P"
-  pub till-17 : answerOf 3 zero (wake (control 1 0 2) (ending 2 18)) ≡ improper 1
-  pub till-17-board : boardAfter 3 (board (control 1 0 2) (ending 2 18) 7) (wake (control 1 0 2) (ending 2 18)) ≡ board (control 1 0 2) (ending 2 18) 7
-  pub till-4000 : answerOf 3 zero (wake (control 1 0 2) (ending 2 4001)) ≡ improper 1
+  pub till-17 : answerOf 3 allZero (powerUp (control 1 0 2) (ending 2 18)) ≡ improper 1
+  pub till-17-board : boardAfter 3 (board (control 1 0 2) (ending 2 18) 7) (powerUp (control 1 0 2) (ending 2 18)) ≡ board (control 1 0 2) (ending 2 18) 7
+  pub till-4000 : answerOf 3 allZero (powerUp (control 1 0 2) (ending 2 4001)) ≡ improper 1
   -- the bound is P's, and not the next older entry's: 18 is 1 above that one's 17, and 17 above P
-  pub till-older : answerOf 3 zero (wake (control 1 0 2) (ending 17 18)) ≡ improper 1
+  pub till-older : answerOf 3 allZero (powerUp (control 1 0 2) (ending 17 18)) ≡ improper 1
   -- near the last epoch: where P + 16 is no epoch, and where it is the last, nothing that has a place in the field is refused
-  pub till-last : answerOf 2 zero (wake (control (lastEpoch - 1) 0 1) endingLast) ≡ ok 0 2 (given lastEpoch 0 0 0 0)
-  pub till-last-16 : answerOf 2 zero (wake (control (lastEpoch - 16) 0 1) endingLast) ≡ ok 0 2 (given (lastEpoch - 15) 0 0 0 0)
-  pub till-last-17 : answerOf 2 zero (wake (control (lastEpoch - 17) 0 1) endingLast) ≡ improper 0
+  pub till-last : answerOf 2 allZero (powerUp (control (lastEpoch - 1) 0 1) endingLast) ≡ ok 0 2 (given lastEpoch 0 0 0 0)
+  pub till-last-16 : answerOf 2 allZero (powerUp (control (lastEpoch - 16) 0 1) endingLast) ≡ ok 0 2 (given (lastEpoch - 15) 0 0 0 0)
+  pub till-last-17 : answerOf 2 allZero (powerUp (control (lastEpoch - 17) 0 1) endingLast) ≡ improper 0
   -- Recorded traces: "two words, most significant byte first: kind 3 bits .., address 16, zero 45; then the value"
   pub record-store : written storeKind 5 9 ≡ wrote (0x20 ∷ 0x00 ∷ 0xA0 ∷ zeros 12 ++ (9 ∷ []))
   pub record-evict : written evictKind 65535 0 ≡ wrote (0x9F ∷ 0xFF ∷ 0xE0 ∷ zeros 13)
@@ -183,8 +187,10 @@ pub record Worked : Type 0 where
   pub wraps : plus (2 ^ 64 - 1) 3 ≡ 2
   -- the paper's replay as a trace, with no `n` and no `p`: its last scan makes the listing's 6 stores
   pub listing-line : printed 4 8 4 listing ≡ bytes "ok 0 0 0 6\n"
-  -- "tested before its call and ending the run": the calls before it are counted, the one behind it is not made
-  pub trace-line : printed 4 8 4 (broken listing) ≡ bytes "trace 0 0 0 0\n"
+  -- "the totals of board stores made by loads, stores, evictions and scans", each another number
+  pub totals-line : printed 8 8 4 (fourKinds ++ onePass) ≡ bytes "ok 10 4 1 7\n"
+  -- "tested before its call and ending the run": the calls before it are counted, those behind it are not made
+  pub trace-line : printed 8 8 4 (fourKinds ++ (badRecord ++ onePass)) ≡ bytes "trace 10 4 1 0\n"
   -- 4/13: "every number gives its old row without the spaces", the first, one of each length, and those that have joined since
   pub row-slot : (rowOf 6 ≡ bytes "slot    ") × (nameOf 6 ≡ bytes "slot")
   pub named-0 : nameOf 0 ≡ bytes "ok"
@@ -230,15 +236,17 @@ pub record Worked : Type 0 where
   -- "The tally is then read from the registers", and "refuses as commit does up to 4", so not by 7
   pub tally-told : (tallyReport (quiet 0) (holding (dirty 2)) (given 2 0 0 1 0) ≡ report status.Ok 1) × (tallyReport (quiet 0) badEntry (given 2 1 0 1 0) ≡ report status.Ok 1)
   pub tally-wrong : tallyReport (quiet 0) (holding (dirty 2)) (given 2 0 0 2 0) ≡ report status.Ok 2
-  pub tally-1 : tallyReport [] (replicate 137 0) zero ≡ report status.Shape 0
-  pub tally-2 : tallyReport (quiet 0) (replicate 137 0) zero ≡ report status.Work 0
-  pub tally-4 : (tallyReport (quiet 0) (holding clean) zero ≡ report status.Regs 0) × (tallyReport (quiet 0) (holding clean) (given 2 0 0 5 0) ≡ report status.Regs 0)
+  pub tally-1 : tallyReport [] (replicate 137 0) allZero ≡ report status.Shape 0
+  pub tally-2 : tallyReport (quiet 0) (replicate 137 0) allZero ≡ report status.Work 0
+  pub tally-4 : (tallyReport (quiet 0) (holding clean) allZero ≡ report status.Regs 0) × (tallyReport (quiet 0) (holding clean) (given 2 0 0 5 0) ≡ report status.Regs 0)
   -- 6/13: sets of four slots
   pub in-sets : FourWays
   -- 7/13: the lines as Intel HEX
   pub in-hex : Exported
   -- 8/13: passes of several epochs
   pub in-passes : Passes
+  -- "Replay on the bench": whole scripts
+  pub in-replay : Replayed
 
 -- a filter of which every word has all its bits
 all-counted : (word : ℕ) → ones word ≡ 64 → filterBitsReport (work clean 7 [] (replicate 64 word)) ≡ report status.Ok 4096
@@ -247,17 +255,17 @@ all-counted word e = rw e
 
 pub worked : Worked
 unfolding width pack unpack encode decode
-    firstFrom applied each shifted covers properEntry properBuffered placeOf entryIn oldIn olderTill properAt firstImproper bufferedIn
+    firstFrom applied each shifted covers properRange properEntry placeOf entryIn oldIn olderTill properAt firstImproper bufferedIn
     bufferedProper bufferProper firstBit secondBit isSet withBit marking marks hits onesOf ones onesIn bufferedMarked bufferMarked pushed entryStores flushed flushStores flushedBuffer restoreStores restoreTurn recoverStores
-    slots.setOf slots.properTag slots.properFull slots.properSlot slots.properAt slots.holds sets.placesOf sets.properSet sets.takenOf sets.spotOf slots.zeroed
+    slots.setOf slots.properTag slots.properFull slots.properSlot slots.properAt slots.holds sets.placesOf sets.properSet sets.victimOf sets.spotOf slots.zeroed
     slots.dirtied slots.cleaned withBuffer flushingIf writingOut writingBack emptying slots.entryDue slots.undoDue entryFor logged storingHeld
     steps.loading steps.storing steps.evicting steps.lineIn cleaning visiting viewOf goodSizes goodControl goodShape goodSlots goodWork properEpoch properCounts
-    waits properPass properRegisters miscounted goodBuffer goodFilter memoriesChecked runningChecked lineChecked storeChecked commitChecked scanChecked answerOf boardAfter
-    storeAt storeOutcome storeVerdict evictAt evictOutcome evictVerdict commitOutcome commitVerdict scanAt scanOutcome scanVerdict
-    wakeAt wakeVerdict powerUpVerdict
+    waits properPass properRegisters miscounted goodBuffer goodFilter memoriesChecked powerUpChecked runningChecked readyChecked namedChecked lineChecked storeChecked commitChecked scanChecked answerOf boardAfter
+    storeAt storeOutcome evictAt evictOutcome scanAt scanOutcome
+    powerUpOutcome powerUpVerdict
     bytesOf wordOf hasPlace callOf firstWord written wordsReading reading
-    tallyVerdict tallyReport filterBitsVerdict filterBitsReport formatReport formatAfter loadAt loadOutcome loadVerdict workAfter bringing slots.filled persisting expired dropped advanceStores
-    benchSized formatted woken begun called taken turn after ran lineText nameText rowOf nameOf withName numbersText decimalOf placesOf
+    tallyReport filterBitsVerdict filterBitsReport formatReport formatAfter loadAt loadOutcome workAfter bringing slots.filled persisting expired dropped advanceStores
+    benchSized formatted started begun called taken turn after ran lineText nameText rowOf nameOf withName numbersText decimalOf decimalPlaces
 worked =
     record {
       w1 = refl;
@@ -270,7 +278,7 @@ worked =
       ones-slot = (refl, refl);
       w5-covers = (refl, refl);
       w5-not = (refl, refl);
-      w5-wakes = ((refl, refl), (refl, refl), (refl, refl));
+      w5-restores = ((refl, refl), (refl, refl), (refl, refl));
       w5-refused = refl;
       w6-ok = refl;
       w6-board = refl;
@@ -345,6 +353,7 @@ worked =
       at-end = refl;
       wraps = refl;
       listing-line = refl;
+      totals-line = refl;
       trace-line = refl;
       row-slot = (refl, refl);
       named-0 = refl;
@@ -386,4 +395,5 @@ worked =
       in-sets = four-ways;
       in-hex = exported;
       in-passes = passes;
+      in-replay = replayed;
     }

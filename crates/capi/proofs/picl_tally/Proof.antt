@@ -1,4 +1,4 @@
-use Rattle.capi.proofs.Laws.{registers-tested, tally-short, tally-made, tally-lent}
+use Rattle.capi.proofs.Laws.{registers-tested, crossing-short, tally-made, tally-lent}
 use borrow.Author.Needs.{needs}
 use Rattle.capi.proofs.picl_tally.Statement.{statement}
 use Rattle.capi.proofs.picl_tally.Tie as tie
@@ -10,7 +10,7 @@ same-length : tie.Need-same-length
 same-length c = search needs
 
 returns : tie.Need-returns
-returns c = search (tally-short)
+returns c = search (crossing-short)
 
 tally-requires : tie.Need-tally-requires
 tally-requires c κs = search (registers-tested)

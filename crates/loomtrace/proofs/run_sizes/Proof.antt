@@ -6,8 +6,8 @@ use Rattle.loomtrace.proofs.run_sizes.Tie as tie
 is-bench-sized-requires : tie.Need-is-bench-sized-requires
 is-bench-sized-requires c κs = search needs
 
-refused-requires : tie.Need-refused-requires
-refused-requires c κs = search needs
+too-large-requires : tie.Need-too-large-requires
+too-large-requires c κs = search needs
 
 returns : tie.Need-returns
 returns c = search needs
@@ -29,7 +29,7 @@ run-sizes-spec =
     tie.close
     (tie.spec
     is-bench-sized-requires
-    refused-requires
+    too-large-requires
     returns
     run-sized-requires
     same-length

@@ -10,8 +10,8 @@ is-cut-requires c κs = search needs
 clear-requires : tie.Need-clear-requires
 clear-requires c κs = search needs
 
-zero-requires : tie.Need-zero-requires
-zero-requires c κs = search needs
+all-zero-requires : tie.Need-all-zero-requires
+all-zero-requires c κs = search needs
 
 same-length : tie.Need-same-length
 same-length c = search needs
@@ -31,7 +31,7 @@ finish-spec =
     (tie.spec
     is-cut-requires
     clear-requires
-    zero-requires
+    all-zero-requires
     same-length
     returns
     made-requires

@@ -3,8 +3,8 @@ use Rattle.replay.specs.Laws.{format-again, format-large, sizes-good, fo
 use Rattle.replay.proofs.format.Statement.{statement}
 use Rattle.replay.proofs.format.Tie as tie
 
-refused-requires : tie.Need-refused-requires
-refused-requires c κs = search needs
+bad-requires : tie.Need-bad-requires
+bad-requires c κs = search needs
 
 returns : tie.Need-returns
 returns c = search (format-again)
@@ -12,8 +12,8 @@ returns c = search (format-again)
 is-bench-sized-requires : tie.Need-is-bench-sized-requires
 is-bench-sized-requires c κs = search needs
 
-refused-requires-2 : tie.Need-refused-requires-2
-refused-requires-2 c κs = search needs
+bad-requires-2 : tie.Need-bad-requires-2
+bad-requires-2 c κs = search needs
 
 returns-2 : tie.Need-returns-2
 returns-2 c = search (format-large)
@@ -34,10 +34,10 @@ pub format-spec : {M : Type 1} → statement M
 format-spec =
     tie.close
     (tie.spec
-    refused-requires
+    bad-requires
     returns
     is-bench-sized-requires
-    refused-requires-2
+    bad-requires-2
     returns-2
     start-requires
     same-length

@@ -31,8 +31,8 @@ allow-requires c κs = search needs
 enum-told-2 : tie.Need-enum-told-2
 enum-told-2 c = search needs
 
-refused-requires : tie.Need-refused-requires
-refused-requires c κs = search needs
+bad-requires : tie.Need-bad-requires
+bad-requires c κs = search needs
 
 same-length : tie.Need-same-length
 same-length c = search needs
@@ -83,7 +83,7 @@ perform-spec =
     enum-known-command-3
     allow-requires
     enum-told-2
-    refused-requires
+    bad-requires
     same-length
     same-length-2
     returns

@@ -3,8 +3,8 @@ use borrow.Author.Needs.{needs}
 use Rattle.replay.proofs.perform_request.Statement.{statement}
 use Rattle.replay.proofs.perform_request.Tie as tie
 
-refused-requires : tie.Need-refused-requires
-refused-requires c κs = search needs
+bad-requires : tie.Need-bad-requires
+bad-requires c κs = search needs
 
 returns : tie.Need-returns
 returns c = search (request-refused)
@@ -24,4 +24,4 @@ returns-2 c = search (request-ready)
 pub perform-request-spec : {M : Type 1} → statement M
 perform-request-spec =
     tie.close
-    (tie.spec refused-requires returns run-within-requires same-length same-length-2 returns-2)
+    (tie.spec bad-requires returns run-within-requires same-length same-length-2 returns-2)

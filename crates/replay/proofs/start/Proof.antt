@@ -9,26 +9,26 @@ board-words-requires c κs = search needs
 work-words-requires : tie.Need-work-words-requires
 work-words-requires c κs = search needs
 
-sub-wake : tie.Need-sub-wake
-sub-wake c = search needs
+sub-start : tie.Need-sub-start
+sub-start c = search needs
 
-part-wake-start : tie.Need-part-wake-start
-part-wake-start c = search needs
+part-start-start : tie.Need-part-start-start
+part-start-start c = search needs
 
-part-wake-end : tie.Need-part-wake-end
-part-wake-end c = search needs
+part-start-end : tie.Need-part-start-end
+part-start-end c = search needs
 
-sub-wake-2 : tie.Need-sub-wake-2
-sub-wake-2 c = search needs
+sub-start-2 : tie.Need-sub-start-2
+sub-start-2 c = search needs
 
-part-wake-start-2 : tie.Need-part-wake-start-2
-part-wake-start-2 c = search needs
+part-start-start-2 : tie.Need-part-start-start-2
+part-start-start-2 c = search needs
 
-part-wake-end-2 : tie.Need-part-wake-end-2
-part-wake-end-2 c = search needs
+part-start-end-2 : tie.Need-part-start-end-2
+part-start-end-2 c = search needs
 
-wake-requires : tie.Need-wake-requires
-wake-requires c κs = search needs
+start-requires : tie.Need-start-requires
+start-requires c κs = search needs
 
 slice-read-line-of : tie.Need-slice-read-line-of
 slice-read-line-of c = search needs
@@ -54,13 +54,13 @@ start-spec =
     (tie.spec
     board-words-requires
     work-words-requires
-    sub-wake
-    part-wake-start
-    part-wake-end
-    sub-wake-2
-    part-wake-start-2
-    part-wake-end-2
-    wake-requires
+    sub-start
+    part-start-start
+    part-start-end
+    sub-start-2
+    part-start-start-2
+    part-start-end-2
+    start-requires
     slice-read-line-of
     line-of-requires
     start-reply-requires

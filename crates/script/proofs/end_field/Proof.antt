@@ -4,14 +4,14 @@ use borrow.Author.Needs.{needs}
 use Rattle.script.proofs.end_field.Statement.{statement}
 use Rattle.script.proofs.end_field.Tie as tie
 
-refused-requires : tie.Need-refused-requires
-refused-requires c κs = search needs
+bad-reader-requires : tie.Need-bad-reader-requires
+bad-reader-requires c κs = search needs
 
 returns : tie.Need-returns
 returns c = search (end-empty)
 
-refused-requires-2 : tie.Need-refused-requires-2
-refused-requires-2 c κs = search needs
+bad-reader-requires-2 : tie.Need-bad-reader-requires-2
+bad-reader-requires-2 c κs = search needs
 
 returns-2 : tie.Need-returns-2
 returns-2 c = search (end-most)
@@ -24,4 +24,4 @@ returns-3 c = search (end-next)
 
 pub end-field-spec : {M : Type 1} → statement M
 end-field-spec =
-    tie.close (tie.spec refused-requires returns refused-requires-2 returns-2 add-t3 returns-3)
+    tie.close (tie.spec bad-reader-requires returns bad-reader-requires-2 returns-2 add-t3 returns-3)

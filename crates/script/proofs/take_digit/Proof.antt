@@ -4,14 +4,14 @@ use borrow.Author.Needs.{needs}
 use Rattle.script.proofs.take_digit.Statement.{statement}
 use Rattle.script.proofs.take_digit.Tie as tie
 
-refused-requires : tie.Need-refused-requires
-refused-requires c κs = search needs
+bad-reader-requires : tie.Need-bad-reader-requires
+bad-reader-requires c κs = search needs
 
 returns : tie.Need-returns
 returns c = search (digit-low)
 
-refused-requires-2 : tie.Need-refused-requires-2
-refused-requires-2 c κs = search needs
+bad-reader-requires-2 : tie.Need-bad-reader-requires-2
+bad-reader-requires-2 c κs = search needs
 
 returns-2 : tie.Need-returns-2
 returns-2 c = search (digit-high)
@@ -22,8 +22,8 @@ cast-digit c = search needs
 sub-if3 : tie.Need-sub-if3
 sub-if3 c = search needs
 
-refused-requires-3 : tie.Need-refused-requires-3
-refused-requires-3 c κs = search needs
+bad-reader-requires-3 : tie.Need-bad-reader-requires-3
+bad-reader-requires-3 c κs = search needs
 
 returns-3 : tie.Need-returns-3
 returns-3 c = search (digit-large)
@@ -41,13 +41,13 @@ pub take-digit-spec : {M : Type 1} → statement M
 take-digit-spec =
     tie.close
     (tie.spec
-    refused-requires
+    bad-reader-requires
     returns
-    refused-requires-2
+    bad-reader-requires-2
     returns-2
     cast-digit
     sub-if3
-    refused-requires-3
+    bad-reader-requires-3
     returns-3
     mul-t6
     add-t7

@@ -4,8 +4,8 @@ use borrow.Author.Needs.{needs}
 use Rattle.script.proofs.take_letter.Statement.{statement}
 use Rattle.script.proofs.take_letter.Tie as tie
 
-refused-requires : tie.Need-refused-requires
-refused-requires c κs = search needs
+bad-reader-requires : tie.Need-bad-reader-requires
+bad-reader-requires c κs = search needs
 
 returns : tie.Need-returns
 returns c = search (letter-second)
@@ -14,4 +14,4 @@ returns-2 : tie.Need-returns-2
 returns-2 c = search (letter-first)
 
 pub take-letter-spec : {M : Type 1} → statement M
-take-letter-spec = tie.close (tie.spec refused-requires returns returns-2)
+take-letter-spec = tie.close (tie.spec bad-reader-requires returns returns-2)

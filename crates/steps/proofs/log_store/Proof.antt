@@ -1,25 +1,10 @@
-use Rattle.steps.proofs.StoringHeld.{log-ready, log-stored}
+use Rattle.steps.proofs.StoringHeld.{log-flush-ready, log-stored}
 use borrow.Author.Needs.{needs}
 use Rattle.steps.proofs.log_store.Statement.{statement}
 use Rattle.steps.proofs.log_store.Tie as tie
 
-mul-old : tie.Need-mul-old
-mul-old c = search needs
-
-add-old : tie.Need-add-old
-add-old c = search needs
-
-mul-old-2 : tie.Need-mul-old-2
-mul-old-2 c = search needs
-
-slice-read-old : tie.Need-slice-read-old
-slice-read-old c = search needs
-
-entry-for-requires : tie.Need-entry-for-requires
-entry-for-requires c κs = search needs
-
 push-entry-requires : tie.Need-push-entry-requires
-push-entry-requires c κs = search (log-ready)
+push-entry-requires c κs = search needs
 
 mul-set-pair : tie.Need-mul-set-pair
 mul-set-pair c = search needs
@@ -30,8 +15,16 @@ dirty-word-requires c κs = search needs
 set-pair-requires : tie.Need-set-pair-requires
 set-pair-requires c κs = search needs
 
+flush-if-requires : tie.Need-flush-if-requires
+flush-if-requires c κs =
+    let logged = c .before .before .before .before .before .before .before .before .before .before in
+    log-flush-ready _ _ _ _ _ (logged .before .before .before .before .pre) _ _ _ (logged .push-entry .ensures) _ (search needs)
+
 same-length : tie.Need-same-length
 same-length c = search needs
+
+same-length-2 : tie.Need-same-length-2
+same-length-2 c = search needs
 
 returns : tie.Need-returns
 returns c = search (log-stored)
@@ -40,14 +33,11 @@ pub log-store-spec : {M : Type 1} → statement M
 log-store-spec =
     tie.close
     (tie.spec
-    mul-old
-    add-old
-    mul-old-2
-    slice-read-old
-    entry-for-requires
     push-entry-requires
     mul-set-pair
     dirty-word-requires
     set-pair-requires
+    flush-if-requires
     same-length
+    same-length-2
     returns)

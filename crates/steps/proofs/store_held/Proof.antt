@@ -1,4 +1,4 @@
-use Rattle.steps.proofs.StoringHeld.{held-again, held-flush-ready, held-logged}
+use Rattle.steps.proofs.StoringHeld.{held-again, held-log-ready, held-logged}
 use borrow.Author.Needs.{needs}
 use Rattle.steps.proofs.store_held.Statement.{statement}
 use Rattle.steps.proofs.store_held.Tie as tie
@@ -24,11 +24,23 @@ same-length c = search needs
 returns : tie.Need-returns
 returns c = search (held-again)
 
-log-store-requires : tie.Need-log-store-requires
-log-store-requires c κs = search needs
+entry-for-requires : tie.Need-entry-for-requires
+entry-for-requires c κs = search needs
 
-flush-if-requires : tie.Need-flush-if-requires
-flush-if-requires c κs = search (held-flush-ready)
+mul-old : tie.Need-mul-old
+mul-old c = search needs
+
+add-old : tie.Need-add-old
+add-old c = search needs
+
+mul-old-2 : tie.Need-mul-old-2
+mul-old-2 c = search needs
+
+slice-read-old : tie.Need-slice-read-old
+slice-read-old c = search needs
+
+log-store-requires : tie.Need-log-store-requires
+log-store-requires c κs = search (held-log-ready)
 
 same-length-2 : tie.Need-same-length-2
 same-length-2 c = search needs
@@ -50,8 +62,12 @@ store-held-spec =
     set-pair-requires
     same-length
     returns
+    entry-for-requires
+    mul-old
+    add-old
+    mul-old-2
+    slice-read-old
     log-store-requires
-    flush-if-requires
     same-length-2
     same-length-3
     returns-2)

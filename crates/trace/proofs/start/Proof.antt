@@ -3,8 +3,8 @@ use borrow.Author.Needs.{needs}
 use Rattle.trace.proofs.start.Statement.{statement}
 use Rattle.trace.proofs.start.Tie as tie
 
-wake-requires : tie.Need-wake-requires
-wake-requires c κs = search needs
+start-requires : tie.Need-start-requires
+start-requires c κs = search needs
 
 new-requires : tie.Need-new-requires
 new-requires c κs = search needs
@@ -19,4 +19,4 @@ returns : tie.Need-returns
 returns c = search (start-runs)
 
 pub start-spec : {M : Type 1} → statement M
-start-spec = tie.close (tie.spec wake-requires new-requires same-length same-length-2 returns)
+start-spec = tie.close (tie.spec start-requires new-requires same-length same-length-2 returns)

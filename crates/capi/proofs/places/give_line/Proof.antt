@@ -1,5 +1,5 @@
-use Rattle.capi.proofs.Laws.{registers-lent}
-use Rattle.capi.proofs.Lines.{gives-again}
+use Rattle.capi.proofs.Laws.{answer-lent}
+use Rattle.capi.proofs.Lines.{buffered-within, dirty-within, line-given}
 use borrow.Author.Needs.{needs}
 use Rattle.capi.proofs.places.give_line.Statement.{statement}
 use Rattle.capi.proofs.places.give_line.Tie as tie
@@ -19,11 +19,17 @@ same-length-2 c = search needs
 returns : tie.Need-returns
 returns c = search needs
 
-with-pass-requires : tie.Need-with-pass-requires
-with-pass-requires c κs = search (registers-lent)
+slice-write-registers : tie.Need-slice-write-registers
+slice-write-registers c = search (buffered-within)
 
-give-requires-2 : tie.Need-give-requires-2
-give-requires-2 c κs = search needs
+slice-write-registers-2 : tie.Need-slice-write-registers-2
+slice-write-registers-2 c = search (dirty-within)
+
+write-answer-requires : tie.Need-write-answer-requires
+write-answer-requires c κs = search (answer-lent)
+
+number-requires : tie.Need-number-requires
+number-requires c κs = search needs
 
 same-length-3 : tie.Need-same-length-3
 same-length-3 c = search needs
@@ -32,7 +38,7 @@ same-length-4 : tie.Need-same-length-4
 same-length-4 c = search needs
 
 returns-2 : tie.Need-returns-2
-returns-2 c = search (gives-again)
+returns-2 c = search (line-given)
 
 pub give-line-spec : {M : Type 1} → statement M
 give-line-spec =
@@ -43,8 +49,10 @@ give-line-spec =
     same-length
     same-length-2
     returns
-    with-pass-requires
-    give-requires-2
+    slice-write-registers
+    slice-write-registers-2
+    write-answer-requires
+    number-requires
     same-length-3
     same-length-4
     returns-2)

@@ -6,17 +6,17 @@ use Rattle.checks.proofs.Registers.leaving_slot.Tie as tie
 bit-requires : tie.Need-bit-requires
 bit-requires c κs = search needs
 
-sub-t6 : tie.Need-sub-t6
-sub-t6 c = search (count-enough)
+sub-r : tie.Need-sub-r
+sub-r c = search (count-enough)
 
 bit-requires-2 : tie.Need-bit-requires-2
 bit-requires-2 c κs = search needs
 
-add-t8 : tie.Need-add-t8
-add-t8 c = search needs
+add-r : tie.Need-add-r
+add-r c = search needs
 
 returns : tie.Need-returns
 returns c = search (count-changed)
 
 pub leaving-slot-spec : {M : Type 1} → statement M
-leaving-slot-spec = tie.close (tie.spec bit-requires sub-t6 bit-requires-2 add-t8 returns)
+leaving-slot-spec = tie.close (tie.spec bit-requires sub-r bit-requires-2 add-r returns)

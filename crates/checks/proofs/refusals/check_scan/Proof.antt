@@ -1,4 +1,4 @@
-use Rattle.checks.proofs.Rows.{scan-cursor, scan-rest}
+use Rattle.checks.proofs.Rows.{scan-refused, scan-behind}
 use borrow.Author.Needs.{needs}
 use Rattle.checks.proofs.refusals.check_scan.Statement.{statement}
 use Rattle.checks.proofs.refusals.check_scan.Tie as tie
@@ -16,10 +16,10 @@ check-scan-end-requires : tie.Need-check-scan-end-requires
 check-scan-end-requires c κs = search needs
 
 returns : tie.Need-returns
-returns c = search (scan-cursor)
+returns c = search (scan-refused)
 
 returns-2 : tie.Need-returns-2
-returns-2 c = search (scan-rest)
+returns-2 c = search (scan-behind)
 
 pub check-scan-spec : {M : Type 1} → statement M
 check-scan-spec =

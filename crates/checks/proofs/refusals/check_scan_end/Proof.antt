@@ -1,4 +1,4 @@
-use Rattle.checks.proofs.Rows.{first-buffer, behind-buffer}
+use Rattle.checks.proofs.Rows.{rows-refused, rows-behind}
 use borrow.Author.Needs.{needs}
 use Rattle.checks.proofs.refusals.check_scan_end.Statement.{statement}
 use Rattle.checks.proofs.refusals.check_scan_end.Tie as tie
@@ -16,10 +16,10 @@ check-waiting-requires : tie.Need-check-waiting-requires
 check-waiting-requires c κs = search needs
 
 returns : tie.Need-returns
-returns c = search (first-buffer)
+returns c = search (rows-refused)
 
 returns-2 : tie.Need-returns-2
-returns-2 c = search (behind-buffer)
+returns-2 c = search (rows-behind)
 
 pub check-scan-end-spec : {M : Type 1} → statement M
 check-scan-end-spec =

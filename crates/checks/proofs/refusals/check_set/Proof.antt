@@ -9,8 +9,8 @@ is-nowhere-requires c κs = search needs
 returns : tie.Need-returns
 returns c = search (set-improper)
 
-first-of-requires : tie.Need-first-of-requires
-first-of-requires c κs = search needs
+first-slot-of-requires : tie.Need-first-slot-of-requires
+first-slot-of-requires c κs = search needs
 
 is-miscounted-set-requires : tie.Need-is-miscounted-set-requires
 is-miscounted-set-requires c κs = search (set-words, needs)
@@ -27,7 +27,7 @@ check-set-spec =
     (tie.spec
     is-nowhere-requires
     returns
-    first-of-requires
+    first-slot-of-requires
     is-miscounted-set-requires
     returns-2
     returns-3)

@@ -1,12 +1,12 @@
-use Rattle.checks.specs.Stages.{running-ready, scan-refused, scan-passed}
-use Rattle.picl.specs.Calls.{scanVerdict}
+use Rattle.checks.specs.Refusals.{scanChecked}
+use Rattle.checks.specs.Stages.{told-refused, staged, staged-passed, running-rows}
 use Rattle.picl.proofs.Calling.{judged-refused, judged-passed, scan-told}
 use borrow.Author.Needs.{needs}
 use Rattle.picl.proofs.epochs.scan_running.Statement.{statement}
 use Rattle.picl.proofs.epochs.scan_running.Tie as tie
 
 check-scan-requires : tie.Need-check-scan-requires
-check-scan-requires c κs = search (running-ready)
+check-scan-requires c κs = search (running-rows)
 
 enum-known-checked : tie.Need-enum-known-checked
 enum-known-checked c = search needs
@@ -18,14 +18,15 @@ enum-told : tie.Need-enum-told
 enum-told c = search needs
 
 scan-passed-requires : tie.Need-scan-passed-requires
-scan-passed-requires c κs = search (scan-told, scan-passed)
+unfolding scanChecked
+scan-passed-requires c κs = search (scan-told, staged-passed)
 
 same-length : tie.Need-same-length
 same-length c = search needs
 
 returns : tie.Need-returns
-unfolding scanVerdict
-returns c = search (judged-refused, scan-refused)
+unfolding scanChecked
+returns c = search (judged-refused, told-refused, staged)
 
 same-length-2 : tie.Need-same-length-2
 same-length-2 c = search needs
@@ -34,8 +35,8 @@ same-length-3 : tie.Need-same-length-3
 same-length-3 c = search needs
 
 returns-2 : tie.Need-returns-2
-unfolding scanVerdict
-returns-2 c = search (judged-passed, scan-passed)
+unfolding scanChecked
+returns-2 c = search (judged-passed, staged-passed)
 
 pub scan-running-spec : {M : Type 1} → statement M
 scan-running-spec =

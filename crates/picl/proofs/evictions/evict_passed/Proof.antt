@@ -1,5 +1,5 @@
 use Rattle.picl.proofs.Passing.{evict-ready, line-within, line-found}
-use Rattle.picl.proofs.Calling.{evict-found}
+use Rattle.picl.proofs.Calling.{judged-passed, line-told, evict-found}
 use borrow.Author.Needs.{needs}
 use Rattle.picl.proofs.evictions.evict_passed.Statement.{statement}
 use Rattle.picl.proofs.evictions.evict_passed.Tie as tie
@@ -8,10 +8,10 @@ undo-requires : tie.Need-undo-requires
 undo-requires c κs = search needs
 
 is-dirty-at-requires : tie.Need-is-dirty-at-requires
-is-dirty-at-requires c κs = search (line-within)
+is-dirty-at-requires c κs = search (line-within, line-told)
 
 evict-at-requires : tie.Need-evict-at-requires
-evict-at-requires c κs = (search (evict-ready), search (line-found))
+evict-at-requires c κs = (search (evict-ready, line-told), search (line-found, line-told))
 
 same-length : tie.Need-same-length
 same-length c = search needs
@@ -20,7 +20,7 @@ same-length-2 : tie.Need-same-length-2
 same-length-2 c = search needs
 
 returns : tie.Need-returns
-returns c = search (evict-found)
+returns c = search (judged-passed, evict-found)
 
 pub evict-passed-spec : {M : Type 1} → statement M
 evict-passed-spec =

@@ -1,5 +1,5 @@
 use Rattle.picl.proofs.Passing.{fill-ready, line-within, line-found}
-use Rattle.picl.proofs.Calling.{load-found}
+use Rattle.picl.proofs.Calling.{judged-passed, line-told, load-found}
 use borrow.Author.Needs.{needs}
 use Rattle.picl.proofs.loads.load_passed.Statement.{statement}
 use Rattle.picl.proofs.loads.load_passed.Tie as tie
@@ -8,10 +8,10 @@ undo-requires : tie.Need-undo-requires
 undo-requires c κs = search needs
 
 is-dirty-at-requires : tie.Need-is-dirty-at-requires
-is-dirty-at-requires c κs = search (line-within)
+is-dirty-at-requires c κs = search (line-within, line-told)
 
 load-at-requires : tie.Need-load-at-requires
-load-at-requires c κs = (search (fill-ready), search (line-found))
+load-at-requires c κs = (search (fill-ready, line-told), search (line-found, line-told))
 
 same-length : tie.Need-same-length
 same-length c = search needs
@@ -20,7 +20,7 @@ same-length-2 : tie.Need-same-length-2
 same-length-2 c = search needs
 
 returns : tie.Need-returns
-returns c = search (load-found)
+returns c = search (judged-passed, load-found)
 
 pub load-passed-spec : {M : Type 1} → statement M
 load-passed-spec =

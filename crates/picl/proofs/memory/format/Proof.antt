@@ -1,4 +1,4 @@
-use Rattle.picl.proofs.Waking.{format-refused, format-fits, format-within, format-made}
+use Rattle.picl.proofs.Boards.{format-refused, format-fits, format-within, format-made}
 use borrow.Author.Needs.{needs}
 use Rattle.picl.proofs.memory.format.Statement.{statement}
 use Rattle.picl.proofs.memory.format.Tie as tie

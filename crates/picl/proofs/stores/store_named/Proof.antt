@@ -1,19 +1,25 @@
-use Rattle.checks.specs.Stages.{store-first}
-use Rattle.picl.specs.Calls.{storeVerdict}
+use Rattle.checks.specs.Laws.{then-refused}
+use Rattle.checks.specs.Refusals.{storeChecked}
+use Rattle.checks.specs.Stages.{told-refused, named-ready, named-persisted, named-ahead, named-spot, named-tags, site-ready, line-staged, line-passed, line-spot}
 use Rattle.picl.proofs.Calling.{judged-refused}
-use Rattle.picl.proofs.Siting.{spot-ready, tags-ready, set-ready, improper, sited}
 use borrow.Author.Needs.{needs}
 use Rattle.picl.proofs.stores.store_named.Statement.{statement}
 use Rattle.picl.proofs.stores.store_named.Tie as tie
 
+least-tag-requires : tie.Need-least-tag-requires
+least-tag-requires c κs = search (named-persisted)
+
+tags-requires : tie.Need-tags-requires
+tags-requires c κs = search (named-ahead)
+
 site-for-requires : tie.Need-site-for-requires
-site-for-requires c κs = search (spot-ready, tags-ready)
+site-for-requires c κs = search (named-spot, named-tags)
 
-check-set-requires : tie.Need-check-set-requires
-check-set-requires c κs = search (set-ready)
+check-site-requires : tie.Need-check-site-requires
+check-site-requires c κs = (search (named-ready), search (site-ready))
 
-enum-known-proper : tie.Need-enum-known-proper
-enum-known-proper c = search needs
+enum-known-checked : tie.Need-enum-known-checked
+enum-known-checked c = search needs
 
 refusal-requires : tie.Need-refusal-requires
 refusal-requires c κs = search needs
@@ -24,17 +30,19 @@ enum-told c = search needs
 spot-at-requires : tie.Need-spot-at-requires
 spot-at-requires c κs = search needs
 
-store-sited-requires : tie.Need-store-sited-requires
-store-sited-requires c κs =
+store-buffered-requires : tie.Need-store-buffered-requires
+store-buffered-requires c κs =
     let found = c .before .before .before .before .before .before .before in
-    search (sited, found .site-for .result, found .before .before .before .before .pre)
+    let named = found .before .before in
+    let told = named .before in
+    (search (line-passed _ _ _ _ _ (told .before .before .before .pre) _ _ (told .least-tag .ensures) (named .tags .ensures) _ (found .site-for .ensures)), search (line-spot _ _ _ _ _ (told .before .before .before .pre) _ _ (told .least-tag .ensures) (named .tags .ensures) _ (found .site-for .ensures)))
 
 same-length : tie.Need-same-length
 same-length c = search needs
 
 returns : tie.Need-returns
-unfolding storeVerdict
-returns c = search (judged-refused, store-first, improper)
+unfolding storeChecked
+returns c = search (judged-refused, then-refused, told-refused, line-staged)
 
 same-length-2 : tie.Need-same-length-2
 same-length-2 c = search needs
@@ -49,13 +57,15 @@ pub store-named-spec : {M : Type 1} → statement M
 store-named-spec =
     tie.close
     (tie.spec
+    least-tag-requires
+    tags-requires
     site-for-requires
-    check-set-requires
-    enum-known-proper
+    check-site-requires
+    enum-known-checked
     refusal-requires
     enum-told
     spot-at-requires
-    store-sited-requires
+    store-buffered-requires
     same-length
     returns
     same-length-2

@@ -3,11 +3,11 @@ use Rattle.replay.specs.Laws.{bench-new}
 use Rattle.replay.proofs.Bench.new.Statement.{statement}
 use Rattle.replay.proofs.Bench.new.Tie as tie
 
-zero-requires : tie.Need-zero-requires
-zero-requires c κs = search needs
+all-zero-requires : tie.Need-all-zero-requires
+all-zero-requires c κs = search needs
 
 returns : tie.Need-returns
 returns c = search (bench-new)
 
 pub new-spec : {M : Type 1} → statement M
-new-spec = tie.close (tie.spec zero-requires returns)
+new-spec = tie.close (tie.spec all-zero-requires returns)
