@@ -50,10 +50,6 @@
  * it, and now and then where the entries of other lines have set them (a false hit, which costs the stores of a flush and
  * nothing else). A flush clears the filter.
  *
- * A program that was built with a header in which PICL_WORK_WORDS(S) was 2S + 64 has to be built anew. Its work memory is
- * refused (PICL_WORK) where S is at most 32; where S is a larger multiple of 4 nothing can refuse it: its length is that of S - 32
- * slots. A program whose S is no multiple of 4, as it could be when each line had one slot, has to be given one that is.
- *
  * THE REGISTERS are PICL_REGISTER_WORDS words, lost with the current too. Power-up fills them. Each later call that takes
  * them reads them, and leaves the new ones in their place; picl_tally only reads them:
  *
@@ -68,18 +64,15 @@
  * at once. picl_begin begins one with any target from P + 1 to s - 1, and visits no slot. All other calls may be made in between:
  * what they store is of the running epoch, which the pass does not persist. A cut or a power-up breaks a pass off, and P stays.
  *
- * A program that was built with a header in which PICL_REGISTER_WORDS was 3 or 4 has to be built anew: every call that takes
- * registers answers PICL_TOO_SHORT where it is lent fewer than five words. When there were three, picl_tally's arguments were
- * others, too.
- *
  * THE ANSWER is PICL_ANSWER_WORDS words that each call fills, and the number that it returns:
  *
  *     word 0                value     what the call gives back, 0 where its description and its number name nothing
  *     word 1                stores    how many board stores the call has made; 0 from format, which does not count its own
  *
  * Registers and answer may be longer than that; the words behind are not touched. The two memories may not: a board that
- * is one word longer is refused (PICL_SHAPE), and a work memory that is eight words longer has four slots more. Format fixes N
- * and L. Power-up fixes S: until the next power-up, each call gets a work memory of the same length.
+ * is one word longer is refused (PICL_SHAPE), and a work memory that is eight words longer has four slots more, or is refused
+ * (PICL_WORK) where S was 256. Format fixes N and L. Power-up fixes S: until the next power-up, each call gets a work memory of
+ * the same length.
  *
  *
  * A RECORD is PICL_RECORD_BYTES bytes in which a controller notes a call, for the bench program loomtrace to make it again.
@@ -134,7 +127,7 @@
  *  - Each call gets board, work memory and registers as the call before returned and left them. Only power-up may be
  *    given any work memory and any registers.
  *  - A commit is made only at a moment when the lines agree with each other (pattern card, pick count, beam tension). It
- *    makes the lines, as they stand, a state in which the loom may wake.
+ *    makes the lines, as they stand, a state in which the loom may restart.
  *  - From the first HEX record of a file to its last neither format nor a call that takes an allowance is made. Otherwise a
  *    later epoch may be persisted in between, and the file has lines of both, which no answer tells. After a cut, too, the file
  *    begins again with record 0.
@@ -187,7 +180,8 @@ extern "C" {
  * can test that.
  *
  *     major    the number of the last change (docs/changes) that firmware has to follow: a layout, a length, arguments or what a
- *              number means are others, and programs have to be built anew or given other figures, or boards formatted anew
+ *              number means are others, and programs have to be built anew or given other figures, or boards formatted anew.
+ *              docs/changes/README.md says what a program does that was built before and is only linked anew
  *     minor    how many changes since have only added something: what was built with a smaller one needs nothing
  */
 #define PICL_VERSION_MAJOR 8
@@ -268,7 +262,7 @@ extern "C" {
  * is the line; at work newer data may be in the cache, and only picl_load gives the line. */
 #define PICL_LINE_AT(board, line) (PICL_LOG_AT + PICL_ENTRY_WORDS * PICL_ENTRIES(board) + (line))
 
-/* How many epochs are committed and wait to be persisted, 0 to PICL_MOST_WAITING, of a board that is awake: s - 1 - P. */
+/* How many epochs are committed and wait to be persisted, 0 to PICL_MOST_WAITING, of a running board: s - 1 - P. */
 #define PICL_EPOCHS_WAITING(board, registers) ((registers)[PICL_EPOCH] - 1 - PICL_PERSISTED(board))
 
 /* The allowance of a call that the current is not to leave. */

@@ -94,7 +94,7 @@ static inline uint64_t picl_handle_stores(const struct picl_handle *handle)
     return handle->answer[PICL_STORES];
 }
 
-/* Of a board that is awake: the running epoch s, the persisted one P, and how many are committed and wait, s - 1 - P. */
+/* Of a running board: the running epoch s, the persisted one P, and how many are committed and wait, s - 1 - P. */
 static inline uint64_t picl_handle_epoch(const struct picl_handle *handle)
 {
     return handle->registers[PICL_EPOCH];

@@ -1,7 +1,7 @@
 /*
- * Processes that weave and are killed by SIGKILL at any moment, some while they open the file. After each death this process
- * opens the file and holds all lines to one epoch: the last that was committed, or the one that was in its commit, or, where a
- * row may lose committed epochs, one before. The next process goes on with these lines.
+ * Processes that store epochs and are killed by SIGKILL at any moment, some while they open the file. After each death
+ * this process opens the file and holds all lines to one epoch: the last that was committed, or the one that was in its
+ * commit, or, where a row may lose committed epochs, one before. The next process goes on with these lines.
  */
 #include <inttypes.h>
 #include <signal.h>
@@ -20,34 +20,34 @@
 enum {
     DEATHS = 50, /* of each row, in each order */
     ORDERS = 2,
-    EPOCHS_DRAWN = 32, /* woven over and over; of those that come into question after a death no two are the same */
+    EPOCHS_DRAWN = 32, /* stored over and over; of those that come into question after a death no two are the same */
     ONE_AT_ONCE = 8,   /* one death of so many does not wait until the file is open */
     MOST_NANOSECONDS = 8000000,
     ANY_BYTE = 0xA5
 };
 
-/* What a dying process leaves behind. */
-struct notebook {
+/* What a killed process has done so far, in memory that it shares with this one. */
+struct journal {
     atomic_bool is_open;
     atomic_uint_fast64_t committed;
 };
 
 /* How many deaths of a row had which end, and the epochs that were committed before them. */
 struct tally {
-    uint64_t epochs, as_committed, one_more, one_less, torn;
+    uint64_t epochs, as_committed, one_more, one_less, mixed;
 };
 
-static struct notebook *notebook;
+static struct journal *journal;
 static struct epoch epochs[EPOCHS_DRAWN];
 
-static _Noreturn void weave_until_killed(const struct peer *peer, const char *path)
+static _Noreturn void run_until_killed(const struct peer *peer, const char *path)
 {
     void *state = peer->open(peer->variant, path, false);
-    atomic_store(&notebook->is_open, true);
+    atomic_store(&journal->is_open, true);
     for (uint64_t number = 0;; number++) {
         peer->store(state, &epochs[number % EPOCHS_DRAWN]);
         peer->commit(state);
-        atomic_store(&notebook->committed, number + 1);
+        atomic_store(&journal->committed, number + 1);
     }
 }
 
@@ -57,19 +57,19 @@ static void wait_nanoseconds(uint64_t nanoseconds)
     nanosleep(&time, NULL);
 }
 
-static void let_weave_and_kill(const struct peer *peer, const char *path, uint64_t *random)
+static void run_and_kill(const struct peer *peer, const char *path, uint64_t *random)
 {
     const uint64_t a_while = 20000;
-    atomic_store(&notebook->is_open, false);
-    atomic_store(&notebook->committed, 0);
+    atomic_store(&journal->is_open, false);
+    atomic_store(&journal->committed, 0);
     bool is_at_once = random_below(random, ONE_AT_ONCE) == 0;
     fflush(stdout);
     pid_t child = fork();
     if (child < 0)
         fail("no process can be started");
     if (child == 0)
-        weave_until_killed(peer, path);
-    while (!is_at_once && !atomic_load(&notebook->is_open) && waitpid(child, NULL, WNOHANG) == 0)
+        run_until_killed(peer, path);
+    while (!is_at_once && !atomic_load(&journal->is_open) && waitpid(child, NULL, WNOHANG) == 0)
         wait_nanoseconds(a_while);
     wait_nanoseconds(random_below(random, MOST_NANOSECONDS));
     int status;
@@ -94,7 +94,7 @@ static uint64_t epochs_in(uint64_t *lines, const uint64_t *found, uint64_t least
 static void judge(const struct peer *peer, const char *path, uint64_t *lines, struct tally *tally)
 {
     static uint64_t found[LINES];
-    uint64_t committed = atomic_load(&notebook->committed);
+    uint64_t committed = atomic_load(&journal->committed);
     memset(found, ANY_BYTE, sizeof found);
     void *state = peer->open(peer->variant, path, false);
     peer->read(state, found);
@@ -109,7 +109,7 @@ static void judge(const struct peer *peer, const char *path, uint64_t *lines, st
         if (peer->survives_death)
             fail("%s: after a death, %" PRIu64 " epochs being committed, the lines are of no epoch that they may be of",
                  peer->name, committed);
-        tally->torn++;
+        tally->mixed++;
         memcpy(lines, found, sizeof found);
     }
 }
@@ -127,8 +127,8 @@ static void die_often(unsigned row, unsigned order, const char *folder, struct t
     loom_start(&loom, works[order].order, LOOM_SEED + row);
     for (unsigned death = 0; death < DEATHS; death++) {
         for (unsigned epoch = 0; epoch < EPOCHS_DRAWN; epoch++)
-            loom_weave(&loom, &epochs[epoch]);
-        let_weave_and_kill(peer, path, &random);
+            loom_next_epoch(&loom, &epochs[epoch]);
+        run_and_kill(peer, path, &random);
         judge(peer, path, lines, tally);
     }
 }
@@ -140,15 +140,15 @@ static void print_tally(const struct peer *peer, const struct tally *tally)
     print_number(tally->as_committed);
     print_number(tally->one_more);
     print_number(tally->one_less);
-    print_number(tally->torn);
+    print_number(tally->mixed);
     printf(" |\n");
 }
 
 void print_deaths(const char *folder)
 {
-    notebook = mmap(NULL, sizeof *notebook, PROT_READ | PROT_WRITE, MAP_SHARED | MAP_ANONYMOUS, -1, 0);
-    if (notebook == MAP_FAILED)
-        fail("no memory for a notebook");
+    journal = mmap(NULL, sizeof *journal, PROT_READ | PROT_WRITE, MAP_SHARED | MAP_ANONYMOUS, -1, 0);
+    if (journal == MAP_FAILED)
+        fail("no memory for a journal");
     printf("%d processes of each row, killed at work or while they open the file. What the next one finds:\n\n", ORDERS * DEATHS);
     printf("| | epochs committed before | all of them | and the one in its commit | one epoch less | no epoch: torn |\n"
            "|---|---|---|---|---|---|\n");
@@ -157,8 +157,8 @@ void print_deaths(const char *folder)
         for (unsigned order = 0; order < ORDERS; order++)
             die_often(row, order, folder, &tally);
         print_tally(peers[row], &tally);
-        if (!peers[row]->survives_death && tally.torn == 0)
-            fail("no death has torn plain stores apart: the deaths show nothing");
+        if (!peers[row]->survives_death && tally.mixed == 0)
+            fail("no death has left plain stores of mixed epochs: the deaths show nothing");
     }
     printf("\n");
 }

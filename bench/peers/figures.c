@@ -1,7 +1,7 @@
 /*
- * The times, by turns: in each turn all rows weave the same epochs, one row after the other, another one first each time. What is
- * timed are the stores of an epoch and its commit, and for gathered stores the gathering too. At the end every row's lines are
- * held to a plain array.
+ * The times, by turns: in each turn all rows store the same epochs, one row after the other, another one first each
+ * time. What is timed are the stores of an epoch and its commit, and for gathered stores the gathering too. At the end
+ * every row's lines are held to a plain array.
  */
 #include <inttypes.h>
 #include <malloc.h>
@@ -64,7 +64,7 @@ static uint64_t words_until_now(const struct peer *peer)
     return peer->words == NULL ? 0 : peer->words();
 }
 
-static void weave(unsigned row, unsigned work, const struct epoch *from, const struct epoch *to)
+static void store_epochs(unsigned row, unsigned work, const struct epoch *from, const struct epoch *to)
 {
     static struct epoch once;
     void *state = measured[row][work].state;
@@ -79,7 +79,7 @@ static void weave(unsigned row, unsigned work, const struct epoch *from, const s
 static void draw_epochs(unsigned work)
 {
     for (unsigned epoch = 0; epoch < EPOCHS_A_TURN; epoch++) {
-        loom_weave(&looms[work], &epochs[epoch]);
+        loom_next_epoch(&looms[work], &epochs[epoch]);
         apply(lines_due[work], &epochs[epoch]);
     }
 }
@@ -92,7 +92,7 @@ static void start(const char *folder, unsigned row, unsigned work)
     path_of(one->path, folder, row, work);
     one->state = peers[row]->open(peers[row]->variant, one->path, true);
     for (unsigned round = 0; round < ROUNDS_BEFORE; round++)
-        weave(row, work, epochs, epochs + EPOCHS_A_TURN);
+        store_epochs(row, work, epochs, epochs + EPOCHS_A_TURN);
     one->heap_bytes = heap_bytes() - heap_before;
 }
 
@@ -102,23 +102,23 @@ static void count_words(unsigned row, unsigned work)
     struct measured *one = &measured[row][work];
     uint64_t words_before = words_until_now(peers[row]);
     watch(one->path);
-    weave(row, work, epochs, epochs + EPOCHS_WATCHED);
+    store_epochs(row, work, epochs, epochs + EPOCHS_WATCHED);
     one->words = unwatch();
     one->epochs_counted = EPOCHS_WATCHED;
     uint64_t counted_by_itself = words_until_now(peers[row]) - words_before;
     if (peers[row]->words != NULL && counted_by_itself != one->words)
         fail("%s, %s: %" PRIu64 " words went to the medium, and it has counted %" PRIu64, peers[row]->name, works[work].name,
              one->words, counted_by_itself);
-    weave(row, work, epochs + EPOCHS_WATCHED, epochs + EPOCHS_A_TURN);
+    store_epochs(row, work, epochs + EPOCHS_WATCHED, epochs + EPOCHS_A_TURN);
 }
 
 static void take_turn(unsigned row, unsigned work, unsigned turn)
 {
     struct measured *one = &measured[row][work];
-    weave(row, work, epochs, epochs + EPOCHS_BEFORE);
+    store_epochs(row, work, epochs, epochs + EPOCHS_BEFORE);
     uint64_t words_before = words_until_now(peers[row]);
     double from = now();
-    weave(row, work, epochs + EPOCHS_BEFORE, epochs + EPOCHS_A_TURN);
+    store_epochs(row, work, epochs + EPOCHS_BEFORE, epochs + EPOCHS_A_TURN);
     one->nanoseconds[turn] = (now() - from) / EPOCHS_TIMED / STORES_AN_EPOCH;
     if (peers[row]->words != NULL) {
         one->words += words_until_now(peers[row]) - words_before;
@@ -138,7 +138,7 @@ static void measure(const char *folder)
             if (peers[row]->is_mapped)
                 count_words(row, work);
             else
-                weave(row, work, epochs, epochs + EPOCHS_A_TURN);
+                store_epochs(row, work, epochs, epochs + EPOCHS_A_TURN);
     }
     for (unsigned turn = 0; turn < TURNS; turn++)
         for (unsigned work = 0; work < WORKS; work++) {

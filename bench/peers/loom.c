@@ -49,7 +49,7 @@ static uint64_t address_of(struct loom *loom, size_t turn)
     return loom->lines[pick * LINES_OF_A_PICK + turn % LINES_OF_A_PICK];
 }
 
-void loom_weave(struct loom *loom, struct epoch *epoch)
+void loom_next_epoch(struct loom *loom, struct epoch *epoch)
 {
     epoch->is_by_picks = loom->order == BY_PICKS;
     epoch->lines = loom->lines;

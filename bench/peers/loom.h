@@ -50,7 +50,7 @@ struct loom {
 void loom_start(struct loom *loom, enum order order, uint64_t seed);
 
 /* The stores of the loom's next epoch. */
-void loom_weave(struct loom *loom, struct epoch *epoch);
+void loom_next_epoch(struct loom *loom, struct epoch *epoch);
 
 /* 0 to limit - 1, and the next state. */
 uint64_t random_below(uint64_t *random, uint64_t limit);

@@ -1,5 +1,5 @@
-/* No log at all: the stores go to the lines, and a commit notes its number. It is the least that a store can take, and shows that
- * the deaths tear apart what is not protected. */
+/* No log at all: the stores go to the lines, and a commit notes its number. It is the least that a store can take, and
+ * shows that deaths leave lines of mixed epochs where nothing protects them. */
 #include <stdlib.h>
 #include <string.h>
 

@@ -60,12 +60,12 @@ pub fn write_exports(folder: &str) -> Result<(), String> {
 
 /// What a side exports of a board on which its own calls have stored these lines.
 fn exported<C: CacheLog>(lines: &[u64]) -> Vec<u8> {
-    records::<C>(&woken_board::<C>(lines)).concat()
+    records::<C>(&recovered_board::<C>(lines)).concat()
 }
 
-/// A board that wakes with these lines: they were stored and persisted, epoch by epoch, and what was stored in one more epoch is
-/// taken back.
-fn woken_board<C: CacheLog>(lines: &[u64]) -> Vec<u64> {
+/// A board that power-up has brought back to these lines: they were stored and persisted, epoch by epoch, and what was
+/// stored in one more epoch is taken back.
+fn recovered_board<C: CacheLog>(lines: &[u64]) -> Vec<u64> {
     let sizes = Sizes {
         lines: lines.len() as u64,
         entries: ENTRIES,

@@ -17,7 +17,7 @@ pub struct Loom {
 
 impl Loom {
     /// Format and power-up. The answer is power-up's, or format's where that refuses.
-    pub fn wake(sizes: Sizes) -> (Self, Answer) {
+    pub fn start(sizes: Sizes) -> (Self, Answer) {
         let mut loom = Loom {
             board: vec![0; sizes.board_words()],
             work: vec![LOST; sizes.work_words()],

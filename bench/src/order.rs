@@ -35,7 +35,7 @@ struct State {
 }
 
 impl State {
-    fn woken() -> Self {
+    fn running() -> Self {
         let mut state = State {
             board: vec![0; SIZES.board_words()],
             work: vec![0; SIZES.work_words()],
@@ -106,7 +106,7 @@ fn due(state: &State, call: Call) -> Vec<Option<usize>> {
 
 /// Plays the history, to be watched. Prints where board and mark are.
 pub fn play() {
-    let mut state = State::woken();
+    let mut state = State::running();
     let random = &mut Random::new(SEED);
     println!("{} {}", state.board.as_ptr() as u64, MARK.as_ptr() as u64);
     for _ in 0..CALLS {
@@ -123,7 +123,7 @@ pub fn check(places: &str, record: &str) -> Result<(), String> {
     if recorded.len() != CALLS {
         return Err(format!("{} calls recorded of {CALLS}", recorded.len()));
     }
-    let mut state = State::woken();
+    let mut state = State::running();
     let random = &mut Random::new(SEED);
     let mut stores = 0;
     for (index, made) in recorded.iter().enumerate() {

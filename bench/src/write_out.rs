@@ -83,7 +83,7 @@ mod tests {
             entries: 8,
             slots: 4,
         };
-        let (mut loom, _) = Loom::wake(sizes);
+        let (mut loom, _) = Loom::start(sizes);
         let mut seen = |call| {
             let write_out = loom.write_out(call);
             let stores = loom.make(call).stores;

@@ -1,23 +1,25 @@
 /*
  * A loom controller's loop over the PiCL cache log, with a mains switch that a weaver turns off every now and then.
  *
- * The loom weaves picks. After pick n its lines hold what only n decides: the pick count, the card's position, the beam's
- * tension, and for each card the last pick that it was used for. In mid-pick these lines do not agree, so an epoch is some
- * whole picks and then a commit. The pick count at each commit is noted outside of the controller, and every other line
- * follows from it. That is how the controller sees, whenever it wakes, that ALL lines came back as of ONE epoch.
+ * The loom weaves picks. After pick n its lines hold what only n decides: the pick count, the card's position, the
+ * beam's tension, and for each card the last pick that it was used for. In mid-pick these lines do not agree, so an
+ * epoch is some whole picks and then a commit. The pick count at each commit is recorded outside of the controller, and
+ * every other line follows from it. That is how the controller sees, after each power-up, that ALL lines came back as
+ * of ONE epoch.
  *
- * At first an epoch has PICKS_AN_EPOCH picks. If one needs more undo entries than the log has, the controller gives it up and
- * from then on weaves epochs of half as many picks. How often it has halved them is a line too.
+ * At first an epoch has PICKS_AN_EPOCH picks. If one needs more undo entries than the log has, the controller gives it
+ * up, and from then on its epochs have half as many picks. How often it has halved them is a line too.
  *
  *     controller SCRIPT TRANSCRIPT HEX
  *
- * also writes the calls that it made, in the language of the bench program `loomreplay`, and what they answered, as that
- * prints it. HEX is for the service laptop: whenever the controller wakes it writes all lines into that file anew, as Intel HEX.
+ * also writes the calls that it made, in the language of the bench program `loomreplay`, and what they answered, as
+ * that prints it. HEX is for the service laptop: after each power-up the controller writes all lines into that file
+ * anew, as Intel HEX.
  *
  *     controller SCRIPT TRANSCRIPT HEX TRACE TOTALS
  *
- * weaves without a cut. It also records itself: it writes its calls as a trace, and the board stores that each kind of call has
- * made, as the bench program `loomtrace` prints them for that trace.
+ * runs without a cut. It also records itself: it writes its calls as a trace, and the board stores that each kind of
+ * call has made, as the bench program `loomtrace` prints them for that trace.
  */
 #include <stdbool.h>
 #include <stdio.h>
@@ -88,12 +90,12 @@ static unsigned given_up;
 /* The file that the service laptop reads, or NULL where there is no laptop. */
 static const char *hex_file;
 
-/* The weaver's notebook, which no cut reaches: how far the loom was when an epoch was committed. It judges what the controller
- * finds when it wakes; nothing that the controller stores depends on it. */
+/* The record of what was committed, which no cut reaches: how far the loom was at the commit of each epoch. end_epoch
+ * writes it, and check_lines holds the lines to it. Nothing that the controller stores depends on it. */
 static struct {
     uint64_t picks;
     uint64_t halvings;
-} noted[EPOCHS + 1];
+} at_commit[EPOCHS + 1];
 
 static void fail(const char *what, uint64_t number)
 {
@@ -101,12 +103,12 @@ static void fail(const char *what, uint64_t number)
     exit(1);
 }
 
-/* A weaver's hand: when the mains is on again, after how many board stores it goes off. */
+/* The mains is on again. After how many board stores it goes off is drawn at random. */
 static void turn_on(void)
 {
-    static uint64_t hand = 1; /* Knuth's MMIX generator */
-    hand = hand * 6364136223846793005u + 1442695040888963407u;
-    loom.allowance = is_uncut ? PICL_NO_CUT : (uint32_t)(hand >> 33) % MOST_STORES_BETWEEN_CUTS;
+    static uint64_t random = 1; /* Knuth's MMIX generator */
+    random = random * 6364136223846793005u + 1442695040888963407u;
+    loom.allowance = is_uncut ? PICL_NO_CUT : (uint32_t)(random >> 33) % MOST_STORES_BETWEEN_CUTS;
 }
 
 /* What every call comes back to. A cut loses work memory and registers, and the loop starts again from the board. */
@@ -228,8 +230,8 @@ static uint64_t evict_card(uint64_t pick)
     return is_any ? evict(FIRST_CARD + card_at(pick - CARDS_KEPT)) : PICL_OK;
 }
 
-/* Weaves one pick: what it stores depends on its number alone. */
-static uint64_t weave(void)
+/* One pick: what it stores depends on its number alone. */
+static uint64_t run_pick(void)
 {
     uint64_t pick, number = load(PICK_COUNT, &pick);
     pick++;
@@ -253,7 +255,7 @@ static uint64_t picks_an_epoch(uint64_t halvings)
     return (uint64_t)PICKS_AN_EPOCH >> halvings;
 }
 
-/* The filter has the bits of the buffered entries and no others: at most two for each, and none after a wake. */
+/* The filter has the bits of the buffered entries and no others: at most two for each, and none after a power-up. */
 static void check_filter(void)
 {
     uint64_t number = picl_handle_filter_bits(&loom);
@@ -275,7 +277,7 @@ static void check_panel(void)
         fail("the panel shows another number of dirty lines than the slots have", picl_handle_value(&loom));
 }
 
-/* Commits the running epoch, in which so many picks were woven. */
+/* Commits the running epoch, which has so many picks. */
 static uint64_t end_epoch(uint64_t picks, uint64_t halvings)
 {
     uint64_t number = commit();
@@ -283,18 +285,18 @@ static uint64_t end_epoch(uint64_t picks, uint64_t halvings)
         check_filter();
         check_panel();
         uint64_t committed = picl_handle_epoch(&loom) - 1;
-        noted[committed].picks = noted[committed - 1].picks + picks;
-        noted[committed].halvings = halvings;
+        at_commit[committed].picks = at_commit[committed - 1].picks + picks;
+        at_commit[committed].halvings = halvings;
     }
     return number;
 }
 
-static uint64_t weave_epoch(void)
+static uint64_t run_epoch(void)
 {
     uint64_t halvings, number = load(HALVINGS, &halvings);
     uint64_t picks = picks_an_epoch(halvings);
     for (uint64_t i = 0; number == PICL_OK && i < picks; i++)
-        number = weave();
+        number = run_pick();
     return number == PICL_OK ? end_epoch(picks, halvings) : number;
 }
 
@@ -316,7 +318,7 @@ static uint64_t line_after(uint64_t picks, uint64_t address)
 /* What a line held when an epoch was committed. */
 static uint64_t line_of(uint64_t epoch, uint64_t address)
 {
-    return address == HALVINGS ? noted[epoch].halvings : line_after(noted[epoch].picks, address);
+    return address == HALVINGS ? at_commit[epoch].halvings : line_after(at_commit[epoch].picks, address);
 }
 
 /* Each line against what it held when the persisted epoch was committed. */
@@ -333,7 +335,7 @@ static uint64_t check_lines(void)
     }
     if (number == PICL_OK)
         printf("awake: every line is of epoch %llu, pick %llu\n", (unsigned long long)persisted,
-               (unsigned long long)noted[persisted].picks);
+               (unsigned long long)at_commit[persisted].picks);
     return number;
 }
 
@@ -348,7 +350,7 @@ static void serve_laptop(void)
 }
 
 /* After every accepted power-up, before anything else. */
-static uint64_t woken(void)
+static uint64_t after_power_up(void)
 {
     if (hex_file != NULL)
         serve_laptop();
@@ -381,7 +383,7 @@ static uint64_t give_up_epoch(void)
     printf("epoch %llu needs more entries than the log has: given up\n", (unsigned long long)picl_handle_epoch(&loom));
     uint64_t number = power_up();
     if (number == PICL_OK)
-        number = woken();
+        number = after_power_up();
     return number == PICL_OK ? halve_epochs() : number;
 }
 
@@ -407,7 +409,7 @@ static uint64_t start(void)
         turn_on();
         number = power_up();
     }
-    return number == PICL_OK ? woken() : number;
+    return number == PICL_OK ? after_power_up() : number;
 }
 
 /* From mains on to mains off, or to the last epoch. */
@@ -415,7 +417,7 @@ static uint64_t run(void)
 {
     uint64_t number = start();
     while (number == PICL_OK && picl_handle_epoch(&loom) <= EPOCHS) {
-        number = weave_epoch();
+        number = run_epoch();
         if (number == PICL_ROOM)
             number = give_up_epoch();
     }

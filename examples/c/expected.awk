@@ -1,5 +1,6 @@
-# From the bench program's transcript of a run (letter, name, value, stores, s, P, log length, b) to what the controller must have
-# printed: at each wake, that all lines are of the persisted epoch P, and the pick count when P was committed.
+# From the bench program's transcript of a run (letter, name, value, stores, s, P, log length, b) to what the controller
+# must have printed: after each accepted power-up, that all lines are of the persisted epoch P, and the pick count when
+# P was committed.
 #
 # At first an epoch is 20 picks. A power-up right after a scan that answered none, with the last store refused for room, gives up
 # the running epoch. After it comes an epoch of no pick, and from then on an epoch has half as many picks.

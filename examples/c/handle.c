@@ -200,7 +200,7 @@ static void compare_calls(void)
     puts("");
 }
 
-/* A new board that is awake. Its handle is made of the addresses of its memories. */
+/* A new board, powered up. Its handle is made of the addresses of its memories. */
 static void start(void)
 {
     struct picl_board lent_board = {board, LINES, LOG_ENTRIES};

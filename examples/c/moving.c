@@ -3,12 +3,12 @@
  * finish_move are what a controller needs for it; the rest tries them. Where the loom stands still meanwhile, picl_handle_settle
  * is both.
  *
- * This loom stores to line n - 1 in each epoch that is a multiple of n, and what it stores is the epoch's number. So an epoch
- * alone decides what every line held at its commit, and whenever the loom wakes ALL lines are held to ONE epoch.
+ * This loom stores to line n - 1 in each epoch that is a multiple of n, and what it stores is the epoch's number. So an
+ * epoch alone decides what every line held at its commit, and after each power-up ALL lines are held to ONE epoch.
  *
- * Each move is made on a new board, and the mains turned off behind it: every line must wake as of the last epoch that was
- * committed. Then it is made again and again, and the mains goes off at the first board store of the pass, at the second, and so
- * on to the last: every line must wake as of the epoch that was persisted before the pass.
+ * Each move is made on a new board, and the mains turned off behind it: every line must come back as of the last epoch
+ * that was committed. Then it is made again and again, and the mains goes off at the first board store of the pass, at
+ * the second, and so on to the last: every line must come back as of the epoch that was persisted before the pass.
  */
 #include <stdbool.h>
 #include <stdio.h>
@@ -19,7 +19,7 @@
 
 enum {
     SLOTS = 16,
-    LINES = SLOTS + 4, /* more than a pass has calls: a loom that weaves on stores to another line before each */
+    LINES = SLOTS + 4, /* more than a pass has calls: a loom that is running stores to another line before each */
     LOG_ENTRIES = 128,
     PERSISTED = 30, /* epochs that are persisted one by one before those that wait for the move: so many that the log turns */
     LAST_COMMITTED = PERSISTED + PICL_MOST_WAITING,
@@ -78,13 +78,13 @@ static uint64_t begin_move(void)
     return number == PICL_OK ? picl_handle_begin(&loom, picl_handle_epoch(&loom) - 1) : number;
 }
 
-/* The pass: after it P is the last committed epoch, and the mains may be turned off. A loom may weave on meanwhile. What it
- * stores is of the running epoch, which a cut takes back as ever. */
-static uint64_t finish_move(bool is_weaving)
+/* The pass: after it P is the last committed epoch, and the mains may be turned off. A loom may run on meanwhile. What
+ * it stores is of the running epoch, which a cut takes back as ever. */
+static uint64_t finish_move(bool is_running)
 {
     uint64_t number = PICL_OK;
     for (unsigned calls = 0; number == PICL_OK && calls < SLOTS + 1; calls++) {
-        if (is_weaving)
+        if (is_running)
             number = store(LINES - 1 - calls, HALF_MADE);
         if (number == PICL_OK)
             number = scan();
@@ -99,21 +99,21 @@ static uint64_t line_of(uint64_t epoch, uint64_t address)
 }
 
 /* Mains on: P is this epoch, and every line is as of it. */
-static void wake(uint64_t epoch)
+static void restart(uint64_t epoch)
 {
     memset(work, ANY_BYTE, sizeof work);
     memset(loom.registers, ANY_BYTE, sizeof loom.registers);
     accepted("power-up", picl_handle_power_up(&loom));
     if (picl_handle_persisted(&loom) != epoch)
-        fail("the loom wakes in another epoch", picl_handle_persisted(&loom));
+        fail("the loom restarts in another epoch", picl_handle_persisted(&loom));
     for (uint64_t address = 0; address < LINES; address++) {
         accepted("load", picl_handle_load(&loom, address));
         if (picl_handle_value(&loom) != line_of(epoch, address))
-            fail("a line is not of the epoch that the loom wakes in", address);
+            fail("a line is not of the epoch that the loom restarts in", address);
     }
 }
 
-static void weave(uint64_t epoch)
+static void store_epoch(uint64_t epoch)
 {
     for (uint64_t address = 0; address < LINES; address++)
         if (line_of(epoch, address) == epoch)
@@ -124,14 +124,14 @@ static void weave(uint64_t epoch)
 static void work_until_move(void)
 {
     accepted("format", picl_handle_format(&loom));
-    wake(0);
+    restart(0);
     for (uint64_t epoch = 1; epoch < LAST_COMMITTED; epoch++) {
-        weave(epoch);
+        store_epoch(epoch);
         accepted("commit", picl_handle_commit(&loom));
         for (unsigned calls = 0; epoch <= PERSISTED && calls < SLOTS + 1; calls++)
             accepted("scan", scan());
     }
-    weave(LAST_COMMITTED);
+    store_epoch(LAST_COMMITTED);
 }
 
 /* No pass begins, and the registers stay as they are. */
@@ -151,7 +151,7 @@ struct found {
     const char *state;
     unsigned scans_before; /* ordinary scan calls: some, and a pass is under way */
     uint64_t persisted;    /* P when the pass for all epochs begins */
-    bool is_weaving;
+    bool is_running;
 };
 
 /* One move, with a mains that goes off after so many board stores of the pass. Was that before its end? */
@@ -165,10 +165,10 @@ static bool is_cut_after(const struct found *found, uint32_t stores)
     refused(picl_handle_epoch(&loom) - 1); /* a pass is under way */
     stores_made = 0;
     loom.allowance = stores;
-    uint64_t number = finish_move(found->is_weaving);
+    uint64_t number = finish_move(found->is_running);
     loom.allowance = PICL_NO_CUT;
     if (number == PICL_CUT) {
-        wake(found->persisted);
+        restart(found->persisted);
         return true;
     }
     accepted("the end of a move", number);
@@ -177,7 +177,7 @@ static bool is_cut_after(const struct found *found, uint32_t stores)
     if (picl_handle_persisted(&loom) != LAST_COMMITTED)
         fail("behind the pass another epoch is persisted", picl_handle_persisted(&loom));
     refused(LAST_COMMITTED); /* none waits */
-    wake(LAST_COMMITTED);
+    restart(LAST_COMMITTED);
     return false;
 }
 

@@ -23,8 +23,8 @@ static void close_trace(void)
     trace = NULL;
 }
 
-/* With one call left out, those after it may be made again on a board that differs from the controller's. So the trace ends
- * before that call, and has no totals. What it holds is still good. Nothing depends on it: the loom weaves on. */
+/* With one call left out, those after it may be made again on a board that differs from the controller's. So the trace
+ * ends before that call, and has no totals. What it holds is still good. Nothing depends on it: the loom runs on. */
 static void break_off(uint64_t number)
 {
     fprintf(stderr, "trace: broken off, a call has no record: %llu\n", (unsigned long long)number);

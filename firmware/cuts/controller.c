@@ -1,6 +1,6 @@
 /*
- * A controller that weaves as docs/INTEGRATION.md says until it is killed. It holds each answer to what it must be. What the
- * checker has to know it writes into the journal before it does it.
+ * A controller that works as docs/INTEGRATION.md says until it is killed. It holds each answer to what it must be. What
+ * the checker has to know it writes into the journal before it does it.
  */
 #define _DEFAULT_SOURCE
 #include "controller.h"
@@ -117,7 +117,7 @@ static void power_up(void)
     pass_target = 0;
     pass_calls = 0;
     if (registers[PICL_EPOCH] != PICL_PERSISTED(loom.board) + 1)
-        fail("this epoch runs on a woken board, where %" PRIu64 " is persisted", PICL_PERSISTED(loom.board));
+        fail("this epoch runs after power-up, where %" PRIu64 " is persisted", PICL_PERSISTED(loom.board));
 }
 
 static void load(uint64_t address)
@@ -250,7 +250,7 @@ static void begin_epoch(void)
     loom.journal->attempt_of[registers[PICL_EPOCH] % JOURNAL_EPOCHS] = attempt;
 }
 
-static void weave_epoch(void)
+static void run_epoch(void)
 {
     uint64_t address, value;
     begin_epoch();
@@ -296,7 +296,7 @@ uint64_t now(void)
     return (uint64_t)time.tv_sec * NANOSECONDS + (uint64_t)time.tv_nsec;
 }
 
-noreturn void wake(const struct loom *lent, uint64_t number, uint64_t wait)
+noreturn void recover(const struct loom *lent, uint64_t number, uint64_t wait)
 {
     turn_on(lent, number);
     loom.journal->moment = now() + wait;
@@ -304,10 +304,10 @@ noreturn void wake(const struct loom *lent, uint64_t number, uint64_t wait)
     while (now() < loom.journal->moment)
         ;
     power_up();
-    _exit(WOKEN);
+    _exit(RECOVERED);
 }
 
-noreturn void weave(const struct loom *lent, uint64_t number, const uint64_t *lines)
+noreturn void run_until_killed(const struct loom *lent, uint64_t number, const uint64_t *lines)
 {
     turn_on(lent, number);
     memcpy(committed, lines, loom.shape->lines * sizeof *lines);
@@ -320,7 +320,7 @@ noreturn void weave(const struct loom *lent, uint64_t number, const uint64_t *li
     power_up();
     uint64_t first = registers[PICL_EPOCH];
     while (registers[PICL_EPOCH] < first + JOURNAL_EPOCHS)
-        weave_epoch();
+        run_epoch();
     for (;;)
         pause();
 }

@@ -3,10 +3,11 @@
  *
  *     cuts [SEED]
  *
- * A controller works in a process of its own on a board in shared memory; work memory and registers are the process's own and
- * go with it. It is killed by SIGKILL at a random moment, in one of the library's calls or between two. Then another process
- * wakes the board. Most of these are killed too, about the time of their power-up, until one gets to its end. After each wake
- * every line must be what a machine without a cache has of the persisted epoch P, and P must be what the controllers were told.
+ * A controller works in a process of its own on a board in shared memory; work memory and registers are the process's
+ * own and go with it. It is killed by SIGKILL at a random moment, in one of the library's calls or between two. Then
+ * another process recovers the board. Most of these are killed too, about the time of their power-up, until one gets to
+ * its end. After each recovery every line must be what a machine without a cache has of the persisted epoch P, and P
+ * must be what the controllers were told.
  *
  * Nothing stands in for the cut here, no allowance and no simulated switch. A kill comes between any two machine instructions.
  * What the process has stored before is in memory, and what it would have stored later is not. So the machine code, as it is
@@ -37,10 +38,10 @@
 
 enum {
     KILLS_A_BOARD = 1500,
-    ALONE = 4, /* one waker of so many is not killed */
+    ALONE = 4, /* one recovery process of so many is not killed */
 
     /* Nanoseconds. */
-    WAKERS_WAIT = 120000,
+    RECOVERY_WAIT = 120000,
     LEAD_STEP = 4000,
     LEAD_SPREAD = 16000,
 
@@ -76,8 +77,8 @@ static uint64_t persisted;
 /* The lines as the killed controller has left them. */
 static uint64_t left_lines[PICL_MOST_LINES];
 
-/* How long before its power-up a waker is killed. Each kill that comes too early or too late moves it: what a sleep and a kill
- * take differs from machine to machine. */
+/* How long before its power-up a recovery process is killed. Each kill that comes too early or too late moves it: what
+ * a sleep and a kill take differs from machine to machine. */
 static uint64_t lead;
 
 /* Says what is wrong, in the words of printf, and ends. */
@@ -131,7 +132,7 @@ static bool was_killed(pid_t process)
         fail("%s", loom.journal->fault);
     if (WIFSIGNALED(status) && WTERMSIG(status) == SIGALRM)
         fail("a process came to no end");
-    if (!is_killed && !(WIFEXITED(status) && WEXITSTATUS(status) == WOKEN))
+    if (!is_killed && !(WIFEXITED(status) && WEXITSTATUS(status) == RECOVERED))
         fail("a process crashed");
     return is_killed;
 }
@@ -159,7 +160,7 @@ static void kill_controller(uint32_t longest_life)
     loom.journal->call = NO_CALL;
     pid_t process = begin_process();
     if (process == 0)
-        weave(&loom, life, persisted_lines);
+        run_until_killed(&loom, life, persisted_lines);
     sleep_for(draw_below(&chance, longest_life));
     kill(process, SIGKILL);
     if (!was_killed(process))
@@ -167,22 +168,22 @@ static void kill_controller(uint32_t longest_life)
     count_kill(loom.journal);
 }
 
-/* Whether a waker that somebody wants to kill got to its end all the same. */
-static bool is_woken_before_kill(void)
+/* Whether a recovery process that is to be killed got to its end all the same. */
+static bool is_recovered_before_kill(void)
 {
     pid_t process = begin_process();
     if (process == 0)
-        wake(&loom, life, WAKERS_WAIT);
+        recover(&loom, life, RECOVERY_WAIT);
     uint64_t end = loom.journal->moment - lead + draw_below(&chance, LEAD_SPREAD);
     uint64_t here = now();
     if (end > here)
         sleep_for(end - here);
     kill(process, SIGKILL);
     if (!was_killed(process)) {
-        lead += lead < WAKERS_WAIT ? LEAD_STEP : 0;
+        lead += lead < RECOVERY_WAIT ? LEAD_STEP : 0;
         return true;
     }
-    seen.wakers++;
+    seen.recoveries_killed++;
     if (loom.journal->call != POWER_UP) {
         lead -= lead > 0 ? LEAD_STEP : 0;
         return false;
@@ -193,24 +194,24 @@ static bool is_woken_before_kill(void)
     return false;
 }
 
-static bool is_woken(void)
+static bool is_recovered(void)
 {
     loom.journal->call = NO_CALL;
     if (draw_below(&chance, ALONE) != 0)
-        return is_woken_before_kill();
+        return is_recovered_before_kill();
     pid_t process = begin_process();
     if (process == 0)
-        wake(&loom, life, 0);
+        recover(&loom, life, 0);
     return !was_killed(process);
 }
 
-static void wake_board(void)
+static void recover_board(void)
 {
     memcpy(left_lines, lines_of(&loom), loom.shape->lines * sizeof *left_lines);
     seen.with_entries += PICL_LOG_LENGTH(loom.board) != 0;
-    while (!is_woken())
+    while (!is_recovered())
         ;
-    seen.wakes++;
+    seen.recoveries++;
     seen.with_lines += !are_lines(left_lines);
 }
 
@@ -236,7 +237,7 @@ static void check_board(void)
     struct journal *journal = loom.journal;
     uint64_t epoch = PICL_PERSISTED(loom.board);
     if (PICL_LOG_LENGTH(loom.board) != 0)
-        fail("a woken board has entries in its log");
+        fail("a recovered board has entries in its log");
     check_epoch(journal, epoch);
     seen.epochs += epoch - persisted;
     while (persisted < epoch) {
@@ -301,7 +302,7 @@ int main(int words, char **word)
         for (int kills = 0; kills < KILLS_A_BOARD; kills++) {
             life++;
             kill_controller(boards[i].longest_life);
-            wake_board();
+            recover_board();
             check_board();
         }
     }

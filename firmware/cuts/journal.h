@@ -15,13 +15,13 @@
 enum call { NO_CALL, POWER_UP, LOAD, STORE, EVICT, COMMIT, BEGIN, SCAN, CALLS };
 
 enum {
-    JOURNAL_EPOCHS = 4096, /* so many epochs may be begun between two wakes */
+    JOURNAL_EPOCHS = 4096, /* so many epochs may be begun between two recoveries */
     FAULT_BYTES = 256
 };
 
 struct journal {
     volatile uint64_t has_failed;                 /* the process has found a fault, and said below which */
-    volatile uint64_t moment;                     /* at which a waker powers up */
+    volatile uint64_t moment;                     /* at which a recovery process powers up */
     volatile uint64_t call;                       /* the library's call under way */
     volatile uint64_t told;                       /* the persisted epoch, as the last call said that persisted one */
     volatile uint64_t due;                        /* what the last call of a pass, made or under way, persists */

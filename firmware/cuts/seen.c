@@ -13,9 +13,9 @@ void print_seen(const struct seen *seen, const struct journal *journal)
            "; in mid-flush %" PRIu64 ", between control word and the call's end %" PRIu64 "\n",
            killed, seen->in[LOAD], seen->in[STORE], seen->in[EVICT], seen->in[SCAN], seen->in[POWER_UP],
            seen->in[COMMIT] + seen->in[BEGIN], seen->in[NO_CALL], seen->in_flush, seen->behind_control);
-    printf("firmware/cuts: %" PRIu64 " wakers killed: in power-up %" PRIu64 ", with some lines restored %" PRIu64 "; %" PRIu64
-           " wakes: with entries in the log %" PRIu64 ", with lines to restore %" PRIu64 "\n",
-           seen->wakers, seen->in_power_up, seen->in_undo, seen->wakes, seen->with_entries, seen->with_lines);
+    printf("firmware/cuts: %" PRIu64 " restarts killed: in power-up %" PRIu64 ", with some lines restored %" PRIu64 "; %" PRIu64
+           " restarts ended: with entries in the log %" PRIu64 ", with lines to restore %" PRIu64 "\n",
+           seen->recoveries_killed, seen->in_power_up, seen->in_undo, seen->recoveries, seen->with_entries, seen->with_lines);
     printf("firmware/cuts: %" PRIu64 " epochs persisted; stores refused for room %" PRIu64 ", commits refused %" PRIu64
            ", epochs given up %" PRIu64 ", passes begun for several %" PRIu64 "\n",
            seen->epochs, journal->stores_refused, journal->commits_refused, journal->epochs_given_up, journal->passes_begun);
@@ -35,9 +35,9 @@ bool is_enough(const struct seen *seen, const struct journal *journal)
         {"controllers killed in scan", seen->in[SCAN], 30},
         {"controllers killed in mid-flush", seen->in_flush, 5},
         {"controllers killed between control word and the call's end", seen->behind_control, 30},
-        {"wakers killed in power-up", seen->in_power_up, 30},
-        {"wakers killed with some lines restored", seen->in_undo, 10},
-        {"wakes with lines to restore", seen->with_lines, 1000},
+        {"restarts killed in power-up", seen->in_power_up, 30},
+        {"restarts killed with some lines restored", seen->in_undo, 10},
+        {"restarts with lines to restore", seen->with_lines, 1000},
         {"epochs persisted", seen->epochs, 1000},
         {"stores refused for room", journal->stores_refused, 10},
         {"commits refused", journal->commits_refused, 1},

@@ -13,13 +13,13 @@ struct seen {
     uint64_t in_flush;       /* of these: entries stand behind the log that its length does not count yet */
     uint64_t behind_control; /* of these: the call had stored the control word, and had not ended */
 
-    /* Wakers that were killed. */
-    uint64_t wakers;
+    /* Recovery processes that were killed. */
+    uint64_t recoveries_killed;
     uint64_t in_power_up; /* of these */
     uint64_t in_undo;     /* of these: some lines had been restored, and the log still had its entries */
 
-    /* Wakes: each was checked. */
-    uint64_t wakes;
+    /* Recoveries that came to their end: each was checked. */
+    uint64_t recoveries;
     uint64_t with_entries; /* of these: the log had entries */
     uint64_t with_lines;   /* of these: lines had to be restored */
     uint64_t epochs;       /* persisted */
@@ -27,7 +27,7 @@ struct seen {
 
 void print_seen(const struct seen *seen, const struct journal *journal);
 
-/* Whether each kind of kill and wake was seen often enough. If not, it says on standard error which was not. */
+/* Whether each kind of kill and recovery was seen often enough. If not, it says on standard error which was not. */
 bool is_enough(const struct seen *seen, const struct journal *journal);
 
 #endif

@@ -97,10 +97,10 @@ const fn row(name: &'static str, about: &'static str, only: Option<Kind>, build:
     }
 }
 
-pub static ROWS: [Row; 23] = [
+pub static ROWS: [Row; 25] = [
     row(
         "loom-64",
-        "a loom's epoch, S = 64: 2,600 stores, 2,600 loads, 65 scans, 1 commit",
+        "a loom's epoch, scattered, S = 64: 2,600 stores, 2,600 loads, 65 scans, 1 commit",
         None,
         || traces::loom(64),
     ),
@@ -111,7 +111,7 @@ pub static ROWS: [Row; 23] = [
     row("loom-64-scan", "the scans of it", Some(Kind::Scan), || traces::loom(64)),
     row(
         "loom-256",
-        "a loom's epoch, S = 256: 2,600 stores, 2,600 loads, 257 scans, 1 commit",
+        "a loom's epoch, scattered, S = 256: 2,600 stores, 2,600 loads, 257 scans, 1 commit",
         None,
         || traces::loom(256),
     ),
@@ -124,6 +124,18 @@ pub static ROWS: [Row; 23] = [
     row("loom-256-scan", "the scans of it", Some(Kind::Scan), || {
         traces::loom(256)
     }),
+    row(
+        "loom-64-picks",
+        "a loom's epoch by picks, S = 64: 2,600 stores, 2,600 loads, 65 scans, 1 commit",
+        None,
+        || traces::loom_by_picks(64),
+    ),
+    row(
+        "loom-256-picks",
+        "a loom's epoch by picks, S = 256: 2,600 stores, 2,600 loads, 257 scans, 1 commit",
+        None,
+        || traces::loom_by_picks(256),
+    ),
     row(
         "conflict",
         "stores to 16 lines of one set that is dirty: each empties its first slot and flushes",

@@ -63,6 +63,10 @@ pub fn loom(slots: usize) -> (Start, Vec<Call>) {
     epoch_in_midst(Order::Scattered, slots, Call::load)
 }
 
+pub fn loom_by_picks(slots: usize) -> (Start, Vec<Call>) {
+    epoch_in_midst(Order::ByPicks, slots, Call::load)
+}
+
 pub fn loom_with_evictions(slots: usize) -> (Start, Vec<Call>) {
     epoch_in_midst(Order::Scattered, slots, Call::evict)
 }

@@ -183,7 +183,7 @@ pub fn others_with(bit: FilterBit, address: u64, lines: u64) -> Vec<u64> {
 }
 
 /// Lends a board and a work memory of any words, formats the board and powers up. From then on the count of dirty slots is true.
-pub fn wake(player: &mut Player, sizes: Sizes) -> Outcome {
+pub fn start(player: &mut Player, sizes: Sizes) -> Outcome {
     player.state.board = player.random.words(sizes.board_words());
     player.state.work = player.random.words(sizes.work_words());
     player.make(sizes.format())?;
@@ -192,13 +192,13 @@ pub fn wake(player: &mut Player, sizes: Sizes) -> Outcome {
 }
 
 /// The same with sizes that are small mostly, and the habit of what follows.
-pub fn wake_mostly_small(player: &mut Player) -> Result<Habit, Box<Difference>> {
+pub fn start_mostly_small(player: &mut Player) -> Result<Habit, Box<Difference>> {
     let sizes = if player.random.one_in(4) {
         Sizes::draw(&mut player.random)
     } else {
         Sizes::draw_small(&mut player.random)
     };
-    wake(player, sizes)?;
+    start(player, sizes)?;
     Ok(Habit::draw(&mut player.random, sizes))
 }
 

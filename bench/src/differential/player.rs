@@ -16,7 +16,8 @@ pub struct Player {
     pub state: Lent,
     /// What the last call of the history answered.
     pub last_number: u64,
-    /// Since its board was formatted and woken, the history has damaged nothing: the registers have to count the dirty slots.
+    /// Since its board was formatted and powered up, the history has damaged nothing: the registers have to count the
+    /// dirty slots.
     pub is_undamaged: bool,
     pub occurrences: Occurrences,
     calls_in_history: u64,

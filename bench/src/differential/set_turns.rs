@@ -251,20 +251,20 @@ impl Seen {
         self.number == OK && !self.is_held && self.is_placed
     }
 
-    fn taken(&self) -> SlotWord {
+    fn victim(&self) -> SlotWord {
         self.words[self.way]
     }
 
     fn takes_empty(&self) -> bool {
-        self.takes() && is_empty(self.taken())
+        self.takes() && is_empty(self.victim())
     }
 
     fn takes_clean(&self) -> bool {
-        self.takes() && is_clean(self.taken())
+        self.takes() && is_clean(self.victim())
     }
 
     fn takes_dirty(&self) -> bool {
-        self.takes() && self.taken().is_dirty()
+        self.takes() && self.victim().is_dirty()
     }
 
     /// The dirty slot of this number, which alone has the smallest tag.
@@ -273,7 +273,7 @@ impl Seen {
     }
 
     fn slots_with_its_tag(&self) -> usize {
-        let tag = self.taken().tag();
+        let tag = self.victim().tag();
         self.words.iter().filter(|word| word.tag() == tag).count()
     }
 

@@ -61,7 +61,7 @@ pub fn way_for(set: &Set, number: usize, sets: Sets, test: &SlotTest, address: u
     Some(match position(lines, address) {
         Some(number) => Way { number, is_held: true },
         None => Way {
-            number: way_to_take(set),
+            number: victim_of(set),
             is_held: false,
         },
     })
@@ -97,10 +97,11 @@ fn tested_lines(set: &Set, number: usize, sets: Sets, test: &SlotTest) -> Option
     Some(lines)
 }
 
-/// The slot that a line takes which is not held: the first empty one, else the first clean one, else the dirty one with the
-/// smallest tag, the first of equals. Just so do the words rise without their addresses, and then by their place.
+/// The victim, which is the slot that an incoming line takes: the first empty one, else the first clean one, else the
+/// dirty one with the smallest tag, the first of equals. Just so do the words rise without their addresses, and then by
+/// their place.
 #[inline(always)]
-fn way_to_take(set: &Set) -> usize {
+fn victim_of(set: &Set) -> usize {
     let [a, b, c, d] = set.map(|[word, _]| SlotWord(word).besides_address());
     let first_of_least = a.min(b | 1).min(c | 2).min(d | 3);
     first_of_least as usize % WAYS

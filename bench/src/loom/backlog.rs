@@ -20,7 +20,8 @@ pub struct Costs {
     pub in_one_pass: Cost,
 }
 
-/// Persists the epochs that wait both ways. An error is a call that is refused, or two boards that wake with other lines or epochs.
+/// Persists the epochs that wait both ways. An error is a call that is refused, or two boards that restart with other
+/// lines or epochs.
 pub fn persist_both_ways(plan: Plan) -> Result<Costs, String> {
     let waiting = with_backlog(plan)?;
     let newest = waiting.registers().epoch - 1;
@@ -82,7 +83,7 @@ pub fn scan_to_the_end(controller: &mut Controller, slots: usize) -> Result<u64,
     Err(format!("{} scan calls have persisted nothing", slots + 1))
 }
 
-/// Both have to have persisted the newest epoch that waited, and to wake with the same lines.
+/// Both have to have persisted the newest epoch that waited, and to restart with the same lines.
 fn hold_to_each_other(mut one: Controller, mut other: Controller, newest: u64) -> Result<(), String> {
     for controller in [&mut one, &mut other] {
         controller.make(Call::POWER_UP)?;

@@ -71,7 +71,7 @@ impl Program {
 
     /// Format and power-up: the line is power-up's, or format's where that refuses. A refusal is the end.
     fn start(&mut self, sizes: Sizes) -> Then {
-        let (loom, answer) = Loom::wake(sizes);
+        let (loom, answer) = Loom::start(sizes);
         self.output += &output_line('n', answer, &loom);
         self.loom = Some(loom);
         match answer.number {

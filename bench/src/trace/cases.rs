@@ -99,10 +99,10 @@ const OTHER_SIZES: [([u64; 3], &str); 29] = [
     ([0, 8, 0], LISTING),
     ([4, 0, 0], LISTING),
     ([4, 0, 6], LISTING),
-    // Sizes outside the replay's are refused before the wake.
+    // Sizes outside the replay's are refused before power-up.
     ([2_049, 8, 0], LISTING),
     ([4, 1_025, 6], LISTING),
-    // The board is woken before the first record is read.
+    // The board is powered up before the first record is read.
     ([4, 8, 0], FIRST_RECORD_BROKEN),
     ([4, 8, 6], FIRST_RECORD_BROKEN),
 ];
@@ -111,7 +111,7 @@ const OTHER_SIZES: [([u64; 3], &str); 29] = [
 const ABSENT: &str = "absent.trace";
 const FOLDER: &str = ".";
 
-/// The board is woken before the file is opened.
+/// The board is powered up before the file is opened.
 const NOT_OPENED: [([u64; 3], &str); 6] = [
     ([4, 8, 4], ABSENT),
     ([4, 8, 0], ABSENT),

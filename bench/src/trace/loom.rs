@@ -83,7 +83,7 @@ fn change_of_picks(lines: &[u64], done: usize) -> impl Iterator<Item = Call> + '
 
 /// Makes the calls. Any refusal but that of a scan when no epoch waits is a fault of the work.
 fn outcome_of(calls: &[Call]) -> Result<Outcome, String> {
-    let mut run = Run::start(SIZES).map_err(|outcome| format!("the board does not wake: {outcome}"))?;
+    let mut run = Run::start(SIZES).map_err(|outcome| format!("the board does not start: {outcome}"))?;
     for &call in calls {
         run.make(call);
     }

@@ -1,4 +1,4 @@
-//! The run of a trace on a fresh woken board, as the paper has it, over the hand-written calls.
+//! The run of a trace on a new board after its power-up, as the paper has it, over the hand-written calls.
 
 use super::file::calls_of;
 use crate::call::{Call, Kind};
@@ -61,7 +61,7 @@ pub struct Run {
 }
 
 impl Run {
-    /// Wakes a board. An error is the outcome where it does not wake.
+    /// Formats a board and powers it up. An error is the outcome where that is refused.
     pub fn start(sizes: Sizes) -> Result<Self, Outcome> {
         let refused = |number| Outcome {
             number,
@@ -70,7 +70,7 @@ impl Run {
         if !sizes.fit_the_replay() {
             return Err(refused(SHAPE));
         }
-        let (loom, answer) = Loom::wake(sizes);
+        let (loom, answer) = Loom::start(sizes);
         match answer.number {
             OK => Ok(Run {
                 loom,

@@ -140,7 +140,7 @@ fn each_size_of_a_board_counts() {
 }
 
 #[test]
-fn the_wake_comes_before_the_file() {
+fn power_up_comes_before_the_file() {
     for sizes in ["4 8 0 ", "4 8 6 "] {
         assert_eq!(
             table(sizes),

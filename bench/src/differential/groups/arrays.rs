@@ -1,6 +1,6 @@
 //! Arrays for registers and answer that are too short, or longer than they must be.
 
-use crate::differential::habit::{next_call, wake, Habit};
+use crate::differential::habit::{next_call, start, Habit};
 use crate::differential::player::{Outcome, Player};
 use crate::interface::{ANSWER_WORDS, REGISTER_WORDS};
 use crate::random::Random;
@@ -10,7 +10,7 @@ const MOST_WORDS: usize = REGISTER_WORDS + 2;
 
 pub fn history(player: &mut Player) -> Outcome {
     let sizes = Sizes::draw_small(&mut player.random);
-    wake(player, sizes)?;
+    start(player, sizes)?;
     let habit = Habit::draw(&mut player.random, sizes);
     for _ in 0..200 {
         let call = next_call(player, &habit);

@@ -1,11 +1,11 @@
 //! Histories that are damaged again and again: a few calls on the damaged state, then on from the state before.
 
 use crate::differential::damage::damage;
-use crate::differential::habit::{go_on, next_call, wake_mostly_small};
+use crate::differential::habit::{go_on, next_call, start_mostly_small};
 use crate::differential::player::{Outcome, Player};
 
 pub fn history(player: &mut Player) -> Outcome {
-    let habit = wake_mostly_small(player)?;
+    let habit = start_mostly_small(player)?;
     for _ in 0..player.random.between(10, 80) {
         let calls = player.random.below(12);
         go_on(player, &habit, calls)?;

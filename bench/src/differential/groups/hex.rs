@@ -3,7 +3,7 @@
 
 use crate::differential::asked::Asked;
 use crate::differential::damage::damage;
-use crate::differential::habit::{go_on, wake_mostly_small};
+use crate::differential::habit::{go_on, start_mostly_small};
 use crate::differential::player::{Outcome, Player};
 use crate::differential::sides::Lent;
 use crate::handwritten::hex::{end_record, BANK_LINES, BANK_RECORDS, TEXT_BYTES};
@@ -38,9 +38,9 @@ pub fn history(player: &mut Player) -> Outcome {
     }
 }
 
-/// A board that is woken and worked on; now and then it is damaged for some exports.
+/// A running board that is worked on; now and then it is damaged for some exports.
 fn running(player: &mut Player) -> Outcome {
-    let habit = wake_mostly_small(player)?;
+    let habit = start_mostly_small(player)?;
     for _ in 0..player.random.between(5, 40) {
         let calls = player.random.below(12);
         go_on(player, &habit, calls)?;

@@ -2,7 +2,7 @@
 
 use super::log_edges::scan_at_the_end;
 use crate::call::{Call, NO_CUT};
-use crate::differential::habit::{go_on, wake, Habit};
+use crate::differential::habit::{go_on, start, Habit};
 use crate::differential::player::{Outcome, Player};
 use crate::handwritten::layout::{Control, Range, MOST_AHEAD, MOST_ENTRIES, MOST_LINES, MOST_SLOTS};
 use crate::sizes::Sizes;
@@ -20,7 +20,7 @@ pub fn history(player: &mut Player) -> Outcome {
     ]);
     let slots = player.random.pick(&[4, MOST_SLOTS as u64 - 4, MOST_SLOTS as u64]);
     let sizes = Sizes { lines, entries, slots };
-    wake(player, sizes)?;
+    start(player, sizes)?;
     let habit = Habit::draw(&mut player.random, sizes);
     go_on(player, &habit, 100)?;
     fill_log(player, sizes);

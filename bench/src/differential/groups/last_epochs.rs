@@ -1,14 +1,14 @@
 //! Histories whose epochs come to their end.
 
 use crate::call::{Call, NO_CUT};
-use crate::differential::habit::{go_on, wake, Habit};
+use crate::differential::habit::{go_on, start, Habit};
 use crate::differential::player::{Outcome, Player};
 use crate::handwritten::layout::{Control, LAST_EPOCH};
 use crate::sizes::Sizes;
 
 pub fn history(player: &mut Player) -> Outcome {
     let sizes = Sizes::draw_small(&mut player.random);
-    wake(player, sizes)?;
+    start(player, sizes)?;
     let control = Control {
         persisted: LAST_EPOCH - player.random.below(22),
         start: player.random.below(sizes.entries) as usize,

@@ -5,7 +5,7 @@ use super::count::{lend_proper, make_a_slot_improper};
 use super::play_states;
 use crate::call::{Call, NO_CUT};
 use crate::differential::damage::damage_count;
-use crate::differential::habit::{wake, Habit};
+use crate::differential::habit::{start, Habit};
 use crate::differential::passes::{damage_pass, draw_epoch_about_pass, draw_target};
 use crate::differential::player::{Outcome, Player};
 use crate::differential::sides::Lent;
@@ -96,7 +96,7 @@ fn draw_call(random: &mut Random, sizes: Sizes, state: &Lent) -> Call {
 /// A board whose epochs wait until a pass is begun for some of them, again and again.
 fn whole_passes(player: &mut Player) -> Outcome {
     let sizes = draw_sizes(&mut player.random);
-    wake(player, sizes)?;
+    start(player, sizes)?;
     for _ in 0..3 {
         let epochs = player.random.between(2, MOST_AHEAD);
         for _ in 0..epochs {
@@ -137,8 +137,8 @@ fn scan_to_the_end(player: &mut Player, sizes: Sizes) -> Outcome {
     }
 }
 
-/// Makes the scan call that is next under the allowances 0, 1, 2 and so on, as long as it is cut, and wakes the board after some
-/// of them; each from the same state, which is there again in the end.
+/// Makes the scan call that is next under the allowances 0, 1, 2 and so on, as long as it is cut, and powers the board
+/// up after some of them; each from the same state, which is there again in the end.
 fn cut_at_every_store(player: &mut Player) -> Outcome {
     let uncut = player.state.clone();
     for allowance in 0.. {

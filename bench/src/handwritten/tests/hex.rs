@@ -17,7 +17,7 @@ const END: &str = ":00000001FF\n";
 const UP: u64 = 0x0123_4567_89AB_CDEF;
 const DOWN: u64 = 0xFEDC_BA98_7654_3210;
 
-/// A woken board with these lines.
+/// A board with these lines, powered up.
 fn board_with(lines: &[u64]) -> Vec<u64> {
     let mut loom = Loom::new(lines.len() as u64, 5, 4);
     let first = loom.sizes.shape().line_place(0);

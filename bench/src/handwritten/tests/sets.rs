@@ -191,8 +191,8 @@ fn two_lines_of_one_slot_once_are_both_held() {
 }
 
 #[test]
-fn five_lines_of_a_set_fight_for_its_first_slot() {
-    // All dirty in the running epoch: lines 1, 2 and 3 stay, the newcomers take slot 0 from each other.
+fn five_lines_of_a_set_compete_for_its_first_slot() {
+    // All dirty in the running epoch: lines 1, 2 and 3 stay, incoming lines take slot 0 from each other.
     let mut loom = Loom::new(64, 64, 4);
     for address in 0..4 {
         assert_eq!(loom.store(address, 7), answer(0, 0, 0));
@@ -208,7 +208,7 @@ fn five_lines_of_a_set_fight_for_its_first_slot() {
 }
 
 #[test]
-fn the_slot_that_is_taken_is_written_out_with_its_entry() {
+fn the_victim_is_written_out_with_its_entry() {
     // Lines 0 to 3 of epoch 1, of which all but line 1 are stored to in epoch 2 again: 7 entries are buffered, one of them
     // for line 1, whose tag is the smallest.
     let mut loom = Loom::new(64, 8, 4);
@@ -250,7 +250,7 @@ fn a_scan_goes_over_the_slots_one_by_one() {
 }
 
 #[test]
-fn after_four_stores_the_scan_makes_room_for_newcomers() {
+fn after_four_stores_the_scan_makes_room_for_incoming_lines() {
     // Clean lines are taken before dirty ones: once line 2 is clean, line 4 takes its slot and costs nothing.
     let mut loom = Loom::new(64, 64, 4);
     for address in 0..4 {
