@@ -2,7 +2,6 @@
 mod filter;
 mod recovery;
 
-ghost use Rattle.undo.specs.Recovery.{properAt, firstImproper};
 ghost use Prim.Native.Nat.{_+_, _-_, _*_, _^_, _<_, _≤_};
 ghost use lib.Dec.{leb};
 ghost use lib.ListN.{length};
@@ -15,6 +14,7 @@ ghost use Rattle.layout.specs.Limits.{epochBits, mostLines, mostEntries, buffer
 ghost use Rattle.layout.specs.Memory.{logAt, linesAt, bufferWords, entryWords};
 ghost use Rattle.layout.specs.Words.{decodeEntry};
 ghost use Rattle.undo.specs.Entries.{rangeOf};
+ghost use Rattle.undo.specs.Recovery.{properAt, firstImproper};
 ghost use Rattle.undo.specs.Log.{logIn, Sound, Placed, bufferProper, bufferMarked};
 ghost use Rattle.undo.specs.Log.{DroppedBy, KeptBy, entryStores, counted, flushed, advanceStores};
 ghost use Rattle.undo.specs.Ring.{nextPlace};
