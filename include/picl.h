@@ -8,7 +8,7 @@
  * It has no state of its own and allocates nothing: the caller lends it all memory, for the time of a call. Every
  * function answers every input: whatever words the memories hold, whatever the registers and arguments are, the answer
  * and all lent memory afterwards are fixed by what went in, and proved to be what the definitions in
- * crates/picl/specs/Calls.antt, crates/hex/specs/Export.antt and crates/capi/specs/Crossing.antt give.
+ * crates/picl/specs/Calls.antt, crates/hex/specs/Export.antt, crates/convert/specs and crates/capi/specs/Crossing.antt give.
  *
  * Most programs call it through picl_handle.h, where one struct holds all that is lent to a call. What is said here holds there.
  *
@@ -19,15 +19,16 @@
  *
  * THE BOARD MEMORY outlives the current. PICL_BOARD_WORDS(N, L) words of 64 bits, fields most significant bit first:
  *
- *     word 0                control   persisted epoch P 24 bits, log start 20, log length 20
- *     word 1                shape     zero 24, N 20, L 20
- *     word 2 to 1 + 2L      log       L entries of two words: address 16, ValidFrom 24, ValidTill 24; then the old data
+ *     word 0                control   persisted epoch P 40 bits, log start 12, log length 12
+ *     word 1                shape     the board's version 24, which is 1; N 20, L 20
+ *     word 2 to 1 + 2L      log       L entries of two words: address 16, ValidTill 40, span 8; then the old data
  *     word 2 + 2L on        lines     N lines of one word
  *
- * N is the number of lines and L the number of log entries, each from 1 to 65,536. The log is a ring: entry i, 0 the
- * oldest, stands at place (start + i) mod L. An entry of the log is proper if its address is below N, ValidFrom < ValidTill,
- * P < ValidTill <= P + 16, and ValidTill is not below that of the next older entry. The library writes no other; power-up
- * refuses a log that has one (PICL_ENTRY), since the board's memory is then damaged.
+ * N is the number of lines, from 1 to 65,536, and L the number of log entries, from 1 to 4,095. Epochs go up to 2^40 - 1. The
+ * log is a ring: entry i, 0 the oldest, stands at place (start + i) mod L. The span is ValidTill - ValidFrom, so that ValidFrom
+ * is ValidTill - span. An entry of the log is proper if its address is below N, its span is from 1 to 16 and not above its
+ * ValidTill, P < ValidTill <= P + 16, and ValidTill is not below that of the next older entry. The library writes no other;
+ * power-up refuses a log that has one (PICL_ENTRY), since the board's memory is then damaged.
  *
  * The processor addresses this memory directly: the library makes 64-bit loads and stores there, and calls nobody for it. FRAM,
  * MRAM or a RAM with a battery on the processor's bus will do. A chip behind a driver, on SPI or I2C, will not, nor flash, which
@@ -37,7 +38,7 @@
  * THE WORK MEMORY is lost with the current. PICL_WORK_WORDS(S) words; S, a multiple of 4 from 4 to 256, is read from its
  * length:
  *
- *     word 0 to 2S - 1      slots     S slots of two words: valid 1, dirty 1, address 16, tag 24, zero 22; then the data
+ *     word 0 to 2S - 1      slots     S slots of two words: valid 1, dirty 1, address 16, tag 40, zero 6; then the data
  *     word 2S to 2S + 63    buffer    32 undo entries of two words, packed as in the log
  *     word 2S + 64 on       filter    64 words, 4,096 bits; bit 0 is the most significant bit of the first word
  *
@@ -49,6 +50,9 @@
  * that is written out flushes the buffer first where b > 0 and both its bits are set: always where the buffer has an entry for
  * it, and now and then where the entries of other lines have set them (a false hit, which costs the stores of a flush and
  * nothing else). A flush clears the filter.
+ *
+ * A buffered entry is proper if its address is below N, its span is from 1 to 16 and not above its ValidTill, and ValidTill is not
+ * above s.
  *
  * THE REGISTERS are PICL_REGISTER_WORDS words, lost with the current too. Power-up fills them. Each later call that takes
  * them reads them, and leaves the new ones in their place; picl_tally only reads them:
@@ -67,12 +71,24 @@
  * THE ANSWER is PICL_ANSWER_WORDS words that each call fills, and the number that it returns:
  *
  *     word 0                value     what the call gives back, 0 where its description and its number name nothing
- *     word 1                stores    how many board stores the call has made; 0 from format, which does not count its own
+ *     word 1                stores    how many board stores the call has made; 0 from format and convert, which count none
  *
  * Registers and answer may be longer than that; the words behind are not touched. The two memories may not: a board that
  * is one word longer is refused (PICL_SHAPE), and a work memory that is eight words longer has four slots more, or is refused
  * (PICL_WORK) where S was 256. Format fixes N and L. Power-up fixes S: until the next power-up, each call gets a work memory of
  * the same length.
+ *
+ *
+ * AN OLD BOARD, of a library before version 9, has other layouts. picl_convert reads it; every other call answers PICL_SHAPE to it
+ * and leaves it alone, as the older library does to a board of this one:
+ *
+ *     word 0                control   persisted epoch P 24 bits, log start 20, log length 20
+ *     word 1                shape     zero 24, N 20, L 20: its version is 0
+ *     word 2 to 1 + 2L      log       L entries of two words: address 16, ValidFrom 24, ValidTill 24; then the old data
+ *     word 2 + 2L on        lines     N lines of one word
+ *
+ * N and L are from 1 to 65,536 each there. One whose L is above 4,095 cannot be converted; docs/INTEGRATION.md says what to do
+ * with it, and how a fleet is converted.
  *
  *
  * A RECORD is PICL_RECORD_BYTES bytes in which a controller notes a call, for the bench program loomtrace to make it again.
@@ -135,7 +151,8 @@
  *    all. Where a cache or a write buffer of the processor stands before the board's memory, map it write-through and in
  *    order (uncached, or as device memory).
  *  - A board is formatted once, when it is new. A cut in mid-format leaves a board that has to be formatted again, and that
- *    a power-up may accept all the same: the board is formatted once format has returned, and not before.
+ *    a power-up may accept all the same: the board is formatted once format has returned, and not before. So it is with a
+ *    memory that a conversion fills: after a cut convert again, from the old board, which is as it was.
  *
  *
  * WHAT TO DO AFTER A CUT, AND AFTER A REFUSAL AT WORK:
@@ -184,8 +201,8 @@ extern "C" {
  *              docs/changes/README.md says what a program does that was built before and is only linked anew
  *     minor    how many changes since have only added something: what was built with a smaller one needs nothing
  */
-#define PICL_VERSION_MAJOR 8
-#define PICL_VERSION_MINOR 1
+#define PICL_VERSION_MAJOR 9
+#define PICL_VERSION_MINOR 0
 #define PICL_VERSION (PICL_VERSION_MAJOR * 1000 + PICL_VERSION_MINOR)
 
 /* A number as one of a type; a constant stays one. C++ adds it to a zero of that type, which no compiler takes for a cast of C's,
@@ -207,13 +224,17 @@ extern "C" {
 
 /* Limits. */
 #define PICL_MOST_LINES 65536
-#define PICL_MOST_ENTRIES 65536
+#define PICL_MOST_ENTRIES 4095
 #define PICL_MOST_SLOTS 256
 #define PICL_WAYS 4
 #define PICL_BUFFER_ENTRIES 32
 #define PICL_FILTER_WORDS 64
 #define PICL_MOST_WAITING 15
-#define PICL_LAST_EPOCH 0xFFFFFF
+#define PICL_LAST_EPOCH UINT64_C(0xFFFFFFFFFF)
+
+/* The version that a board says in its shape word: of this library's boards, and of an old board (AN OLD BOARD). */
+#define PICL_BOARD_VERSION 1
+#define PICL_OLD_BOARD_VERSION 0
 
 /* Where control word, shape word and log stand on a board. */
 #define PICL_CONTROL_AT 0
@@ -248,15 +269,18 @@ extern "C" {
 #define PICL_VALUE 0
 #define PICL_STORES 1
 
-/* What the first two words of a formatted board say: the persisted epoch P, where the log starts and how many entries it has, and
- * N and L. */
-#define PICL_COUNT_BITS 20
-#define PICL_COUNT_MASK 0xFFFFF
-#define PICL_PERSISTED(board) ((board)[PICL_CONTROL_AT] >> 2 * PICL_COUNT_BITS)
-#define PICL_LOG_START(board) ((board)[PICL_CONTROL_AT] >> PICL_COUNT_BITS & PICL_COUNT_MASK)
-#define PICL_LOG_LENGTH(board) ((board)[PICL_CONTROL_AT] & PICL_COUNT_MASK)
-#define PICL_LINES(board) ((board)[PICL_SHAPE_AT] >> PICL_COUNT_BITS & PICL_COUNT_MASK)
-#define PICL_ENTRIES(board) ((board)[PICL_SHAPE_AT] & PICL_COUNT_MASK)
+/* What the first two words of a formatted board say: the persisted epoch P, where the log starts and how many entries it has; the
+ * board's version, which an old board has in the same place, N and L. */
+#define PICL_RING_BITS 12
+#define PICL_RING_MASK 0xFFF
+#define PICL_SIZE_BITS 20
+#define PICL_SIZE_MASK 0xFFFFF
+#define PICL_PERSISTED(board) ((board)[PICL_CONTROL_AT] >> 2 * PICL_RING_BITS)
+#define PICL_LOG_START(board) ((board)[PICL_CONTROL_AT] >> PICL_RING_BITS & PICL_RING_MASK)
+#define PICL_LOG_LENGTH(board) ((board)[PICL_CONTROL_AT] & PICL_RING_MASK)
+#define PICL_BOARD_VERSION_OF(board) ((board)[PICL_SHAPE_AT] >> 2 * PICL_SIZE_BITS)
+#define PICL_LINES(board) ((board)[PICL_SHAPE_AT] >> PICL_SIZE_BITS & PICL_SIZE_MASK)
+#define PICL_ENTRIES(board) ((board)[PICL_SHAPE_AT] & PICL_SIZE_MASK)
 
 /* The place of a line on a formatted board: its word is board[PICL_LINE_AT(board, line)]. Right after an accepted power-up that
  * is the line; at work newer data may be in the cache, and only picl_load gives the line. */
@@ -273,6 +297,7 @@ extern "C" {
  * order of tests, which is not everywhere that of the numbers:
  *
  *     format                1
+ *     convert               1 3
  *     power-up              1 2 3 12
  *     load, evict           1 2 4 5 6 4 7 14 12
  *     store                 1 2 4 5 6 4 7 14 8 12
@@ -290,13 +315,15 @@ extern "C" {
  */
 enum {
     PICL_OK = 0,
-    PICL_SHAPE = 1,      /* the board's first two words or its length are not those of a board; format: N, L or the length */
+    PICL_SHAPE = 1,      /* the board's first two words or its length are not those of a board; format: N, L or the length;
+                            convert: those of the old board, L above 4,095, or the second memory's length */
     PICL_WORK = 2,       /* the work memory's length is not PICL_WORK_WORDS(S), S a multiple of 4 from 4 to 256 */
-    PICL_ENTRY = 3,      /* power-up: a log entry is not proper (see THE BOARD MEMORY); value says which, the oldest counted 0 */
+    PICL_ENTRY = 3,      /* power-up, convert: a log entry is not proper (see THE BOARD MEMORY; for an old board picl_convert);
+                            value says which, the oldest counted 0 */
     PICL_REGS = 4,       /* the registers are not proper for this board and work memory, or d not for the slots visited */
     PICL_ADDRESS = 5,    /* there is no such line */
     PICL_SLOT = 6,       /* a slot that the call visits is not proper, or a line is held in two slots of the set */
-    PICL_BUFFER = 7,     /* a buffered undo entry is not proper */
+    PICL_BUFFER = 7,     /* a buffered undo entry is not proper (see THE WORK MEMORY) */
     PICL_ROOM = 8,       /* store: the log has no place for the undo entry that is due */
     PICL_WAITING = 9,    /* commit: 15 epochs wait to be persisted */
     PICL_LAST = 10,      /* commit: the running epoch is the last that there is */
@@ -321,17 +348,33 @@ enum {
 };
 
 /*
- * All but format, begin, tally, filter_bits, hex_out, trace_write and name take an allowance: the number of board stores that the
- * call may make. It stands in for the mains switch on a test bench; a controller passes PICL_NO_CUT. At a cut the first stores, as
- * many as allowed, are on the board, and the work memory and the registers are zero.
+ * All but format, convert, begin, tally, filter_bits, hex_out, trace_write and name take an allowance: the number of board stores
+ * that the call may make. It stands in for the mains switch on a test bench; a controller passes PICL_NO_CUT. At a cut the first
+ * stores, as many as allowed, are on the board, and the work memory and the registers are zero.
  *
- * No call but format and power-up makes more than 66 board stores; an accepted power-up makes one at least, and at most one more
- * than the log's length.
+ * No call but format, convert and power-up makes more than 66 board stores; an accepted power-up makes one at least, and at most
+ * one more than the log's length.
  */
 
 /* A board of N lines, all zero, with an empty log of L entries. It is not protected against a cut, and answers 0 stores. */
 uint64_t picl_format(uint64_t *PICL_RESTRICT board, size_t board_words, uint64_t lines, uint64_t entries,
                      uint64_t *PICL_RESTRICT answer, size_t answer_words);
+
+/* An old board, recovered, in a second memory: the board memory of this library gets its lines as of its persisted epoch P, the
+ * same P, N and L, and an empty log with start 0, all words of it zero. The old board is only read, so that it may be lent from a
+ * memory that cannot be written, and stays as it is. The second memory has PICL_BOARD_WORDS(N, L) words, with the N and L of the
+ * old board; what they held does not matter. The two do not overlap.
+ *
+ * PICL_SHAPE: the old board's first two words or its length are not those of an old board (version 0; N and L from 1 to 65,536;
+ * 2 + 2L + N words; P below 2^24 - 1; log start below L; log length not above L), or L is above PICL_MOST_ENTRIES, or the second
+ * memory has another length. PICL_ENTRY: an entry of the old log is not proper; value is its place, the oldest counted 0. It is
+ * proper if its address is below N, ValidFrom < ValidTill, P < ValidTill <= P + 16, and ValidTill is not below that of the next
+ * older entry. Otherwise value is 0. A refusal leaves the second memory as it was.
+ *
+ * It takes no allowance, answers 0 stores and is not protected against a cut: after one convert again. Power up the second memory
+ * before any other call. */
+uint64_t picl_convert(const uint64_t *PICL_RESTRICT old_board, size_t old_words, uint64_t *PICL_RESTRICT board, size_t board_words,
+                      uint64_t *PICL_RESTRICT answer, size_t answer_words);
 
 /* The board as of its persisted epoch P, an empty cache, and registers with running epoch P + 1. The epochs after P are
  * given up: those that wait, and the running one. A refusal leaves the registers zero.

@@ -117,6 +117,12 @@ static inline uint64_t picl_handle_format(struct picl_handle *handle)
     return picl_format(handle->board, handle->board_words, handle->lines, handle->entries, handle->answer, PICL_ANSWER_WORDS);
 }
 
+/* In the place of format, where the board is to have what an old board has: one of the handle's N and L, which is only read. */
+static inline uint64_t picl_handle_convert(struct picl_handle *handle, const uint64_t *old_board, size_t old_words)
+{
+    return picl_convert(old_board, old_words, handle->board, handle->board_words, handle->answer, PICL_ANSWER_WORDS);
+}
+
 static inline uint64_t picl_handle_power_up(struct picl_handle *handle)
 {
     return picl_power_up(handle->board, handle->board_words, handle->work, handle->work_words, handle->registers,

@@ -13,7 +13,7 @@
 
 #include "picl_handle.h"
 
-#if PICL_VERSION_MAJOR != 8 || PICL_VERSION < 8001
+#if PICL_VERSION_MAJOR != 9
 #error "the headers are of another version than this program"
 #endif
 
@@ -55,17 +55,30 @@ static void expect(const char *what, uint64_t given, uint64_t expected)
         fail(what, given);
 }
 
-enum { FORMAT, POWER_UP, LOAD, STORE, EVICT, COMMIT, BEGIN, SCAN, TALLY, FILTER_BITS, HEX_OUT, KINDS };
+/* A board in the layout before version 9, for conversions: its log is empty, and line i has the value i. One word less is refused. */
+#define OLD_WORDS PICL_BOARD_WORDS(LINES, LOG_ENTRIES)
+static uint64_t old_board[OLD_WORDS];
+
+static void make_old_board(void)
+{
+    enum { PERSISTED = 3 };
+    old_board[PICL_CONTROL_AT] = PICL_AS(uint64_t, PERSISTED) << 2 * PICL_SIZE_BITS; /* P 24, log start 20, log length 20 */
+    old_board[PICL_SHAPE_AT] = PICL_AS(uint64_t, LINES) << PICL_SIZE_BITS | LOG_ENTRIES;
+    for (uint64_t line = 0; line < LINES; line++)
+        old_board[PICL_LINE_AT(old_board, line)] = line;
+}
+
+enum { FORMAT, CONVERT, POWER_UP, LOAD, STORE, EVICT, COMMIT, BEGIN, SCAN, TALLY, FILTER_BITS, HEX_OUT, KINDS };
 
 /* How often a call of each kind comes: what a controller does most, most often. */
 enum { IN_ALL = 100 };
 static const struct {
     const char *name;
     uint32_t often;
-} kinds[KINDS] = {{"format", 1}, {"power-up", 1}, {"load", 5},  {"store", 20},      {"evict", 5},  {"commit", 9},
-                  {"begin", 6},  {"scan", 46},    {"tally", 2}, {"filter bits", 2}, {"hex out", 3}};
+} kinds[KINDS] = {{"format", 1}, {"convert", 1}, {"power-up", 1}, {"load", 5},  {"store", 20},      {"evict", 5},
+                  {"commit", 9}, {"begin", 6},   {"scan", 45},    {"tally", 2}, {"filter bits", 2}, {"hex out", 3}};
 
-/* Any call. Number is an address, a target or a record. */
+/* Any call. Number is an address, a target, a record, or how many words of the old board are lacking. */
 struct call {
     uint32_t kind;
     uint64_t number;
@@ -77,6 +90,8 @@ static uint64_t through_handle(struct call call)
     switch (call.kind) {
     case FORMAT:
         return picl_handle_format(&loom);
+    case CONVERT:
+        return picl_handle_convert(&loom, old_board, OLD_WORDS - call.number);
     case POWER_UP:
         return picl_handle_power_up(&loom);
     case LOAD:
@@ -105,6 +120,8 @@ static uint64_t plainly(struct call call, uint32_t allowance)
     switch (call.kind) {
     case FORMAT:
         return picl_format(PLAIN_BOARD, LINES, LOG_ENTRIES, PLAIN_ANSWER);
+    case CONVERT:
+        return picl_convert(old_board, OLD_WORDS - call.number, PLAIN_BOARD, PLAIN_ANSWER);
     case POWER_UP:
         return picl_power_up(PLAIN_BOARD, PLAIN_WORK, PLAIN_REGISTERS, allowance, PLAIN_ANSWER);
     case LOAD:
@@ -166,6 +183,8 @@ static struct call any_call(void)
         call.kind = POWER_UP;
     if (call.kind == BEGIN)
         call.number = PICL_PERSISTED(plain_board) + below(TARGETS);
+    if (call.kind == CONVERT)
+        call.number = below(2);
     return call;
 }
 
@@ -246,6 +265,7 @@ static void check_macros(void)
 {
     enum { FIRST = 12, SECOND = 5, VALUE = 7 };
     start();
+    expect("the board's version", PICL_BOARD_VERSION_OF(board), PICL_BOARD_VERSION);
     expect("N", PICL_LINES(board), LINES);
     expect("L", PICL_ENTRIES(board), LOG_ENTRIES);
     store_lines(0, FIRST, VALUE);
@@ -375,6 +395,7 @@ static void check_records(void)
 int main(void)
 {
     expect("the allowance of a new handle", loom.allowance, PICL_NO_CUT);
+    make_old_board();
     compare_calls();
     check_pass();
     check_macros();

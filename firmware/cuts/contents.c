@@ -48,7 +48,7 @@ struct stores stores_of(const struct shape *shape, uint64_t seed, uint64_t attem
     unsigned halvings = attempt & ((1u << HALVING_BITS) - 1);
     uint64_t number = attempt >> HALVING_BITS;
     stores.first_near = number / ATTEMPTS_IN_A_ROW * NEAR_LINES % (stores.lines - NEAR_LINES);
-    stores.left = (shape->fewest + draw_below(&stores.sequence, shape->span)) >> halvings;
+    stores.left = (shape->fewest + draw_below(&stores.sequence, shape->spread)) >> halvings;
     return stores;
 }
 

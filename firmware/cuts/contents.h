@@ -20,12 +20,12 @@ struct sequence sequence_of(uint64_t seed, uint64_t number);
 uint64_t draw(struct sequence *sequence);
 uint64_t draw_below(struct sequence *sequence, uint32_t bound);
 
-/* A board, and how many stores its epochs have: fewest, and by chance up to span more, before any halving. */
+/* A board, and how many stores its epochs have: fewest, and by chance up to spread more, before any halving. */
 struct shape {
     uint32_t lines;
     uint32_t entries;
     uint32_t fewest;
-    uint32_t span;
+    uint32_t spread;
 };
 
 /* An attempt as one word: its number, and how often the number of its stores is halved. */

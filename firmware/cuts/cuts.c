@@ -57,9 +57,9 @@ static const struct {
     struct shape shape;
     uint32_t longest_life;
 } boards[] = {
-    {{.lines = 64, .entries = 40, .fewest = 10, .span = 60}, 1000000},
-    {{.lines = 1001, .entries = 200, .fewest = 20, .span = 120}, 1000000},
-    {{.lines = 6000, .entries = 6000, .fewest = 200, .span = 400}, 2500000},
+    {{.lines = 64, .entries = 40, .fewest = 10, .spread = 60}, 1000000},
+    {{.lines = 1001, .entries = 200, .fewest = 20, .spread = 120}, 1000000},
+    {{.lines = 6000, .entries = PICL_MOST_ENTRIES, .fewest = 140, .spread = 260}, 2500000},
 };
 
 enum { BOARDS = sizeof boards / sizeof *boards };

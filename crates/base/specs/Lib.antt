@@ -6,3 +6,4 @@ pub mod Walk
 pub mod Parts
 pub mod Bits
 pub mod Listed
+pub mod Copied

@@ -7,6 +7,7 @@ use native.Mathlib.Nat.{zero-add, add-zero, suc-add, add-suc}
 use native.Mathlib.Omega.{arith}
 use lib.ListN.{length, getD, drop}
 use lib.Seq.{drop-at}
+use Rattle.base.specs.Cases.{here-or-there}
 use Rattle.base.specs.Every.{Every}
 
 unfoldable pub listed : {A : Type 0} → (ℕ → A) → (i n : ℕ) → List A
@@ -30,6 +31,13 @@ module _ {A : Type 0} where
   every-listed Q f i zero h = tt
   every-listed Q f i (suc n) h =
       (h i (omega arith) (omega arith), every-listed Q f (suc i) n (λ k lo hi. h k (omega arith) (omega arith)))
+
+  pub listed-every : (Q : A → Type 0) (f : ℕ → A) (i n : ℕ) → Every Q (listed f i n) → (k : ℕ) → i ≤ k → k < i + n → Q (f k)
+  unfolding listed
+  listed-every Q f i zero h k lo hi = absurd (omega arith)
+  listed-every Q f i (suc n) h k lo hi =
+      here-or-there i (λ k. i ≤ k → k < i + suc n → Q (f k)) (λ lo hi. h .0)
+      (λ k away lo hi. listed-every Q f (suc i) n (h .1) k (omega arith) (omega arith)) k lo hi
 
   listed-shift : (f : ℕ → A) (j i n : ℕ) → listed (λ k. f (j + k)) i n ≡ listed f (j + i) n
   unfolding listed

@@ -20,11 +20,12 @@ use Rattle.picl.specs.Answers.{Verdict, answerOf}
 use Rattle.picl.specs.Calls as call
 use Rattle.picl.specs.Calls.{verdictOf, noAllowance, judged, unstored, formatReport, formatAfter, reportOf, tallyReport}
 use Rattle.picl.specs.Contracts.{Answers, Formats}
+use Rattle.convert.specs.Convert.{Conversion, conversionReport, memoryAfter, Converts}
 use Rattle.hex.specs.Export.{exportReport, exportText, Exports}
 use Rattle.capi.specs.Places.{epochAt, bufferedAt, cursorAt, dirtyAt, registerWords, answerWords, hasAnswer, hasPlaces, readRegisters, writeRegisters}
 use Rattle.capi.specs.Contracts.{Gives, Reports}
 use Rattle.capi.specs.Crossing.{tooShort, back, crossing, callCrossing}
-use Rattle.capi.specs.Crossing.{reported, reporting}
+use Rattle.capi.specs.Crossing.{reported, reporting, conversionCrossing}
 
 -- each register has its place when those before it are written
 module _ (registers : List ℕ) (epoch : ℕ) (lent : registerWords ≤ length registers) where
@@ -105,6 +106,11 @@ module _ (answer answer′ : List ℕ) (t : Bool) (is : t ≡ hasAnswer answer) 
   hex-made board text text′ k x =
       reporting-made (exportReport board k text) text (exportText board k text) answer t is given text′ answer′ number lent
       (x .report) (x .text-left) gave
+
+  -- a board in today's layout
+  pub convert-made : (board board′ : List ℕ) (v : Conversion) → Converts board v board′ given → reported number board′ answer′ ≡ conversionCrossing v board answer
+  convert-made board board′ v x =
+      reporting-made (conversionReport v) board (memoryAfter board v) answer t is given board′ answer′ number lent (x .answer) (x .memory) gave
 
   -- the number of filter bits
   pub asked-made : (work : List ℕ) (told : Report) → given ≡ told → reported number work answer′ ≡ reporting told work work answer

@@ -13,6 +13,7 @@ use Rattle.picl.specs.declared.Report.{Report}
 use Rattle.picl.specs.Answers.{Verdict, answerOf}
 use Rattle.board.specs.Verdict.{boardAfter, workAfter}
 use Rattle.picl.specs.Calls.{Call, verdictOf}
+use Rattle.convert.specs.Convert.{Conversion, conversionReport, memoryAfter}
 use Rattle.records.specs.declared.Written.{Written}
 use Rattle.records.specs.Records.{recordBytes, written}
 use Rattle.capi.specs.Places.{hasAnswer, hasPlaces, hasRecordPlaces, readRegisters, writeRegisters, writeAnswer}
@@ -47,7 +48,8 @@ abbrev pub callCrossing : Call → (allowance : ℕ) → (board work registers a
 callCrossing c allowance board work registers answer =
     let r = readRegisters registers in crossing allowance r (verdictOf board work r c) board work registers answer
 
--- format, the status question and the export (in a text; the board cannot be written) leave one memory and no registers
+-- format, the status question, the export (in a text; the board cannot be written) and the converter (in a second board) leave one memory and
+-- no registers
 pub record Reported : Type 0 where
   pub number : ℕ
   pub memory : List ℕ
@@ -59,6 +61,9 @@ reported number memory answer = record { number = number; memory = memory; answe
 unfoldable pub reporting : Report → (memory memory′ answer : List ℕ) → Reported
 reporting r memory memory′ answer =
     cond (hasAnswer answer) (reported (numberOf (r .status)) memory′ (writeAnswer answer (r .value) (r .stores))) (reported tooShort memory answer)
+
+abbrev pub conversionCrossing : Conversion → (board answer : List ℕ) → Reported
+conversionCrossing v board answer = reporting (conversionReport v) board (memoryAfter board v) answer
 
 -- The writer of records: the first sixteen bytes, or the refusal and no byte touched. It has no value and makes no stores.
 unfoldable pub recordPut : (bytes : List ℕ) → Written → List ℕ

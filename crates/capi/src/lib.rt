@@ -4,12 +4,14 @@ mod places;
 mod reading;
 mod recording;
 
+ghost use lib.ListN.{length};
 ghost use mathlib.Core.Path.{_≡_};
 ghost use Rattle.picl.specs.Calls as call;
 ghost use Rattle.checks.specs.Registers.{allZero};
 ghost use Rattle.picl.specs.Calls.{noAllowance, powerUpVerdict, formatReport, formatAfter, filterBitsReport};
 ghost use Rattle.capi.specs.Crossing.{back, callCrossing};
-ghost use Rattle.capi.specs.Crossing.{crossing, reported, reporting, recordCrossing, nameCrossing};
+ghost use Rattle.capi.specs.Crossing.{crossing, reported, reporting, conversionCrossing, recordCrossing, nameCrossing};
+ghost use Rattle.convert.specs.Convert.{conversion};
 ghost use Rattle.hex.specs.Export.{exportReport, exportText};
 use picl::Report;
 use places::TOO_SHORT;
@@ -213,6 +215,19 @@ pub extern "C" fn picl_hex_out(
         return TOO_SHORT;
     }
     let made = hex::put_record(board, text, record);
+    report(answer, made)
+}
+
+// The old board is read only.
+#[no_mangle]
+pub extern "C" fn picl_convert(old: &[u64], board: &mut [u64], answer: &mut [u64]) -> u64
+    ensures { λ r. ⌜ reported r (now (board .exit)) (now (answer .exit))
+        ≡ conversionCrossing (conversion (now (old .entry)) (length (now (board .entry)))) (now (board .entry)) (now (answer .entry)) ⌝ }
+{
+    if !has_answer(answer) {
+        return TOO_SHORT;
+    }
+    let made = convert::convert(old, board);
     report(answer, made)
 }
 

@@ -5,8 +5,9 @@ use mathlib.Core.Bool.{Bool, true, false, not, cond}
 use mathlib.Core.List.{List, []}
 use native.Mathlib.Omega.{arith}
 use borrow.Author.Tests.{lt-ltb, le-ltb, lt-leb, not-true, not-false}
-use lib.ListN.{length}
-use Rattle.layout.specs.Memory.{logAt, linesAt}
+use lib.ListN.{length, getD}
+use Rattle.layout.specs.Memory.{shapeAt, logAt, linesAt}
+use Rattle.layout.specs.Words.{OwnLines, decodeShape}
 use Rattle.status.specs.declared.Status.{Status}
 use Rattle.status.specs.declared.Status.the-variants as status
 use Rattle.undo.specs.declared.LogState.{LogState}
@@ -27,6 +28,10 @@ module _ (board : List ℕ) where
   pub board-short : length board < logAt → Refused status.Shape 0 ≡ boardChecked board
   unfolding boardChecked goodShape
   board-short h = rw (lt-leb logAt (length board) h)
+
+  pub board-lines : (v : View) (lines : ℕ) → Viewed board v → OwnLines (decodeShape (getD board shapeAt 0)) lines → OwnLines (v .shape) lines
+  unfolding viewOf
+  board-lines v lines read own = rw (read .is) own
 
   module _ (v : View) (read : Viewed board v) (t : Bool) (shape : t ≡ goodShape (length board) v) where
     pub board-shape : not t ≡ true → Refused status.Shape 0 ≡ boardChecked board

@@ -1,16 +1,14 @@
 -- The tests of the first stages: one law for each way out.
 use Prim.Native.Nat.{ℕ, _+_, _-_, _*_, _/_, _%_, _^_, _<_, _≤_}
 use mathlib.Core.Path.{_≡_, refl, sym, ap, _∙_}
-use mathlib.Core.Bool.{Bool, true, false, not, _&&_, _||_, and-true, and-false}
+use mathlib.Core.Bool.{Bool, true, false, not, _&&_, _||_, and-true, and-false, false≢true}
 use mathlib.Core.List.{List}
-use mir.Syntax.{w64}
-use mir.Val.{Fits}
 use native.Mathlib.Omega.{arith}
 use borrow.Author.Tests.{lt-ltb, le-ltb, le-leb, lt-leb, eq-eqb, ne-eqb, ltb-true, eqb-true, eqb-false, not-true, not-false}
-use lib.Bits.{bitAnd, bitOr, or-lt}
+use lib.Bits.{bitAnd}
 use lib.Dec.{ltb, leb, eqb}
 use lib.ListN.{getD}
-use Rattle.base.specs.Bits.{left-or, right-or, and-high-last}
+use Rattle.base.specs.Bits.{and-high-last}
 use Rattle.base.specs.Tests.{held, hold-together}
 use Rattle.layout.specs.declared.Control.{Control}
 use Rattle.layout.specs.declared.Shape.{Shape}
@@ -136,6 +134,14 @@ module _ (words : ℕ) (v : View) (long : logAt ≤ words) (t : Bool) (control :
   unfolding goodShape
   shape-control h = rw (← control, not-true t h, and-false)
 
+  -- the log's start is below L
+  pub shape-some : not t ≡ false → 1 ≤ v .shape .entries
+  unfolding goodControl
+  shape-some h =
+      let good = sym control ∙ not-false t h in
+      let start : v .control .start < v .shape .entries = search held depth 12 in
+      omega arith
+
   pub shape-sizes : (u : Bool) (lines : ℕ) → not t ≡ false → OwnLines (v .shape) lines → u ≡ goodSizes words lines (v .shape .entries)
       → u ≡ goodShape words v
   unfolding goodShape goodSizes
@@ -147,46 +153,32 @@ module _ (words : ℕ) (v : View) (long : logAt ≤ words) (t : Bool) (control :
       go true e = ap (λ (n : ℕ). goodSizes words n (v .shape .entries)) (own .own (eqb-true _ _ e))
       go false e = rw (lt-leb lines mostLines (own .other (eqb-false _ _ e)), and-false)
 
--- N − 1 and L − 1: both are below a power of two exactly where their `|` is
-module _ (words lines entries x y : ℕ) (n : Less lines 1 x) (hx : x < 2 ^ wordBits) (l : Less entries 1 y) (hy : y < 2 ^ wordBits) where
-  pub sizes-beyond : mostLines ≤ bitOr x y → false ≡ goodSizes words lines entries
+-- of 1: L is 0; or N, then L, then the word count
+pub entries-none : (words lines entries : ℕ) → entries ≡ 0 → false ≡ goodSizes words lines entries
+unfolding goodSizes
+entries-none words lines entries none = rw (lt-leb 1 entries (omega arith), and-false)
+
+module _ (words lines entries x : ℕ) (n : Less lines 1 x) (hx : x < 2 ^ wordBits) where
+  pub lines-beyond : mostLines ≤ x → false ≡ goodSizes words lines entries
   unfolding goodSizes
-  sizes-beyond h = go (goodSizes words lines entries) refl
-    where
-      go : (t : Bool) → goodSizes words lines entries ≡ t → false ≡ t
-      go true e =
-          let lines-some : 1 ≤ lines = search held depth 12 in
-          let lines-most : lines ≤ mostLines = search held depth 12 in
-          let entries-some : 1 ≤ entries = search held depth 12 in
-          let entries-most : entries ≤ mostEntries = search held depth 12 in
-          absurd (omega (arith, or-lt addressBits x y (omega arith) (omega arith)))
-      go false e = refl
+  lines-beyond h = hold-together false _ (λ t. absurd (false≢true t)) (λ t.
+      let some : 1 ≤ lines = search held depth 12 in
+      let few : lines ≤ mostLines = search held depth 12 in
+      absurd (omega arith))
 
-  module _ (within : bitOr x y < mostLines) where
-    lines-within : (1 ≤ lines) × (lines ≤ mostLines)
-    lines-within = omega (arith, left-or x y)
+  pub entries-beyond : mostEntries < entries → false ≡ goodSizes words lines entries
+  unfolding goodSizes
+  entries-beyond h = rw (lt-leb entries mostEntries h, and-false)
 
-    entries-within : (1 ≤ entries) × (entries ≤ mostEntries)
-    entries-within = omega (arith, right-or x y)
-
-    pub log-fits : Fits w64 (entryWords * entries)
-    log-fits = record { fits = omega (arith, entries-within .1) }
-
-    pub log-end-fits : Fits w64 (linesAt entries)
-    log-end-fits = record { fits = omega (arith, entries-within .1) }
-
-    pub board-fits : Fits w64 (boardWords lines entries)
-    board-fits = record { fits = omega (arith, entries-within .1, lines-within .1) }
-
-    pub sizes-words : eqb words (boardWords lines entries) ≡ goodSizes words lines entries
-    unfolding goodSizes
-    sizes-words =
-        rw (
-          le-leb 1 lines (lines-within .0),
-          le-leb lines mostLines (lines-within .1),
-          le-leb 1 entries (entries-within .0),
-          le-leb entries mostEntries (entries-within .1),
-        )
+  pub sizes-words : x < mostLines → 1 ≤ entries → entries ≤ mostEntries → eqb words (boardWords lines entries) ≡ goodSizes words lines entries
+  unfolding goodSizes
+  sizes-words few some most =
+      rw (
+        le-leb 1 lines (omega arith),
+        le-leb lines mostLines (omega arith),
+        le-leb 1 entries some,
+        le-leb entries mostEntries most,
+      )
 
 -- 2: a number of words more than the least is a multiple of 8 and has nine digits, slotWords * mostSlots being 2 ^ 9; tested are the digits above
 -- them and the last three

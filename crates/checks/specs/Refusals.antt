@@ -89,7 +89,7 @@ roomRows v work r spot =
     status.Room
     ∷ []
 
--- "9 waiting: s − P = 16" and "10 last: s = 2^24 − 1", of commit
+-- "9 waiting: s − P = 16" and "10 last: s = 2^40 − 1", of commit
 abbrev pub epochRows : View → Registers → List Row
 epochRows v r =
     row (eqb (r .epoch - v .control .persisted) mostAhead) status.Waiting ∷ row (eqb (r .epoch) lastEpoch) status.Last ∷ []

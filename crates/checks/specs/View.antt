@@ -32,7 +32,7 @@ goodControl v =
     && ltb (v .control .start) (v .shape .entries)
     && leb (v .control .length) (v .shape .entries)
 
--- "1 shape: fewer than 2 board words; 24 bits not zero; N or L out of range; wrong word count; P = 2^24 − 1; start ≥ L;
+-- "1 shape: fewer than 2 board words; 24 bits not" 1; "N or L out of range; wrong word count; P = 2^40 − 1; start ≥ L;
 -- length > L"
 unfoldable pub goodShape : (words : ℕ) → View → Bool
 goodShape words v =
@@ -45,7 +45,7 @@ goodSlots slots = eqb (slots % ways) 0 && leb ways slots && leb slots mostSlots
 unfoldable pub goodWork : (words : ℕ) → Bool
 goodWork words = goodSlots (slotsOf words) && eqb words (workWords (slotsOf words))
 
--- "Proper registers: P < s ≤ 2^24 − 1, s − P ≤ 16, b ≤ 31, .., length + b ≤ L." Request 5/13: "Registers are also improper when the count
+-- "Proper registers: P < s ≤ 2^40 − 1, s − P ≤ 16, b ≤ 31, .., length + b ≤ L." Request 5/13: "Registers are also improper when the count
 -- exceeds S."
 unfoldable pub properEpoch : View → Registers → Bool
 properEpoch v r =

@@ -8,7 +8,7 @@ ghost use mathlib.Core.List.{[], _∷_};
 ghost use mathlib.Core.Path.{_≡_};
 ghost use Rattle.layout.specs.Limits.{lastEpoch, ways, mostSlots};
 ghost use Rattle.layout.specs.Memory.{logAt, slotAt, slotWords, bufferWords};
-ghost use Rattle.layout.specs.Words.{ControlFits, ShapeFits, encodeSlot};
+ghost use Rattle.layout.specs.Words.{ControlFits, OwnLines, encodeSlot};
 ghost use Rattle.checks.specs.Registers.{allZero, given, restarted, committed, begun, stepped, ended, recounted, leaving, scanTarget};
 ghost use Rattle.checks.specs.View.{goodControl, goodShape, properEpoch, properCounts, properPass, properRegisters, waits, miscounted};
 ghost use Rattle.checks.specs.View.{lent, boundsOf, undoOf};
@@ -303,16 +303,16 @@ impl View {
         self.control.persisted != LAST_EPOCH
     }
 
-    // 1.
-    fn is_good_shape(self, words: usize) -> bool
+    // 1, with the number of lines as `own_lines` gives it.
+    fn is_good_shape(self, words: usize, lines: u64) -> bool
         requires { ⌜ logAt ≤ words ⌝ }
-        requires { ⌜ ShapeFits (self .shape) ⌝ }
+        requires { ⌜ OwnLines (self .shape) lines ⌝ }
         ensures { λ r. ⌜ r ≡ goodShape words self ⌝ }
     {
         if !self.is_good_control() {
             return false;
         }
-        is_good_sizes(words, self.shape.own_lines(), self.shape.entries)
+        sizes::is_sized(words, lines, self.shape.entries)
     }
 
     // What slot words are held to.

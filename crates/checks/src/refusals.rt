@@ -18,6 +18,8 @@ use crate::sizes::is_good_work;
 use layout::LAST_EPOCH;
 use layout::LOG_AT;
 use layout::MOST_AHEAD;
+use layout::SHAPE_AT;
+use layout::Shape;
 use slots::Spot;
 use status::Status;
 
@@ -29,7 +31,8 @@ pub fn check_board(board: &[u64]) -> Checked
         return Checked::Refused(Status::Shape, 0);
     }
     let view = View::read(board);
-    if !view.is_good_shape(board.len()) {
+    let lines = Shape::own_lines(board[SHAPE_AT]);
+    if !view.is_good_shape(board.len(), lines) {
         return Checked::Refused(Status::Shape, 0);
     }
     Checked::Passed(view)

@@ -22,13 +22,9 @@ use Rattle.picl.specs.Calls.{Call}
 use Rattle.hex.specs.Records.{recordsOf}
 use Rattle.hex.specs.Export.{mostText, exportText}
 use Rattle.reference.specs.Machine.{resting}
-use Rattle.crash.specs.Statement.{Step, call, powerUp, exportRecord, made, Accepts, Both, after, AfterEveryList, persistedOn, lineOn, Consistent}
+use Rattle.crash.specs.Statement.{Step, call, powerUp, exportRecord, made, Accepts, Both, after, AfterEveryList, persistedOn, lineOn, Running, Consistent}
 
 -- ---- a controller that runs
-
--- a cut, or a power-up that was refused or cut, leaves "registers .. all zero"
-abbrev pub Running : Both → Type 0
-Running s = s .machine .registers .epoch ≡ 0 → ⊥
 
 -- what it is answered: shape, work, registers, slots, buffer and filter are never at fault, and a call without stores
 -- is not cut

@@ -18,7 +18,8 @@ use Rattle.status.specs.declared.Status.{Status}
 use Rattle.status.specs.declared.Status.the-variants as status
 use Rattle.undo.specs.declared.LogState.{LogState}
 use Rattle.undo.specs.Recovery.{properAt, firstImproper}
-use Rattle.undo.specs.Log.{logIn, recoverStores}
+use Rattle.undo.specs.Laws.{formed-spans, proper-formed}
+use Rattle.undo.specs.Log.{entryIn, logIn, recoverStores}
 use Rattle.checks.specs.declared.Checked.the-variants.{Refused, Passed}
 use Rattle.checks.specs.Contracts.{Shaped}
 use Rattle.checks.specs.Laws.{memories-shaped}
@@ -38,7 +39,7 @@ use Rattle.durable.specs.View.{Sized, undoWith}
 use Rattle.volatile.specs.Dirty.{dirty-none}
 use Rattle.refine.specs.State.{Off, Ok}
 use Rattle.refine.specs.Restart.{recovery-along, recovery-reads, restart-ok}
-use Rattle.crash.specs.Statement.{powerUp, Machine, Result, answered, made, fed, logOn}
+use Rattle.crash.specs.Statement.{powerUp, Machine, Result, answered, made, fed, logOn, Spans}
 use Rattle.crash.specs.Fares.{NoneDirty, cut-none, not-cut-ok}
 use Rattle.crash.specs.State.{Up, emptied-zeros, Holds, is-up, is-down, up-of, holds-off, holds-ended}
 
@@ -73,6 +74,11 @@ log-proper-of {N = N} {L = L} {board = board} off i h =
     let numbers : logOn L board ≡ undoWith (off .control) L = ap (λ (c : Control). undoWith c L) (off .reads .control) in
     subst (λ (u : LogState). properAt (logIn board u) N i ≡ true) (sym numbers)
     (reads-proper (undoWith (off .control) L) (off .reads) refl mostAhead (off .safe .proper) i (rw (off .reads .control) at h))
+
+pub log-spans-of : {N L : ℕ} {board : List ℕ} {g : Reference} → Off N L board g → (i : ℕ) → i < controlIn board .length
+    → Spans (entryIn board (logOn L board) i)
+log-spans-of {N = N} {L = L} {board = board} off i h =
+    formed-spans (entryIn board (logOn L board) i) (proper-formed (logIn board (logOn L board)) N i (log-proper-of off i h))
 
 module _ {N L : ℕ} {board : List ℕ} {g : Reference} (off : Off N L board g) (lent : List ℕ) where
   -- the log's numbers that power-up reads

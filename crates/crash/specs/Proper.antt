@@ -16,6 +16,8 @@ use Rattle.layout.specs.Memory.{filterWords, bufferIn, slotsOf, workWords, cont
 use Rattle.status.specs.declared.Status.{Status}
 use Rattle.status.specs.declared.Status.the-variants as status
 use Rattle.undo.specs.Filter.{onesOf}
+use Rattle.undo.specs.Laws.{formed-spans, buffered-formed}
+use Rattle.undo.specs.Log.{bufferedIn}
 use Rattle.slots.specs.Sets.{placesOf, properSet, spotOf}
 use Rattle.slots.specs.Slots.{dirtyAt, undoDue}
 use Rattle.checks.specs.declared.Checked.the-variants.{Refused, Passed}
@@ -37,8 +39,8 @@ use Rattle.picl.specs.Calls as calls
 use Rattle.picl.specs.Calls.{verdictOf, Call, unstored, filterBitsVerdict, judged, loadOutcome, storeOutcome, evictOutcome}
 use Rattle.picl.specs.Calls.{scanOutcome}
 use Rattle.refine.specs.Pass.{Runs, outside, inside}
-use Rattle.crash.specs.Statement.{call, Machine, Both, made, persistedOn}
-use Rattle.crash.specs.Beyond.{Running, answersTo, Among}
+use Rattle.crash.specs.Statement.{call, Machine, Both, made, persistedOn, Running, Spans}
+use Rattle.crash.specs.Beyond.{answersTo, Among}
 use Rattle.crash.specs.State.{sweepOf, Up, Holds, is-up, is-down}
 use Rattle.crash.specs.Power.{shape-good}
 
@@ -310,6 +312,12 @@ module _ {N L : ℕ} {m : Machine} {g : Reference} (up : Up N L m g) where
   -- the filter is exactly the bits of the buffered entries
   pub filter-exact : Exact (bufferIn (m .work)) (r .buffered)
   filter-exact = up .ok .filter
+
+  pub spans-buffered : (i : ℕ) → i < r .buffered → Spans (bufferedIn (bufferIn (m .work)) i)
+  unfolding goodBuffer
+  spans-buffered i below =
+      formed-spans (bufferedIn (bufferIn (m .work)) i)
+      (buffered-formed (bufferIn (m .work)) (r .buffered) (v .shape .lines) (r .epoch) buffered i below)
 
   pub room-full : (a w k : ℕ) → made m (call (calls.store a w) k) .status ≡ status.Room
       → controlIn (m .board) .length + m .registers .buffered ≡ L

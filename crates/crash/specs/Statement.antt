@@ -8,12 +8,14 @@ use mathlib.Core.List.{List, [], _∷_}
 use lib.Dec.{eqb}
 use lib.ListN.{length, getD}
 use Rattle.board.specs.Verdict.{boardAfter, workAfter}
-use Rattle.layout.specs.Memory.{linesAt, slotsOf, controlIn}
+use Rattle.layout.specs.declared.Entry.{Entry}
+use Rattle.layout.specs.Limits.{mostAhead}
+use Rattle.layout.specs.Memory.{linesAt, slotsOf, controlIn, bufferIn}
 use Rattle.status.specs.declared.Status.{Status}
 use Rattle.status.specs.declared.Status.the-variants as status
 use Rattle.status.specs.Numbers.{numberOf}
 use Rattle.undo.specs.declared.LogState.{LogState}
-use Rattle.undo.specs.Log.{logIn}
+use Rattle.undo.specs.Log.{entryIn, logIn, bufferedIn}
 use Rattle.undo.specs.Recovery.{properAt}
 use Rattle.slots.specs.Slots.{dirtySlots}
 use Rattle.checks.specs.declared.Registers.{Registers}
@@ -131,6 +133,14 @@ lineOn L board a = getD board (linesAt L + a) 0
 abbrev pub logOn : (L : ℕ) → List ℕ → LogState
 logOn L board = record { control = controlIn board; entries = L; buffered = 0 }
 
+-- a cut, or a power-up that was refused or cut, leaves "registers .. all zero"; any other controller runs
+abbrev pub Running : Both → Type 0
+Running s = s .machine .registers .epoch ≡ 0 → ⊥
+
+-- 9/13's "spans 1 to 16"
+abbrev pub Spans : Entry → Type 0
+Spans e = (1 ≤ e .span) × (e .span ≤ mostAhead)
+
 -- 5/13's "old count": the number of dirty slots
 abbrev pub dirtyIn : List ℕ → ℕ
 dirtyIn work = dirtySlots work (slotsOf (length work))
@@ -185,6 +195,9 @@ pub record Consistent (N L : ℕ) (s : Both) : Type 0 where
       → (made (s .machine) (powerUp lent k) .status ≡ status.Shape → ⊥) × (made (s .machine) (powerUp lent k) .status ≡ status.Entry → ⊥)
   -- request 2/13: "every log left by a cut in demand 3's lists passes the new test", entry by entry
   pub log-proper : (i : ℕ) → i < controlIn (s .machine .board) .length → properAt (logIn (s .machine .board) (logOn L (s .machine .board))) N i ≡ true
+  -- request 9/13: "Prove that only spans 1 to 16 arise": in the log, and in the buffer of a controller that runs
+  pub log-spans : (i : ℕ) → i < controlIn (s .machine .board) .length → Spans (entryIn (s .machine .board) (logOn L (s .machine .board)) i)
+  pub buffer-spans : Running s → (i : ℕ) → i < s .machine .registers .buffered → Spans (bufferedIn (bufferIn (s .machine .work)) i)
   -- "the oldest epoch that waited just before the first is persisted": it is p + 1
   pub persists : Persists (s .reference .persisted + 1) s
   -- request 8/13: "The S + 1 count holds for the scan calls after the begin call, the whole target then being

@@ -12,12 +12,12 @@ use Rattle.crash.specs.State.{Holds, holds-off, holds-ended}
 use Rattle.crash.specs.Fares.{NoneDirty}
 use Rattle.crash.specs.Caches.{true-count, one-holder}
 use Rattle.crash.specs.Steps.{load-value, tally-value, call-kept}
-use Rattle.crash.specs.Power.{power-up-kept, log-proper-of, power-up-lines-of, power-up-shape, power-up-entry, power-up-ok}
+use Rattle.crash.specs.Power.{power-up-kept, log-proper-of, log-spans-of, power-up-lines-of, power-up-shape, power-up-entry, power-up-ok}
 use Rattle.crash.specs.Exports.{empty-log-lines, exporting-whole, export-answered, exported-record, export-accepted}
 use Rattle.crash.specs.Format.{format-off}
 use Rattle.crash.specs.Runs.{after-holds, run-holds, rests-off, list-holds}
 use Rattle.crash.specs.Progress.{persisted-rises, oldest-persisted, target-persisted}
-use Rattle.crash.specs.Proper.{running-up, worked, call-answered, begin-accepted, room-full, filter-exact}
+use Rattle.crash.specs.Proper.{running-up, worked, call-answered, begin-accepted, room-full, filter-exact, spans-buffered}
 
 -- ---- what the invariant says
 
@@ -41,6 +41,8 @@ consistent s h =
       recovers-to-lines = λ lent k ok a inside. rw ok (power-up-lines-of h lent k ok a);
       recoverable = λ lent k. (power-up-shape h lent k, power-up-entry h lent k);
       log-proper = log-proper-of (holds-off h);
+      log-spans = log-spans-of (holds-off h);
+      buffer-spans = λ runs. spans-buffered (running-up s h runs);
       persists = λ xs u many.
           let p = oldest-persisted s h xs u many in
           (p, rw (same-epoch (run s xs) (run-holds s h xs)) p);

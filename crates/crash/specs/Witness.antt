@@ -17,11 +17,11 @@ use Rattle.layout.specs.Bytes.{bytesOf}
 use Rattle.layout.specs.Fields.{width, pack, unpack, encode, decode}
 use Rattle.layout.specs.Limits.{mostAhead}
 use Rattle.layout.specs.Memory.{slotsOf, bufferIn, logAt, entryWords, boardWords, workWords, formatted, withBuffer, controlIn}
-use Rattle.layout.specs.Words.{encodeEntry}
+use Rattle.layout.specs.Words.{encodeEntry, formed}
 use Rattle.status.specs.declared.Status.the-variants as status
 use Rattle.status.specs.Names.{bytes}
 use Rattle.ranges.specs.Ranges.{covers, properRange}
-use Rattle.undo.specs.Entries.{properEntry}
+use Rattle.undo.specs.Entries.{properWord, properEntry}
 use Rattle.undo.specs.Recovery.{olderTill, properAt, firstImproper, restoreStores, restoreTurn}
 use Rattle.undo.specs.Log.{placeOf, entryIn, oldIn, bufferedIn, bufferedProper, bufferProper}
 use Rattle.undo.specs.Filter.{firstBit, secondBit, isSet, withBit, marking, marks, hits}
@@ -148,7 +148,7 @@ pub record Met : Type 0 where
   -- the cut came in mid-flush: the first word of the entry at place 2 is on the board, and the control word does not
   -- count it yet
   pub off : cut .machine .registers .epoch ≡ 0
-  pub entry-word : getD (cut .machine .board) (logAt + entryWords * 2) 0 ≡ encodeEntry (record { address = 1; from = 1; till = 3 })
+  pub entry-word : getD (cut .machine .board) (logAt + entryWords * 2) 0 ≡ encodeEntry (record { address = 1; till = 3; span = 2 })
   pub uncounted : controlIn (cut .machine .board) .length ≡ 1
   -- the premise of `recovers-to-copy`, and a line that is restored
   pub in-place : lineOn entries (cut .machine .board) 0 ≡ 9
@@ -158,7 +158,9 @@ pub record Met : Type 0 where
   -- the premise of `log-proper`, with an entry that ends as late as any may: 16 epochs after P
   pub far-counted : controlIn (far .machine .board) .length ≡ 1
   pub far-till : entryIn (far .machine .board) (logOn entries (far .machine .board)) 0 .till ≡ persistedOn (far .machine .board) + mostAhead
-  -- the premise of `filter-exact`: running, with entries of line 0 buffered; its one bit is set and no other, and the
+  -- and that spans as many epochs as any may
+  pub far-span : entryIn (far .machine .board) (logOn entries (far .machine .board)) 0 .span ≡ mostAhead
+  -- the premise of `filter-exact`, and of `buffer-spans`: running, with entries of line 0 buffered; its one bit is set and no other, and the
   -- scan's flush clears it
   pub running : begun .machine .registers .epoch ≡ 3
   pub marked : (isSet (bufferIn (begun .machine .work)) 0 ≡ true) × (isSet (bufferIn (begun .machine .work)) 1 ≡ false)
@@ -204,7 +206,7 @@ differ e = omega arith
 pub met : Met
 unfolding update firstFrom applied each shifted boardAfter workAfter width pack unpack formatted withBuffer
     encode decode
-    covers properRange properEntry placeOf entryIn oldIn olderTill properAt firstImproper bufferedIn bufferedProper bufferProper
+    covers formed properRange properWord properEntry placeOf entryIn oldIn olderTill properAt firstImproper bufferedIn bufferedProper bufferProper
     firstBit secondBit isSet withBit marking marks hits bufferedMarked bufferMarked pushed entryStores flushed flushStores flushedBuffer expired dropped advanceStores restoreStores restoreTurn recoverStores
     slots.setOf slots.properTag slots.properFull slots.properSlot slots.properAt slots.holds sets.placesOf sets.properSet sets.victimOf sets.spotOf
     slots.zeroed slots.filled slots.dirtied slots.cleaned slots.entryDue slots.undoDue
@@ -232,6 +234,7 @@ met =
       copy = refl;
       far-counted = refl;
       far-till = refl;
+      far-span = refl;
       running = refl;
       marked = (refl, refl);
       cleared = refl;

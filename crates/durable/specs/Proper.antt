@@ -1,6 +1,6 @@
 -- What power-up asks of the log it finds, from what the crash invariant says of it. Assumes nothing.
 use Prim.Native.Nat.{ℕ, zero, suc, _+_, _≤_, _<_}
-use mathlib.Core.Path.{_≡_, refl, _∙_}
+use mathlib.Core.Path.{_≡_, _∙_}
 use mathlib.Core.Bool.{true}
 use mathlib.Core.List.{List}
 use native.Mathlib.Nat.{zero-add}
@@ -20,15 +20,17 @@ use Rattle.history.specs.Proper.{entry-facts, proper-every}
 use Rattle.base.specs.Listed.{listed}
 use Rattle.durable.specs.View.{entryOf, entriesOf, Reads}
 use Rattle.durable.specs.Reads.{reads-persisted, reads-log}
+use Rattle.durable.specs.Recover.{Restorable, some-formed}
 
--- each entry names a line
-pub proper-named : (N W low high : ℕ) (log : List Entry) → ProperLog N W low high log → Every (λ x. x .range .address < N) log
-proper-named N W low high log p =
-    every-map (ProperEntry N W low high) (λ x. x .range .address < N) (λ x e. entry-facts e .inside) log (proper-every N W low high log p)
+-- each entry names a line, and its range is not empty
+pub proper-restorable : (N W low high : ℕ) (log : List Entry) → ProperLog N W low high log → Every (Restorable N) log
+proper-restorable N W low high log p =
+    every-map (ProperEntry N W low high) (Restorable N) (λ x e. record { named = entry-facts e .inside; some = entry-facts e .nonempty }) log
+    (proper-every N W low high log p)
 
 -- ---- whatever the log's words
 
-module _ (N W : ℕ) (log : Log) (formed : (i : ℕ) → i < log .count → log .formed i ≡ true) where
+module _ (N W : ℕ) (log : Log) where
   -- from entry i on, where `low` bounds the tills of the older ones
   proper-from : (low i n : ℕ) → i + n ≤ log .count → log .persisted < low → olderTill log i ≤ low
       → ProperLog N W low (log .persisted + mostAhead) (listed (entryOf log) i n) → firstFrom (properAt log N) i n ≡ i + n
@@ -38,10 +40,11 @@ module _ (N W : ℕ) (log : Log) (formed : (i : ℕ) → i < log .count → log 
       let r = log .range i in
       let high = log .persisted + mostAhead in
       let f = entry-facts (p .0) in
+      let formed : log .formed i ≡ true = some-formed (log .formed i) r (f .nonempty) in
       rw (
-        formed i (omega arith),
+        formed,
         lt-ltb (log .persisted) (r .till) (omega (arith, f .after)),
-        proper-rebound N low high (olderTill log i) high r (omega (arith, f .after)) (f .before) (p .0 .proper),
+        proper-rebound N low high (olderTill log i) high r (omega (arith, f .after)) (f .before) (rw formed at (p .0 .proper)),
       )
       (proper-from (r .till) (suc i) n (omega arith) (omega (arith, f .after)) (omega arith) (p .1) ∙ omega arith)
 
@@ -55,7 +58,7 @@ module _ (N W : ℕ) (log : Log) (formed : (i : ℕ) → i < log .count → log 
 pub reads-passes : {N L : ℕ} {board : List ℕ} {d : Durable} (u : LogState) → Reads N L board (u .control) d → u .entries ≡ L
     → (W : ℕ) → ProperLog N W (suc (d .persisted)) (d .persisted + mostAhead) (d .log) → firstImproper (logIn board u) N ≡ u .control .length
 reads-passes {N} {L} {board} u r same W p =
-    proper-passes N W (logIn board u) (λ i below. refl) (rw (reads-log u r same, reads-persisted r) p)
+    proper-passes N W (logIn board u) (rw (reads-log u r same, reads-persisted r) p)
 
 -- so each is proper
 pub reads-proper : {N L : ℕ} {board : List ℕ} {d : Durable} (u : LogState) → Reads N L board (u .control) d → u .entries ≡ L

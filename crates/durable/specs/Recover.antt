@@ -9,19 +9,19 @@ use lib.ListN.{length, take, length-append}
 use lib.Seq.{take-append-le}
 use Rattle.board.specs.Stores.{Store, one, applied, each}
 use Rattle.board.specs.Laws.{applied-append}
-use Rattle.ranges.specs.Ranges.{covers}
+use Rattle.ranges.specs.Ranges.{Range, covers}
 use Rattle.layout.specs.declared.Control.{Control}
 use Rattle.layout.specs.Memory.{controlAt, linesAt}
 use Rattle.layout.specs.Words.{encodeControl}
 use Rattle.undo.specs.declared.LogState.{LogState}
 use Rattle.undo.specs.Recovery.{Log, restoreStores, restoreTurn, restoreAll}
 use Rattle.undo.specs.Log.{logIn, emptied, recoverStores}
-use Rattle.base.specs.Every.{Every, every-take}
+use Rattle.base.specs.Every.{Every, every-map, every-take}
 use Rattle.history.specs.Machine.{Entry, Durable, cleared}
 use Rattle.history.specs.Restore.{due, patched, patchedBy, restoredAll, restoredPart, due-every}
-use Rattle.base.specs.Listed.{listed}
+use Rattle.base.specs.Listed.{listed, listed-every}
 use Rattle.durable.specs.Stores.{take-map}
-use Rattle.durable.specs.View.{entryOf, entriesOf, Reads}
+use Rattle.durable.specs.View.{rangeIf, entryOf, entriesOf, Reads}
 use Rattle.durable.specs.Reads.{reads-bounded, reads-as, reads-with, reads-persisted, reads-log}
 use Rattle.durable.specs.Seen.{line-reads, control-reads}
 
@@ -30,19 +30,34 @@ use Rattle.durable.specs.Seen.{line-reads, control-reads}
 abbrev pub lineStore : (lineAt : ℕ) → Entry → Store
 lineStore lineAt x = record { at = lineAt + x .range .address; word = x .old }
 
+-- an entry that recovery can restore: it names a line, and its range is not empty
+pub record Restorable (N : ℕ) (x : Entry) : Type 0 where
+  pub named : x .range .address < N
+  pub some : x .range .from < x .range .till
+
+-- only an entry whose word says a range is read as one that is not empty
+pub some-formed : (formed : Bool) (r : Range) → rangeIf formed r .from < r .till → formed ≡ true
+some-formed true r h = refl
+some-formed false r h = absurd (omega arith)
+
+pub restorable-formed : (N : ℕ) (log : Log) → Every (Restorable N) (entriesOf log) → (i : ℕ) → i < log .count → log .formed i ≡ true
+unfolding entryOf
+restorable-formed N log h i below =
+    some-formed (log .formed i) (log .range i) (listed-every (Restorable N) (entryOf log) 0 (log .count) h i (omega arith) (omega arith) .some)
+
 -- whatever the log's words
-module _ (log : Log) (lineAt : ℕ) where
+module _ (log : Log) (lineAt : ℕ) (formed : (i : ℕ) → i < log .count → log .formed i ≡ true) where
   -- what the abstract power-up does of the entries xs
   abbrev dueStores : List Entry → List Store
   dueStores xs = map (lineStore lineAt) (due (log .persisted) xs)
 
   -- one entry more, older than those
-  restore-due : (i : ℕ) (xs : List Entry) → dueStores xs ++ restoreStores log lineAt i ≡ dueStores (entryOf log i ∷ xs)
+  restore-due : (i : ℕ) (xs : List Entry) → i < log .count → dueStores xs ++ restoreStores log lineAt i ≡ dueStores (entryOf log i ∷ xs)
   unfolding restoreStores due entryOf
-  restore-due i xs = go (covers (log .range i) (log .persisted)) refl
+  restore-due i xs below = rw (formed i below) (go (covers (log .range i) (log .persisted)) refl)
     where
       go : (t : Bool) → covers (log .range i) (log .persisted) ≡ t
-          → dueStores xs ++ restoreStores log lineAt i ≡ dueStores (entryOf log i ∷ xs)
+          → dueStores xs ++ restoreStores log lineAt i ≡ dueStores (record { range = log .range i; old = log .old i } ∷ xs)
       go true e = rw (e, map-append)
       go false e = rw (e, append-nil)
 
@@ -54,7 +69,7 @@ module _ (log : Log) (lineAt : ℕ) where
       let i : ℕ = log .count - suc j in
       let this : log .count - (j + 1) ≡ i = omega arith in
       let next : log .count - j ≡ suc i = omega arith in
-      rw (turns-due j (omega arith), this, next) (restore-due i (listed (entryOf log) (suc i) j))
+      rw (turns-due j (omega arith), this, next) (restore-due i (listed (entryOf log) (suc i) j) (omega arith))
 
   pub restore-all-due : restoreAll log lineAt ≡ map (lineStore lineAt) (due (log .persisted) (entriesOf log))
   restore-all-due = let start : log .count - log .count ≡ 0 = omega arith in rw (turns-due (log .count) (omega arith), start)
@@ -69,7 +84,7 @@ lines-read r (x ∷ xs) named = lines-read (line-reads r (x .range .address) (x 
 -- ---- recovery
 
 module _ {N L : ℕ} {board : List ℕ} {d : Durable} (u : LogState) (r : Reads N L board (u .control) d) (same : u .entries ≡ L)
-    (named : Every (λ x. x .range .address < N) (d .log)) where
+    (restorable : Every (Restorable N) (d .log)) where
   abbrev restored : List Entry
   restored = due (d .persisted) (d .log)
 
@@ -80,12 +95,17 @@ module _ {N L : ℕ} {board : List ℕ} {d : Durable} (u : LogState) (r : Reads 
   last = one controlAt (encodeControl (emptied (u .control)))
 
   restored-named : Every (λ x. x .range .address < N) restored
-  restored-named = due-every (λ x. x .range .address < N) (d .persisted) (d .log) named
+  restored-named =
+      due-every (λ x. x .range .address < N) (d .persisted) (d .log)
+      (every-map (Restorable N) (λ x. x .range .address < N) (λ x h. h .named) (d .log) restorable)
+
+  formed : (i : ℕ) → i < u .control .length → logIn board u .formed i ≡ true
+  formed = restorable-formed N (logIn board u) (rw (reads-log u r same) restorable)
 
   recover-stores : recoverStores board u ≡ lines ++ last
   unfolding recoverStores
   recover-stores =
-      rw (restore-all-due (logIn board u) (linesAt (u .entries)), reads-log u r same, same, reads-persisted r)
+      rw (restore-all-due (logIn board u) (linesAt (u .entries)) formed, reads-log u r same, same, reads-persisted r)
 
   -- cut before the control word
   pub recover-cut : (k : ℕ) → k < length (recoverStores board u)

@@ -2,12 +2,15 @@
 -- `Reads` is what the laws of this crate are about: what a board reads as before and after a list of stores.
 use Prim.Native.Nat.{ℕ, _+_, _*_, _≤_, _<_}
 use mathlib.Core.Path.{_≡_}
+use mathlib.Core.Bool.{Bool, cond}
 use mathlib.Core.List.{List}
 use lib.ListN.{length, getD}
 use Rattle.layout.specs.declared.Control.{Control}
 use Rattle.layout.specs.declared.Entry as packed
 use Rattle.layout.specs.Memory.{linesAt, boardWords, shapeFor, controlIn, shapeIn}
 use Rattle.layout.specs.Sizes.{Sizes, Bounded}
+use Rattle.layout.specs.Words.{formed}
+use Rattle.ranges.specs.Ranges.{Range}
 use Rattle.undo.specs.declared.LogState.{LogState}
 use Rattle.undo.specs.Entries.{rangeOf}
 use Rattle.undo.specs.Recovery.{Log}
@@ -20,9 +23,14 @@ use Rattle.base.specs.Listed.{listed}
 abbrev pub undoWith : Control → (entries : ℕ) → LogState
 undoWith c entries = record { control = c; entries = entries; buffered = 0 }
 
+-- The range of an entry as the abstract log has it. One whose word says none is read as an empty range: so the ranges alone tell that every
+-- entry's word says one.
+abbrev pub rangeIf : (formed : Bool) → Range → Range
+rangeIf formed r = record { address = r .address; from = cond formed (r .from) (r .till); till = r .till }
+
 -- whatever its words: oldest entry first
 unfoldable pub entryOf : Log → ℕ → Entry
-entryOf log i = record { range = log .range i; old = log .old i }
+entryOf log i = record { range = rangeIf (log .formed i) (log .range i); old = log .old i }
 
 abbrev pub entriesOf : Log → List Entry
 entriesOf log = listed (entryOf log) 0 (log .count)
@@ -36,7 +44,7 @@ logOf board u = entriesOf (logIn board u)
 
 -- the two words of an entry: the packed one, and the old data
 abbrev pub entryWith : packed.Entry → (old : ℕ) → Entry
-entryWith e old = record { range = rangeOf e; old = old }
+entryWith e old = record { range = rangeIf (formed e) (rangeOf e); old = old }
 
 unfoldable pub bufferedAt : List ℕ → ℕ → Entry
 bufferedAt buffer i = entryWith (bufferedIn buffer i) (getD buffer (2 * i + 1) 0)

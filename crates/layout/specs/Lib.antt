@@ -7,3 +7,4 @@ pub mod Memory
 pub mod Sizes
 pub mod Laws
 pub mod ZeroWord
+pub mod Reading

@@ -6,9 +6,9 @@ use Prim.Native.Nat.{ℕ, _+_, _-_, _*_, _^_}
 abbrev pub wordBits : ℕ
 wordBits = 64
 
--- "EID means epoch number, 0 to 2^24 − 1."
+-- "EID means epoch number"; request 9/13: "EIDs become 40 bits."
 abbrev pub epochBits : ℕ
-epochBits = 24
+epochBits = 40
 
 abbrev pub lastEpoch : ℕ
 lastEpoch = 2 ^ epochBits - 1
@@ -17,20 +17,21 @@ lastEpoch = 2 ^ epochBits - 1
 abbrev pub addressBits : ℕ
 addressBits = 16
 
--- slot word: "zero 22"
+-- request 9/13: "The slot word keeps 6 zero bits."
 abbrev pub spareBits : ℕ
-spareBits = 22
+spareBits = 6
 
--- the shape word's first field: "zero 24"
+-- request 9/13: "The shape word's first 24 bits hold 1 instead of 0."
 abbrev pub boardVersion : ℕ
-boardVersion = 0
+boardVersion = 1
 
--- "N lines, 1 to 65,536. L log entries, 1 to 65,536."
+-- "N lines, 1 to 65,536."
 abbrev pub mostLines : ℕ
 mostLines = 65536
 
+-- request 9/13: "so L is 1 to 4,095"
 abbrev pub mostEntries : ℕ
-mostEntries = 65536
+mostEntries = 4095
 
 -- request 6/13: "S a multiple of 4, from 4 to 256": sets of four slots
 abbrev pub ways : ℕ
@@ -47,7 +48,8 @@ bufferPlaces = 32
 abbrev pub filterSize : ℕ
 filterSize = 4096
 
--- "s − P ≤ 16", and of a log entry "ValidTill ≤ P + 16": how far the running epoch, and so an entry's end, may be ahead of the persisted one
+-- "s − P ≤ 16", and of a log entry "ValidTill ≤ P + 16": how far the running epoch, and so an entry's end, may be ahead of the persisted one.
+-- So an entry spans at most as many epochs: request 9/13, "only spans 1 to 16 arise".
 abbrev pub mostAhead : ℕ
 mostAhead = 16
 

@@ -4,14 +4,14 @@ use mathlib.Core.Path.{_≡_}
 use Rattle.layout.specs.declared.Control.{Control}
 use Rattle.layout.specs.Limits.{lastEpoch, mostLines, mostEntries, ways, mostSlots}
 
--- "N lines, 1 to 65,536. L log entries, 1 to 65,536."
+-- "N lines, 1 to 65,536"; request 9/13: "L is 1 to 4,095"
 pub record Sizes (lines entries : ℕ) : Type 0 where
   pub lines-some : 1 ≤ lines
   pub lines-most : lines ≤ mostLines
   pub entries-some : 1 ≤ entries
   pub entries-most : entries ≤ mostEntries
 
--- not "P = 2^24 − 1; start ≥ L; length > L"
+-- not "P = 2^40 − 1; start ≥ L; length > L"
 pub record Bounded (entries : ℕ) (c : Control) : Type 0 where
   pub start : c .start < entries
   pub length : c .length ≤ entries

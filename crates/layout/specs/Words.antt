@@ -1,16 +1,16 @@
 -- The packed words, as the paper lists their fields. No other crate of the library knows their layout.
 use Prim.Native.Nat.{ℕ, _^_, _<_}
 use mathlib.Core.Path.{_≡_}
-use mathlib.Core.Bool.{Bool, true, false}
+use mathlib.Core.Bool.{Bool, true, false, _&&_}
 use mathlib.Core.List.{[], _∷_}
-use lib.Dec.{eqb}
+use lib.Dec.{leb, eqb}
 use lib.ListN.{getD}
 use Rattle.layout.specs.declared.Control.{Control}
 use Rattle.layout.specs.declared.Shape.{Shape}
 use Rattle.layout.specs.declared.Entry.{Entry}
 use Rattle.layout.specs.declared.Slot.{Slot}
 use Rattle.layout.specs.declared.Record.{Record}
-use Rattle.layout.specs.Limits.{epochBits, addressBits, spareBits, boardVersion, mostLines}
+use Rattle.layout.specs.Limits.{epochBits, addressBits, spareBits, boardVersion, mostLines, mostAhead}
 use Rattle.layout.specs.Fields.{Packing, encode, decode}
 
 -- What a decoding gives: the fields that its definition gives, each within its width.
@@ -18,10 +18,10 @@ pub record Decoded {A : Type 0} (Fits : A → Type 0) (fields r : A) : Type 0 wh
   pub is : r ≡ fields
   pub fits : Fits r
 
--- "Control word: P 24, log start 20, log length 20."
+-- request 9/13: "The control word is P 40, start 12, length 12"
 abbrev pub controlPacking : Packing Control
 controlPacking = record {
-  widths = epochBits ∷ 20 ∷ 20 ∷ [];
+  widths = epochBits ∷ 12 ∷ 12 ∷ [];
   fields = λ c. c .persisted ∷ c .start ∷ c .length ∷ [];
   of = λ vs. record { persisted = getD vs 0 0; start = getD vs 1 0; length = getD vs 2 0 };
 }
@@ -34,10 +34,10 @@ decodeControl = decode controlPacking
 
 pub record ControlFits (c : Control) : Type 0 where
   pub persisted : c .persisted < 2 ^ epochBits
-  pub start : c .start < 2 ^ 20
-  pub length : c .length < 2 ^ 20
+  pub start : c .start < 2 ^ 12
+  pub length : c .length < 2 ^ 12
 
--- "Shape word: zero 24, N 20, L 20." The first field tells one board format from another.
+-- "Shape word: .. 24, N 20, L 20." The first field tells one board format from another.
 abbrev pub shapePacking : Packing Shape
 shapePacking = record {
   widths = 24 ∷ 20 ∷ 20 ∷ [];
@@ -61,12 +61,12 @@ pub record OwnLines (s : Shape) (r : ℕ) : Type 0 where
   pub own : s .version ≡ boardVersion → r ≡ s .lines
   pub other : (s .version ≡ boardVersion → ⊥) → mostLines < r
 
--- "L log entries of two words: address 16, ValidFrom 24, ValidTill 24; then the old data." This is the first word.
+-- request 9/13: "A log entry's first word is address 16, ValidTill 40, span 8, where span is ValidTill − ValidFrom."
 abbrev pub entryPacking : Packing Entry
 entryPacking = record {
-  widths = addressBits ∷ epochBits ∷ epochBits ∷ [];
-  fields = λ e. e .address ∷ e .from ∷ e .till ∷ [];
-  of = λ vs. record { address = getD vs 0 0; from = getD vs 1 0; till = getD vs 2 0 };
+  widths = addressBits ∷ epochBits ∷ 8 ∷ [];
+  fields = λ e. e .address ∷ e .till ∷ e .span ∷ [];
+  of = λ vs. record { address = getD vs 0 0; till = getD vs 1 0; span = getD vs 2 0 };
 }
 
 abbrev pub encodeEntry : Entry → ℕ
@@ -77,8 +77,12 @@ decodeEntry = decode entryPacking
 
 pub record EntryFits (e : Entry) : Type 0 where
   pub address : e .address < 2 ^ addressBits
-  pub from : e .from < 2 ^ epochBits
   pub till : e .till < 2 ^ epochBits
+  pub span : e .span < 2 ^ 8
+
+-- "only spans 1 to 16 arise; another, or one above its ValidTill, makes an entry improper"
+unfoldable pub formed : Entry → Bool
+formed e = leb 1 (e .span) && leb (e .span) mostAhead && leb (e .span) (e .till)
 
 -- A flag as a field of one bit has it.
 abbrev pub bit : Bool → ℕ
@@ -89,7 +93,7 @@ pub record IsBit (flag : Bool) (r : ℕ) : Type 0 where
   pub is : r ≡ bit flag
   pub below : r < 2 ^ 1
 
--- "per slot a slot word (valid 1, dirty 1, address 16, tag 24, zero 22)"
+-- "per slot a slot word (valid 1, dirty 1, address 16, tag .., zero ..)": request 9/13, a tag of 40 bits and "6 zero bits"
 abbrev pub slotPacking : Packing Slot
 slotPacking = record {
   widths = 1 ∷ 1 ∷ addressBits ∷ epochBits ∷ spareBits ∷ [];

@@ -5,7 +5,7 @@ mod word_bytes;
 ghost use Rattle.layout.specs.Words.{Decoded};
 ghost use Rattle.layout.specs.Words.{encodeControl, decodeControl, ControlFits};
 ghost use Rattle.layout.specs.Words.{encodeShape, decodeShape, ShapeFits, OwnLines};
-ghost use Rattle.layout.specs.Words.{encodeEntry, decodeEntry, EntryFits};
+ghost use Rattle.layout.specs.Words.{encodeEntry, decodeEntry, EntryFits, formed};
 ghost use Rattle.layout.specs.Words.{encodeSlot, decodeSlot, SlotFits, IsBit};
 ghost use Rattle.layout.specs.SlotTests.{AddressOf, slotForm, IsDirtyForm, isLine};
 ghost use Rattle.layout.specs.Words.{encodeRecord, decodeRecord, RecordFits};
@@ -21,17 +21,19 @@ pub use word_bytes::with_byte;
 // Widths in bits.
 pub const WORD_BITS: u32 = 64;
 
-const EPOCH_BITS: u32 = 24;
+const EPOCH_BITS: u32 = 40;
 
 const ADDRESS_BITS: u32 = 16;
 
-const RING_BITS: u32 = 20;
+const SPAN_BITS: u32 = 8;
+
+const RING_BITS: u32 = 12;
 
 const SIZE_BITS: u32 = 20;
 
 const FLAG_BITS: u32 = 1;
 
-const SPARE_BITS: u32 = 22;
+const SPARE_BITS: u32 = 6;
 
 const RECORD_SPARE_BITS: u32 = 45;
 
@@ -39,6 +41,8 @@ const RECORD_SPARE_BITS: u32 = 45;
 const EPOCHS: u64 = 1 << EPOCH_BITS;
 
 pub const ADDRESSES: u64 = 1 << ADDRESS_BITS;
+
+const SPANS: u64 = 1 << SPAN_BITS;
 
 const PLACES: u64 = 1 << RING_BITS;
 
@@ -53,10 +57,12 @@ const RECORD_SPARES: u64 = 1 << RECORD_SPARE_BITS;
 // Limits.
 pub const LAST_EPOCH: u64 = EPOCHS - 1;
 
-pub const BOARD_VERSION: u64 = 0;
+pub const BOARD_VERSION: u64 = 1;
 
-// Of the log's entries as well.
 pub const MOST_LINES: u64 = 65536;
+
+// The most that the control word's length can tell.
+pub const MOST_ENTRIES: u64 = PLACES - 1;
 
 // Slots stand in sets of so many.
 pub const WAYS: usize = 4;
@@ -195,26 +201,25 @@ impl Shape {
         self.version * SHAPE_VERSION + self.lines * SHAPE_LINES + self.entries
     }
 
-    // The number of lines, or more than any board has where the version is another: so one test is enough for both.
-    pub fn own_lines(self) -> u64
-        requires { ⌜ ShapeFits self ⌝ }
-        ensures { λ r. ⌜ OwnLines self r ⌝ }
+    // The number of lines, or more than any board has where the version is another: so one test is enough for both. A lower version wraps round.
+    pub fn own_lines(word: u64) -> u64
+        ensures { λ r. ⌜ OwnLines (decodeShape word) r ⌝ }
     {
-        self.version * SIZES + self.lines
+        std::num::wrapping_sub_u64(word / SHAPE_LINES, BOARD_VERSION * SIZES)
     }
 }
 
-// The first word of an undo entry: the old data was that of the line at address from epoch `from` on (ValidFrom)
-// until epoch `till`, that one not included (ValidTill).
+// The first word of an undo entry: the old data was that of the line at address until epoch `till`, that one not included
+// (ValidTill), and from so many epochs before it on as the span says (ValidFrom is till - span).
 pub struct Entry {
     pub address: u64,
-    pub from: u64,
     pub till: u64,
+    pub span: u64,
 }
 
-const ENTRY_FROM: u64 = EPOCHS;
+const ENTRY_TILL: u64 = SPANS;
 
-const ENTRY_ADDRESS: u64 = ENTRY_FROM * EPOCHS;
+const ENTRY_ADDRESS: u64 = ENTRY_TILL * EPOCHS;
 
 impl Entry {
     pub fn decode(word: u64) -> Entry
@@ -222,8 +227,8 @@ impl Entry {
     {
         Entry {
             address: word / ENTRY_ADDRESS,
-            from: word / ENTRY_FROM % EPOCHS,
-            till: word % EPOCHS,
+            till: word / ENTRY_TILL % EPOCHS,
+            span: word % SPANS,
         }
     }
 
@@ -231,17 +236,21 @@ impl Entry {
         requires { ⌜ EntryFits self ⌝ }
         ensures { λ r. ⌜ r ≡ encodeEntry self ⌝ }
     {
-        self.address * ENTRY_ADDRESS + self.from * ENTRY_FROM + self.till
+        self.address * ENTRY_ADDRESS + self.till * ENTRY_TILL + self.span
+    }
+
+    // Whether the span is one that an entry can have. One comparison for both its ends: a span of 0 wraps round to more than the most.
+    pub fn is_formed(self) -> bool
+        ensures { λ r. ⌜ r ≡ formed self ⌝ }
+    {
+        if std::num::wrapping_sub_u64(self.span, 1) >= MOST_AHEAD {
+            return false;
+        }
+        self.span <= self.till
     }
 }
 
-// Tests on an entry's first word that is not decoded, for loops over entries: words compare as their topmost fields do,
-// and a field is made the topmost by one shift, which drops those above it.
-
-// How far below the word's top a field stands.
-const FROM_TO_TOP: u32 = ADDRESS_BITS;
-
-const TILL_TO_TOP: u32 = WORD_BITS - EPOCH_BITS;
+// Tests on an entry's first word that is not decoded, for loops over entries: words compare as their topmost fields do.
 
 pub fn is_address_below(word: u64, lines: u64) -> bool
     requires { ⌜ 1 ≤ lines ⌝ }
@@ -251,18 +260,26 @@ pub fn is_address_below(word: u64, lines: u64) -> bool
     word <= (lines - 1) * ENTRY_ADDRESS + (ENTRY_ADDRESS - 1)
 }
 
+// ValidTill is made the topmost field by one shift, which drops the address. What one more in it then adds to the word.
+const TILL_TO_TOP: u32 = ADDRESS_BITS;
+
+const TOP_TILL: u64 = 1 << (WORD_BITS - EPOCH_BITS);
+
 pub fn is_till_at_most(word: u64, epoch: u64) -> bool
     requires { ⌜ epoch < 2 ^ epochBits ⌝ }
     ensures { λ r. ⌜ r ≡ leb (decodeEntry word .till) epoch ⌝ }
 {
-    word << TILL_TO_TOP <= epoch << TILL_TO_TOP
+    word << TILL_TO_TOP <= epoch * TOP_TILL + (TOP_TILL - 1)
 }
 
-// Whether ValidFrom is below ValidTill.
-pub fn is_range(word: u64) -> bool
-    ensures { λ r. ⌜ r ≡ ltb (decodeEntry word .from) (decodeEntry word .till) ⌝ }
+// What `Entry::is_formed` tells: the span is the word's last field, and at ValidTill's place it is not above the word there.
+pub fn is_formed_word(word: u64) -> bool
+    ensures { λ r. ⌜ r ≡ formed (decodeEntry word) ⌝ }
 {
-    word << FROM_TO_TOP < word << TILL_TO_TOP
+    if std::num::wrapping_sub_u64(word, 1) % SPANS >= MOST_AHEAD {
+        return false;
+    }
+    word % SPANS * TOP_TILL <= word << TILL_TO_TOP
 }
 
 // The slot word: whether the slot holds a line and whether that is dirty, the line's address, the epoch of its last

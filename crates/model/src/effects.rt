@@ -269,9 +269,11 @@ pub fn scanned(board: &mut [u64], work: &mut [u64], run: Run) -> Run {
 }
 
 // Entry i of the log: "each entry with ValidFrom <= P < ValidTill has its data stored to its line".
+// "span is ValidTill - ValidFrom", so ValidFrom is the span below ValidTill.
 fn entry_restored(board: &mut [u64], run: Run, header: Header, i: u64) -> Run {
     let entry = entry_at(board, log_place(header, i));
-    if entry.valid_from > header.persisted || header.persisted >= entry.valid_till {
+    let valid_from = difference(entry.valid_till, entry.span);
+    if valid_from > header.persisted || header.persisted >= entry.valid_till {
         return run;
     }
     let place = line_place(header.entries, entry.address);

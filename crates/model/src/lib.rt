@@ -2,14 +2,17 @@
 // boards" and the requests of document 02 alone, for a test program to compare with the library.
 // Each call makes its tests in the paper's order and then works on the lent words, which are decoded
 // where they are asked for. The comments quote the paper.
+mod conversion;
 mod effects;
 mod filter;
+mod old_words;
 mod reference_machine;
 mod refusals;
 mod registers;
 mod sets;
 mod words;
 
+pub use conversion::convert;
 use effects::*;
 pub use reference_machine::Reference;
 use refusals::*;
@@ -30,7 +33,7 @@ pub struct Answer {
 
 // An answer that reports no store. "Numbers 1 to 11 return value 0 (3 excepted), 0 stores, registers
 // as given (power-up: all zero), both memories as given."
-fn answered(number: u64, value: u64, registers: Registers) -> Answer {
+pub fn answered(number: u64, value: u64, registers: Registers) -> Answer {
     Answer {
         number,
         value,

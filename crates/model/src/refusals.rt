@@ -64,8 +64,9 @@ pub fn work_good(work: &[u64]) -> bool {
     work.len() as u64 == filter_place(slots, FILTER_WORDS)
 }
 
-// Rows 1 and 2. "1 shape: fewer than 2 board words; 24 bits not zero; N or L out of range; wrong word
-// count; P = 2^24 - 1; start >= L; length > L". A board of fewer than 2 words has no N.
+// Rows 1 and 2. "1 shape: fewer than 2 board words; 24 bits not zero", which "hold 1 instead of 0" now;
+// "N or L out of range; wrong word count; P = 2^24 - 1", which reads 2^40 - 1; "start >= L;
+// length > L". A board of fewer than 2 words has no N.
 pub fn memory_refusal(board: &[u64], work: &[u64]) -> u64 {
     let header = header_of(board);
     if header.leading != SHAPE_LEADING || header.persisted == LAST_EPOCH {
@@ -84,9 +85,13 @@ pub fn memory_refusal(board: &[u64], work: &[u64]) -> u64 {
 }
 
 // "A proper log entry has address < N, ValidFrom < ValidTill"; "A proper buffered entry has address <
-// N and ValidFrom < ValidTill".
+// N and ValidFrom < ValidTill". "only spans 1 to 16 arise; another, or one above its ValidTill, makes an
+// entry improper": so ValidFrom is no less than 0, and below ValidTill.
 fn entry_proper(entry: Entry, lines: u64) -> bool {
-    entry.address < lines && entry.valid_from < entry.valid_till
+    if entry.span < LEAST_SPAN || entry.span > MOST_SPAN {
+        return false;
+    }
+    entry.address < lines && entry.span <= entry.valid_till
 }
 
 // "3 entry: a log entry is not proper; value is i of the first, oldest counted 0": that i, or the
@@ -112,10 +117,10 @@ pub fn first_improper(board: &[u64]) -> u64 {
     length
 }
 
-// "Proper registers: P < s <= 2^24 - 1, s - P <= 16, b <= 31, c <= S, c = 0 where s = P + 1,
-// length + b <= L." "Registers are also improper when the count exceeds S." "Registers are proper with
-// target 0 and c = 0, or with P < target < s": outside a pass, or in one. Where s = P + 1 there is no
-// target between them, so that c is 0 by this rule.
+// "Proper registers: P < s <= 2^24 - 1", now 2^40 - 1, "s - P <= 16, b <= 31, c <= S, c = 0 where
+// s = P + 1, length + b <= L." "Registers are also improper when the count exceeds S." "Registers are
+// proper with target 0 and c = 0, or with P < target < s": outside a pass, or in one. Where s = P + 1
+// there is no target between them, so that c is 0 by this rule.
 fn registers_proper(board: &[u64], work: &[u64], registers: Registers) -> bool {
     let header = header_of(board);
     let slots = slot_count(work);
@@ -172,9 +177,9 @@ fn buffer_refusal(board: &[u64], work: &[u64], registers: Registers) -> u64 {
     number
 }
 
-// "A proper slot word is zero, or is valid with the 22 bits zero, address < N, address mod S its
-// slot, and either clean with tag 0 or dirty with P < tag <= s." By request 6/13 "address a belongs
-// in any slot of set a mod S/4, and 6 tests that".
+// "A proper slot word is zero, or is valid with the 22 bits zero", of which "6 zero bits" are kept,
+// "address < N, address mod S its slot, and either clean with tag 0 or dirty with P < tag <= s." By
+// request 6/13 "address a belongs in any slot of set a mod S/4, and 6 tests that".
 fn slot_proper(board: &[u64], work: &[u64], registers: Registers, k: u64) -> bool {
     let header = header_of(board);
     let slot = slot_at(work, k);
@@ -289,7 +294,8 @@ fn epoch_refusal(board: &[u64], work: &[u64], registers: Registers) -> u64 {
     buffer_refusal(board, work, registers)
 }
 
-// Commit: rows 1, 2, 4, 7 and 14; then "9 waiting: s - P = 16"; "10 last: s = 2^24 - 1".
+// Commit: rows 1, 2, 4, 7 and 14; then "9 waiting: s - P = 16"; "10 last: s = 2^24 - 1", now
+// 2^40 - 1.
 pub fn commit_refusal(board: &[u64], work: &[u64], registers: Registers) -> u64 {
     let number = epoch_refusal(board, work, registers);
     if number != OK {

@@ -1,18 +1,24 @@
-// The packed words of the two memories, by the paper's "The two memories": every width, mask, place
-// and limit of the layout stands here, and nowhere else.
+// The packed words of the two memories, by the paper's "The two memories" and by document 02's request
+// 9/13, "Epochs beyond half a year": every width, mask, place and limit of the layout stands here, and
+// nowhere else. Of the old layout only what is different stands in `old_words`.
 ghost use Prim.Native.Nat.{_<_};
 
-// "EID means epoch number, 0 to 2^24 - 1."
-pub const LAST_EPOCH: u64 = 0xFFFFFF;
+// "EID means epoch number, 0 to 2^24 - 1", where "Every 2^24 in 01 reads 2^40".
+pub const LAST_EPOCH: u64 = 0xFFFFFFFFFF;
 
 // How far an epoch is ahead of P at most: "s - P <= 16" of the proper registers, and "ValidTill <=
 // P + 16" of a proper log entry.
 pub const MOST_AHEAD: u64 = 16;
 
-// "N lines, 1 to 65,536. L log entries, 1 to 65,536."
+// "only spans 1 to 16 arise; another .. makes an entry improper".
+pub const LEAST_SPAN: u64 = 1;
+
+pub const MOST_SPAN: u64 = 16;
+
+// "N lines, 1 to 65,536." "so L is 1 to 4,095".
 pub const MOST_LINES: u64 = 65536;
 
-pub const MOST_ENTRIES: u64 = 65536;
+pub const MOST_ENTRIES: u64 = 4095;
 
 // "Make S a multiple of 4, from 4 to 256"; "Set g is slots 4g to 4g + 3".
 pub const WAYS: u64 = 4;
@@ -43,8 +49,8 @@ pub const SHAPE_PLACE: u64 = 1;
 
 const LOG_PLACE: u64 = 2;
 
-// "Shape word: zero 24".
-pub const SHAPE_LEADING: u64 = 0;
+// "The shape word's first 24 bits hold 1 instead of 0."
+pub const SHAPE_LEADING: u64 = 1;
 
 // A field of one bit, set and not.
 pub const SET: u64 = 1;
@@ -64,23 +70,25 @@ pub const DATA_WORD: u64 = 1;
 
 // "Fields are packed most significant bit first, widths in bits": the masks of the widths, and
 // where each field begins, counted from the least significant bit.
-const EPOCH_MASK: u64 = 0xFFFFFF;
+const EPOCH_MASK: u64 = 0xFFFFFFFFFF;
 
-const LOG_MASK: u64 = 0xFFFFF;
+const LOG_MASK: u64 = 0xFFF;
 
 const SIZE_MASK: u64 = 0xFFFFF;
 
 const ADDRESS_MASK: u64 = 0xFFFF;
 
+const SPAN_MASK: u64 = 0xFF;
+
 const SHAPE_LEADING_MASK: u64 = 0xFFFFFF;
 
-const SLOT_ZERO_MASK: u64 = 0x3FFFFF;
+const SLOT_ZERO_MASK: u64 = 0x3F;
 
 const BIT_MASK: u64 = 1;
 
-const PERSISTED_SHIFT: u64 = 40;
+const PERSISTED_SHIFT: u64 = 24;
 
-const START_SHIFT: u64 = 20;
+const START_SHIFT: u64 = 12;
 
 const LENGTH_SHIFT: u64 = 0;
 
@@ -92,9 +100,9 @@ const ENTRIES_SHIFT: u64 = 0;
 
 const ENTRY_ADDRESS_SHIFT: u64 = 48;
 
-const VALID_FROM_SHIFT: u64 = 24;
+const VALID_TILL_SHIFT: u64 = 8;
 
-const VALID_TILL_SHIFT: u64 = 0;
+const SPAN_SHIFT: u64 = 0;
 
 const VALID_SHIFT: u64 = 63;
 
@@ -102,7 +110,7 @@ const DIRTY_SHIFT: u64 = 62;
 
 const SLOT_ADDRESS_SHIFT: u64 = 46;
 
-const TAG_SHIFT: u64 = 22;
+const TAG_SHIFT: u64 = 6;
 
 const SLOT_ZERO_SHIFT: u64 = 0;
 
@@ -140,13 +148,13 @@ pub fn zero_from(words: &mut [u64], place: u64) {
 }
 
 // A field of a packed word.
-fn field(word: u64, shift: u64, mask: u64) -> u64
+pub fn field(word: u64, shift: u64, mask: u64) -> u64
     requires { ⌜ shift < 64 ⌝ }
 {
     (word >> shift) & mask
 }
 
-// "Control word: P 24, log start 20, log length 20." "Shape word: zero 24, N 20, L 20."
+// "The control word is P 40, start 12, length 12". "Shape word: .. 24, N 20, L 20."
 pub struct Header {
     pub persisted: u64,
     pub start: u64,
@@ -178,11 +186,11 @@ pub fn shape_word(lines: u64, entries: u64) -> u64 {
     leading | (lines << LINES_SHIFT) | (entries << ENTRIES_SHIFT)
 }
 
-// "L log entries of two words: address 16, ValidFrom 24, ValidTill 24; then the old data."
+// "A log entry's first word is address 16, ValidTill 40, span 8"; "then the old data".
 pub struct Entry {
     pub address: u64,
-    pub valid_from: u64,
     pub valid_till: u64,
+    pub span: u64,
     pub old_data: u64,
 }
 
@@ -191,18 +199,21 @@ pub fn entry_at(words: &[u64], place: u64) -> Entry {
     let word = word_at(words, place);
     Entry {
         address: field(word, ENTRY_ADDRESS_SHIFT, ADDRESS_MASK),
-        valid_from: field(word, VALID_FROM_SHIFT, EPOCH_MASK),
         valid_till: field(word, VALID_TILL_SHIFT, EPOCH_MASK),
+        span: field(word, SPAN_SHIFT, SPAN_MASK),
         old_data: word_at(words, sum(place, DATA_WORD)),
     }
 }
 
+// "span is ValidTill - ValidFrom".
 pub fn entry_word(address: u64, valid_from: u64, valid_till: u64) -> u64 {
-    let range = (valid_from << VALID_FROM_SHIFT) | (valid_till << VALID_TILL_SHIFT);
+    let span = difference(valid_till, valid_from);
+    let range = (valid_till << VALID_TILL_SHIFT) | (span << SPAN_SHIFT);
     (address << ENTRY_ADDRESS_SHIFT) | range
 }
 
-// "per slot a slot word (valid 1, dirty 1, address 16, tag 24, zero 22) and a data word".
+// "per slot a slot word (valid 1, dirty 1, address 16, tag ..) and a data word": the tag has 40 bits,
+// and "The slot word keeps 6 zero bits."
 pub struct Slot {
     pub valid: u64,
     pub dirty: u64,
@@ -225,7 +236,7 @@ pub fn slot_at(work: &[u64], k: u64) -> Slot {
     }
 }
 
-// The word of a slot that holds a line: "valid with the 22 bits zero".
+// The word of a slot that holds a line: valid, with the 6 bits zero.
 pub fn slot_word(dirty: u64, address: u64, tag: u64) -> u64 {
     let flags = (SET << VALID_SHIFT) | (dirty << DIRTY_SHIFT);
     flags | (address << SLOT_ADDRESS_SHIFT) | (tag << TAG_SHIFT)

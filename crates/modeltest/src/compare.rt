@@ -1,15 +1,17 @@
-// A call made on both sides, what differs, and which numbers each call has answered.
+// A call made on both sides, what differs, and what has been seen.
 use crate::print;
 use crate::random::sum;
+use crate::rows::*;
 use crate::sides::*;
 
 // Of how many differences each is printed; all are counted.
 const SHOWN: u64 = 5;
 
-// The numbers that are counted are below this; an answer with another one is a difference.
-pub const NUMBERS: u64 = 32;
+pub const OK: u64 = 0;
 
-const COUNTS: usize = KINDS as usize * NUMBERS as usize;
+pub const SHAPE_REFUSED: u64 = 1;
+
+pub const ENTRY_REFUSED: u64 = 3;
 
 pub const CUT: u64 = 12;
 
@@ -23,6 +25,7 @@ pub enum Part {
     DirtySlots,
     Persisted,
     Line,
+    SecondMemory,
 }
 
 // Two numbers that ought to be the same: what the library has, and what the model or the reference machine
@@ -34,13 +37,14 @@ pub struct Difference {
     pub wanted: u64,
 }
 
-// What the test has seen: calls, differences, the most stores of a call that is no power-up, and how
-// often each call has answered each number.
+// What the test has seen: calls, those of them on boards that the converter made, differences, the most stores
+// of a call that is no power-up, and of each row its numbers, each a bit of one word.
 pub struct Score {
     pub calls: u64,
+    pub on_converted: u64,
     pub differences: u64,
     pub most_stores: u64,
-    pub answers: [u64; COUNTS],
+    pub rows: [u64; ROWS as usize],
 }
 
 pub struct Step {
@@ -52,20 +56,30 @@ pub struct Step {
 pub fn new_score() -> Score {
     Score {
         calls: 0,
+        on_converted: 0,
         differences: 0,
         most_stores: 0,
-        answers: [0; COUNTS],
+        rows: [0; ROWS as usize],
     }
 }
 
-fn place_of(kind: u64, number: u64) -> u64 {
-    kind % KINDS * NUMBERS + number % NUMBERS
+// Whether a row has a number.
+pub fn is_seen(score: Score, row: u64, number: u64) -> bool {
+    let at = index(row, ROWS as usize);
+    score.rows[at] & (1 << number % NUMBERS) != 0
 }
 
-// How often a call has answered a number.
-pub fn answered(score: Score, kind: u64, number: u64) -> u64 {
-    let at = index(place_of(kind, number), COUNTS);
-    score.answers[at]
+// The score with a number more in a row. A number past those of a row is a difference.
+pub fn seen(score: Score, row: u64, number: u64) -> Score {
+    let mut next = score;
+    if number >= NUMBERS {
+        next.differences = sum(score.differences, 1);
+        return next;
+    }
+    let at = index(row, ROWS as usize);
+    let numbers = score.rows[at];
+    next.rows[at] = numbers | (1 << number % NUMBERS);
+    next
 }
 
 pub fn between(part: Part, place: u64, found: u64, wanted: u64) -> Difference {
@@ -109,7 +123,7 @@ pub fn between_words(part: Part, x: &[u64], y: &[u64]) -> Difference {
     between(part, at as u64, x[at], y[at])
 }
 
-fn between_outcomes(x: Outcome, y: Outcome) -> Difference {
+pub fn between_outcomes(x: Outcome, y: Outcome) -> Difference {
     let found = x.registers;
     let wanted = y.registers;
     if x.number != y.number {
@@ -142,6 +156,12 @@ fn between_replies(x: Reply, y: Reply) -> Difference {
     between_words(Part::Work, &work, &model_work)
 }
 
+fn with_difference(score: Score) -> Score {
+    let mut next = score;
+    next.differences = sum(score.differences, 1);
+    next
+}
+
 // The score with a difference more, where there is one.
 pub fn noted(score: Score, s: State, c: Call, d: Difference) -> Score {
     if is_same(d) {
@@ -150,23 +170,25 @@ pub fn noted(score: Score, s: State, c: Call, d: Difference) -> Score {
     if score.differences < SHOWN {
         print::difference_line(score.calls, s, c, d);
     }
-    let mut next = score;
-    next.differences = sum(score.differences, 1);
-    next
+    with_difference(score)
 }
 
-// One answer more. A number past those that are counted is a difference.
-fn counted(score: Score, c: Call, o: Outcome) -> Score {
-    let mut next = score;
-    next.calls = sum(score.calls, 1);
-    if o.number >= NUMBERS {
-        next.differences = sum(score.differences, 1);
-        return next;
+// The same of a call whose board is not a state's: of how many words it is lent.
+pub fn noted_on(score: Score, kind: u64, board_words: u64, d: Difference) -> Score {
+    if is_same(d) {
+        return score;
     }
-    let at = index(place_of(c.kind, o.number), COUNTS);
-    let seen = score.answers[at];
-    next.answers[at] = sum(seen, 1);
-    if c.kind != POWER_UP {
+    if score.differences < SHOWN {
+        print::board_line(score.calls, kind, board_words, d);
+    }
+    with_difference(score)
+}
+
+// One answer more.
+pub fn counted(score: Score, kind: u64, o: Outcome) -> Score {
+    let mut next = seen(score, kind, o.number);
+    next.calls = sum(score.calls, 1);
+    if kind != POWER_UP {
         if o.stores > score.most_stores {
             next.most_stores = o.stores;
         }
@@ -193,6 +215,6 @@ pub fn compared(s: State, c: Call, score: Score) -> Step {
             registers,
         },
         outcome,
-        score: counted(judged, c, outcome),
+        score: counted(judged, c.kind, outcome),
     }
 }

@@ -5,10 +5,7 @@ use crate::random::sum;
 use crate::register_words::*;
 use crate::sides::State;
 
-pub const EDGES: u64 = 26;
-
-// How far s and an entry's ValidTill may be ahead of P.
-const MOST_AHEAD: u64 = 16;
+pub const EDGES: u64 = 30;
 
 fn size_edge(s: State, n: u64) -> u64 {
     let lines = lines_of(s.board[SHAPE]);
@@ -28,6 +25,10 @@ fn size_edge(s: State, n: u64) -> u64 {
         22 => LAST_EPOCH,
         23 => MOST_LINES,
         24 => MOST_LINES + 1,
+        25 => MOST_ENTRIES,
+        26 => MOST_ENTRIES + 1,
+        27 => MOST_SPAN,
+        28 => MOST_SPAN + 1,
         _ => 0xFFFFFFFFFFFFFFFF,
     }
 }

@@ -4,15 +4,23 @@
 use crate::compare::*;
 use crate::damage::damaged;
 use crate::damage::filled;
+use crate::faults::BY_CALL;
+use crate::faults::BY_CUT;
 use crate::lists::*;
+use crate::old_lists::*;
+use crate::old_packing::OLD_EPOCHS;
+use crate::old_packing::is_old;
 use crate::packing::*;
 use crate::random::*;
 use crate::register_words::*;
+use crate::rows::*;
 use crate::sides::*;
+use crate::spans::with_any_span;
 use model::Reference;
 
 pub struct History {
     pub list: List,
+    pub is_converted: bool,
     pub state: State,
     pub reference: Reference,
     pub score: Score,
@@ -29,24 +37,11 @@ fn fed(reference: Reference, c: Call, o: Outcome) -> Reference {
     }
 }
 
-// The last of a board's words against so many lines.
-fn between_last(board: &[u64], words: u64, lines: &[u64], count: u64) -> Difference {
-    let end = at_most(words, board.len());
-    let start = end - at_most(count, end);
-    between_words(Part::Line, &board[start..end], lines)
-}
-
-// The lines of a board against those of the reference machine.
-fn between_lines(s: State, reference: Reference) -> Difference {
-    let board = s.board;
-    let lines = reference.lines;
-    between_last(&board, s.board_words, &lines, reference.line_count)
-}
-
 fn between_accepted(s: State, reference: Reference, c: Call, o: Outcome) -> Difference {
+    let board = s.board;
     let kind = c.kind;
     match kind {
-        POWER_UP => between_lines(s, reference),
+        POWER_UP => between_lines(board, s.board_words, reference),
         LOAD => between(Part::Line, c.address, o.value, reference.line(c.address)),
         TALLY => between(Part::DirtySlots, 0, o.value, dirty_slots(s)),
         _ => no_difference(),
@@ -81,10 +76,31 @@ fn between_histories(s: State, reference: Reference, c: Call, o: Outcome) -> Dif
     if !is_same(counts) {
         return counts;
     }
-    if o.number != 0 {
+    if o.number != OK {
         return no_difference();
     }
     between_accepted(s, reference, c, o)
+}
+
+// An accepted call is about an epoch of `mark` where P was below it, and s is now not.
+fn marked_at(score: Score, n: u64, kind: u64, persisted: u64, epoch: u64) -> Score {
+    let at = mark(n);
+    if persisted >= at || at > epoch {
+        return score;
+    }
+    seen(score, sum(MARKS_ROW, n), kind)
+}
+
+fn marked(score: Score, kind: u64, persisted: u64, o: Outcome) -> Score {
+    let epoch = o.registers[EPOCH];
+    let mut next = score;
+    if o.number != OK {
+        return next;
+    }
+    for n in 0..MARKS {
+        next = marked_at(next, n, kind, persisted, epoch);
+    }
+    next
 }
 
 // One call more of a list.
@@ -93,17 +109,20 @@ fn watched(h: History, c: Call) -> History {
     let before = h.state;
     let old_reference = h.reference;
     let old_score = h.score;
+    let persisted = persisted_of(before.board[CONTROL]);
     let done = compared(before, c, old_score);
     let state = done.state;
     let outcome = done.outcome;
     let score = done.score;
     let reference = fed(old_reference, c, outcome);
     let found = between_histories(state, reference, c, outcome);
+    let judged = noted(score, before, c, found);
     History {
         list,
+        is_converted: h.is_converted,
         state,
         reference,
-        score: noted(score, before, c, found),
+        score: marked(judged, c.kind, persisted, outcome),
     }
 }
 
@@ -124,7 +143,7 @@ fn with_score(h: History, score: Score) -> History {
 fn from_epoch(h: History, persisted: u64) -> History {
     let mut state = h.state;
     let mut reference = h.reference;
-    state.board[CONTROL] = control_word(persisted);
+    state.board[CONTROL] = control_word(persisted, 0, 0);
     reference.persisted_epoch = persisted;
     reference.running_epoch = sum(persisted, 1);
     let mut next = h;
@@ -145,6 +164,7 @@ pub fn opened(n: u64, score: Score) -> History {
     };
     let bare = History {
         list: l,
+        is_converted: false,
         state,
         reference: Reference::fresh(l.lines),
         score,
@@ -175,12 +195,23 @@ fn lent(l: List, s: State, c: Call, seed: u64) -> State {
 }
 
 // Behind a cut: a power-up, which brings the copy of the persisted epoch.
-fn recovered(cut: Step, wanted: Reference, score: Score) -> Score {
-    let s = cut.state;
+fn recovered(s: State, wanted: Reference, score: Score) -> Score {
     let done = compared(s, plain(POWER_UP), score);
     let state = done.state;
     let judged = done.score;
-    noted(judged, s, plain(POWER_UP), between_lines(state, wanted))
+    let board = state.board;
+    let found = between_lines(board, state.board_words, wanted);
+    noted(judged, s, plain(POWER_UP), found)
+}
+
+// Now and then the board is converted instead, which brings it too.
+fn behind_cut(cut: Step, wanted: Reference, score: Score) -> Score {
+    let s = cut.state;
+    let seed = score.calls;
+    if once_in(seed, IS_CONVERTED, 4) {
+        return as_left(s, wanted, BY_CUT, seed, score);
+    }
+    recovered(s, wanted, score)
 }
 
 // More than any call of these boards owes.
@@ -195,7 +226,7 @@ fn cuts(s: State, c: Call, wanted: Reference, score: Score) -> Score {
         if done.outcome.number != CUT {
             return after;
         }
-        next = recovered(done, wanted, after);
+        next = behind_cut(done, wanted, after);
     }
     next
 }
@@ -220,9 +251,16 @@ fn probes(l: List, s: State, seed: u64, score: Score) -> Score {
     next
 }
 
+// The probes, a span of an entry, and a conversion.
+fn beside(l: List, s: State, wanted: Reference, seed: u64, score: Score) -> Score {
+    let with_probes = probes(l, s, seed, score);
+    let with_span = with_any_span(s, seed, with_probes);
+    any_conversion(s, wanted, seed, with_span)
+}
+
 // A turn of a list: calls are made from states that are its own but for some damage; then its next call is
 // made under every allowance that cuts it, and then as it is.
-pub fn turn(h: History, seed: u64) -> History {
+fn turned(h: History, seed: u64) -> History {
     let l = h.list;
     let old = h.state;
     let reference = h.reference;
@@ -230,7 +268,71 @@ pub fn turn(h: History, seed: u64) -> History {
     let c = next_call(l, old, seed);
     let state = lent(l, old, c, seed);
     let restarted = reference.power_up(0);
-    let with_probes = probes(l, old, seed, score);
+    let with_probes = beside(l, old, restarted, seed, score);
     let with_cuts = cuts(state, c, restarted, with_probes);
     watched(with_score(with_state(h, state), with_cuts), c)
+}
+
+// The history on the board that the converter has made, which has to be powered up. Its epochs are those of
+// before modulo 2^24, and the reference machine's are too: their copies stay where they are.
+fn on_board(h: History, board: [u64; BOARD_ROOM]) -> History {
+    let l = h.list;
+    let mut state = h.state;
+    let old_reference = h.reference;
+    let mut reference = old_reference.power_up(OK);
+    let persisted = reference.persisted_epoch % OLD_EPOCHS;
+    state.board = board;
+    state.work_words = work_words(l.slots);
+    reference.persisted_epoch = persisted;
+    reference.running_epoch = sum(persisted, 1);
+    let mut next = h;
+    next.is_converted = true;
+    next.state = state;
+    next.reference = reference;
+    next
+}
+
+// A list goes on with the board that the converter makes of its own.
+fn moved(h: History, seed: u64) -> History {
+    let s = h.state;
+    let reference = h.reference;
+    let score = h.score;
+    let board = s.board;
+    if !is_old(board) {
+        return h;
+    }
+    let done = left_converted(s, reference.power_up(OK), BY_CALL, seed, score);
+    let after = done.score;
+    let new_board = done.board;
+    if done.outcome.number != OK {
+        return with_score(h, after);
+    }
+    watched(on_board(with_score(h, after), new_board), plain(POWER_UP))
+}
+
+// One list in three is converted, now and then.
+fn moved_or_not(h: History, seed: u64) -> History {
+    let l = h.list;
+    if once_in(l.seed, MOVES, 3) && once_in(seed, IS_MOVED, 50) {
+        return moved(h, seed);
+    }
+    h
+}
+
+fn calls_of(h: History) -> u64 {
+    let score = h.score;
+    score.calls
+}
+
+// The next turn of a list. The calls are counted that are made on boards from the converter.
+pub fn turn(h: History, seed: u64) -> History {
+    let ready = moved_or_not(h, seed);
+    let next = turned(ready, seed);
+    let mut score = next.score;
+    if !next.is_converted {
+        return next;
+    }
+    let made = difference(calls_of(next), calls_of(ready));
+    score.on_converted = sum(score.on_converted, made);
+    with_score(next, score)
 }

@@ -17,16 +17,18 @@ pub struct List {
     pub choices: u64,
 }
 
-// The P that a list starts from: one with a carry into bit 8, 16 or the uppermost among the next epochs, one
-// near the last epoch, or one of the first.
+// The P that a list starts from: one with a carry into bit 8, 16, 24, 32 or the uppermost among the next
+// epochs, one near the last epoch, or one of the first.
 fn started(seed: u64) -> u64 {
     let behind = below(seed, EPOCHS_BEHIND, 20);
-    match below(seed, START, 8) {
+    match below(seed, START, 12) {
         0 => difference(0xFF, behind),
         1 => difference(0xFFFF, behind),
-        2 => difference(LAST_EPOCH / 2, behind),
-        3 | 4 => difference(LAST_EPOCH - 1, behind),
-        5 => behind,
+        2 | 3 => difference(0xFFFFFF, behind),
+        4 => difference(0xFFFFFFFF, behind),
+        5 => difference(LAST_EPOCH / 2, behind),
+        6 | 7 | 8 => difference(LAST_EPOCH - 1, behind),
+        9 => behind,
         _ => 0,
     }
 }
@@ -62,7 +64,7 @@ pub fn list_at(n: u64) -> List {
     match n % 6 {
         0 => sized(seed, lines, sum(1, entries % 8), 1),
         1 | 2 => sized(seed, lines, sum(8, entries), sets),
-        3 => sized(seed, 80, sum(48, entries), 10),
+        3 => sized(seed, 120, sum(48, entries / 2), 10),
         4 => sized(seed, 190, 50, MOST_SETS),
         _ => sized(seed, SHARING_LINES, sum(3, entries % 6), 1),
     }
@@ -183,7 +185,7 @@ pub fn next_call(l: List, s: State, seed: u64) -> Call {
 fn any_kind(seed: u64) -> u64 {
     match below(seed, IS_RARE, 8) {
         0 | 1 => POWER_UP,
-        2 => below(seed, CARD, KINDS),
+        2 => below(seed, CARD, CALL_KINDS),
         _ => chosen(below(seed, CARD, ALL_CHOICES)),
     }
 }

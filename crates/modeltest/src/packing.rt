@@ -25,7 +25,14 @@ pub const MOST_SETS: u64 = 64;
 
 pub const MOST_LINES: u64 = 65536;
 
-pub const LAST_EPOCH: u64 = 0xFFFFFF;
+pub const MOST_ENTRIES: u64 = 4095;
+
+pub const LAST_EPOCH: u64 = 0xFFFFFFFFFF;
+
+// How far s and an entry's ValidTill may be ahead of P, and the longest span of an entry.
+pub const MOST_AHEAD: u64 = 16;
+
+pub const MOST_SPAN: u64 = 16;
 
 // The largest board of a test has 300 words, the largest work memory those of 256 slots. Behind both
 // there is room for more, which no call may touch that is not lent it.
@@ -94,12 +101,17 @@ pub const REGISTER_WORD: u64 = 5;
 // The fields of a word are numbered from its most significant one; past the last one it is meant again.
 pub const MOST_FIELDS: u64 = 5;
 
-fn field_of(shift: u64, mask: u64) -> Field {
-    Field { shift, mask }
+// Control word: P 40, start 12, length 12.
+fn control_field(n: u64) -> Field {
+    match n {
+        0 => field_of(24, 0xFFFFFFFFFF),
+        1 => field_of(12, 0xFFF),
+        _ => field_of(0, 0xFFF),
+    }
 }
 
-// Control word: P 24, start 20, length 20. Shape word: zero 24, N 20, L 20.
-fn counts_field(n: u64) -> Field {
+// Shape word: 1 in 24, N 20, L 20.
+fn shape_field(n: u64) -> Field {
     match n {
         0 => field_of(40, 0xFFFFFF),
         1 => field_of(20, 0xFFFFF),
@@ -107,29 +119,30 @@ fn counts_field(n: u64) -> Field {
     }
 }
 
-// Entry: address 16, ValidFrom 24, ValidTill 24.
+// Entry: address 16, ValidTill 40, span 8.
 fn entry_field(n: u64) -> Field {
     match n {
         0 => field_of(48, 0xFFFF),
-        1 => field_of(24, 0xFFFFFF),
-        _ => field_of(0, 0xFFFFFF),
+        1 => field_of(8, 0xFFFFFFFFFF),
+        _ => field_of(0, 0xFF),
     }
 }
 
-// Slot: valid 1, dirty 1, address 16, tag 24, zero 22.
+// Slot: valid 1, dirty 1, address 16, tag 40, zero 6.
 fn slot_field(n: u64) -> Field {
     match n {
         0 => field_of(63, 1),
         1 => field_of(62, 1),
         2 => field_of(46, 0xFFFF),
-        3 => field_of(22, 0xFFFFFF),
-        _ => field_of(0, 0x3FFFFF),
+        3 => field_of(6, 0xFFFFFFFFFF),
+        _ => field_of(0, 0x3F),
     }
 }
 
 pub fn field_in(word_kind: u64, n: u64) -> Field {
     match word_kind {
-        CONTROL_WORD | SHAPE_WORD => counts_field(n),
+        CONTROL_WORD => control_field(n),
+        SHAPE_WORD => shape_field(n),
         ENTRY_WORD => entry_field(n),
         SLOT_WORD => slot_field(n),
         _ => field_of(0, 0xFFFFFFFFFFFFFFFF),
@@ -146,21 +159,73 @@ pub fn replaced(word: u64, f: Field, value: u64) -> u64 {
     (word & !(f.mask << shift)) | ((value & f.mask) << shift)
 }
 
-// P, by a board's control word.
-pub fn persisted_of(control: u64) -> u64 {
-    value_in(control, counts_field(0))
+pub fn field_of(shift: u64, mask: u64) -> Field {
+    Field { shift, mask }
 }
 
-// The control word of an empty log that starts at the ring's first place.
-pub fn control_word(persisted: u64) -> u64 {
-    replaced(0, counts_field(0), persisted)
+// P, the log's start and its length, by a board's control word.
+pub fn persisted_of(control: u64) -> u64 {
+    value_in(control, control_field(0))
+}
+
+pub fn start_of(control: u64) -> u64 {
+    value_in(control, control_field(1))
+}
+
+pub fn length_of(control: u64) -> u64 {
+    value_in(control, control_field(2))
+}
+
+pub fn control_word(persisted: u64, start: u64, length: u64) -> u64 {
+    let epochs = replaced(0, control_field(0), persisted);
+    let ring = replaced(epochs, control_field(1), start);
+    replaced(ring, control_field(2), length)
+}
+
+// In the first field of a shape word.
+const SHAPE_VERSION: u64 = 1;
+
+pub fn shape_word(lines: u64, entries: u64) -> u64 {
+    let version = replaced(0, shape_field(0), SHAPE_VERSION);
+    let sized = replaced(version, shape_field(1), lines);
+    replaced(sized, shape_field(2), entries)
 }
 
 // N and L, by its shape word.
 pub fn lines_of(shape: u64) -> u64 {
-    value_in(shape, counts_field(1))
+    value_in(shape, shape_field(1))
 }
 
 pub fn entries_of(shape: u64) -> u64 {
-    value_in(shape, counts_field(2))
+    value_in(shape, shape_field(2))
+}
+
+// The address, ValidTill and the span of an entry, by its packed word.
+pub fn address_in(word: u64) -> u64 {
+    value_in(word, entry_field(0))
+}
+
+pub fn till_in(word: u64) -> u64 {
+    value_in(word, entry_field(1))
+}
+
+pub fn span_in(word: u64) -> u64 {
+    value_in(word, entry_field(2))
+}
+
+pub fn entry_word(address: u64, till: u64, span: u64) -> u64 {
+    let one = replaced(0, entry_field(0), address);
+    with_span(replaced(one, entry_field(1), till), span)
+}
+
+pub fn with_span(word: u64, span: u64) -> u64 {
+    replaced(word, entry_field(2), span)
+}
+
+// The place of the packed word of entry i of a log that starts at a place of a ring of so many entries.
+pub fn log_place(start: u64, entries: u64, i: u64) -> u64 {
+    if entries == 0 {
+        return LOG;
+    }
+    entry_place(sum(start, i) % entries)
 }

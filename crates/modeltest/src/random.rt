@@ -44,7 +44,7 @@ pub const IS_OTHER_SIZE: u64 = 27;
 
 pub const SLOTS: u64 = 28;
 
-// .. and of damage.
+// .. of damage, ..
 pub const TIMES: u64 = 32;
 
 pub const REGION: u64 = 33;
@@ -60,6 +60,24 @@ pub const FIELD: u64 = 37;
 pub const EDGE: u64 = 38;
 
 pub const BIT: u64 = 39;
+
+// .. of conversions, and of what a list is converted for, ..
+pub const MOVES: u64 = 48;
+
+pub const IS_MOVED: u64 = 49;
+
+pub const CONVERSION: u64 = 50;
+
+pub const FAULT: u64 = 51;
+
+pub const IS_CONVERTED: u64 = 52;
+
+// .. and of spans.
+pub const IS_SPAN: u64 = 53;
+
+pub const SPAN: u64 = 54;
+
+pub const IS_BUFFERED: u64 = 55;
 
 pub fn sum(a: u64, b: u64) -> u64 {
     std::num::wrapping_add_u64(a, b)

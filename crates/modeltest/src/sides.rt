@@ -25,7 +25,12 @@ pub const TALLY: u64 = 8;
 
 pub const FILTER_BITS: u64 = 9;
 
-pub const KINDS: u64 = 10;
+// Those above are made from a board and a work memory; the converter has a board and a second memory.
+pub const CALL_KINDS: u64 = 10;
+
+pub const CONVERT: u64 = 10;
+
+pub const KINDS: u64 = 11;
 
 pub const ALL: u32 = 4294967295;
 
@@ -114,7 +119,7 @@ fn of_answer(a: picl::Answer) -> Outcome {
     }
 }
 
-fn of_report(a: picl::Report, registers: [u64; REGISTERS]) -> Outcome {
+pub fn of_report(a: picl::Report, registers: [u64; REGISTERS]) -> Outcome {
     let status = a.status;
     Outcome {
         number: status.number(),
@@ -142,7 +147,12 @@ fn library_question(
     }
 }
 
-fn library_call(board: &mut [u64], work: &mut [u64], words: [u64; REGISTERS], c: Call) -> Outcome {
+pub fn library_call(
+    board: &mut [u64],
+    work: &mut [u64],
+    words: [u64; REGISTERS],
+    c: Call,
+) -> Outcome {
     let r = library_registers(words);
     let kind = c.kind;
     match kind {
@@ -160,7 +170,7 @@ fn of_model(a: model::Answer) -> Outcome {
     of_model_report(a, registers.words())
 }
 
-fn of_model_report(a: model::Answer, registers: [u64; REGISTERS]) -> Outcome {
+pub fn of_model_report(a: model::Answer, registers: [u64; REGISTERS]) -> Outcome {
     Outcome {
         number: a.number,
         value: a.value,
@@ -186,7 +196,12 @@ fn model_question(
     }
 }
 
-fn model_call(board: &mut [u64], work: &mut [u64], words: [u64; REGISTERS], c: Call) -> Outcome {
+pub fn model_call(
+    board: &mut [u64],
+    work: &mut [u64],
+    words: [u64; REGISTERS],
+    c: Call,
+) -> Outcome {
     let r = model::Registers::from_words(words);
     let kind = c.kind;
     match kind {

@@ -11,7 +11,7 @@ use Rattle.undo.specs.declared.LogState.{LogState}
 use Rattle.ranges.specs.Ranges.{Waits}
 use Rattle.slots.specs.declared.Spot.{Spot}
 use Rattle.steps.specs.Contracts.{Ready, SlotReady, FillReady, StoreReady, PersistReady}
-use Rattle.slots.specs.Laws.{spot-below, spot-named, proper-named}
+use Rattle.slots.specs.Laws.{spot-below, spot-named, spot-tagged, proper-named}
 use Rattle.slots.specs.Sets.{spotOf}
 use Rattle.slots.specs.Slots.{dirtyAt}
 use Rattle.checks.specs.declared.Registers.{Registers}
@@ -54,7 +54,8 @@ module _ (board work : List ℕ) (r : Registers) (address : ℕ) (v : View) (spo
   store-ready p =
       record {
         fill = fill-ready (p .line);
-        epoch-fits = omega (arith, p .line .running .proper .epoch-most);
+        window = rw is (omega (arith, p .line .running .proper));
+        tagged = rw (is, at) (spot-tagged (boundsOf v r) work address (p .line .slot));
         place = rw is (p .line .running .proper .buffered);
         room = λ d. rw is (p .room (rw at at d));
       }

@@ -14,9 +14,9 @@ use Rattle.history.specs.Machine.{cleared}
 use Rattle.base.specs.Every.{Every}
 use Rattle.history.specs.Keeps.{commit-safe, commit-live}
 use Rattle.history.specs.Restore.{restoredAll, restoredPart, part-safe, power-up-safe, power-up-live}
-use Rattle.durable.specs.Proper.{proper-named}
+use Rattle.durable.specs.Proper.{proper-restorable}
 use Rattle.durable.specs.Reads.{reads-bounded, reads-persisted}
-use Rattle.durable.specs.Recover.{recover-cut, recover-reads}
+use Rattle.durable.specs.Recover.{Restorable, recover-cut, recover-reads}
 use Rattle.durable.specs.View.{Reads, undoWith}
 use Rattle.volatile.specs.Filter.{exact-restarted}
 use Rattle.volatile.specs.Proper.{withEpochs}
@@ -34,20 +34,20 @@ module _ {N L : ℕ} {board : List ℕ} {g : Reference} (off : Off N L board g) 
   abbrev pub u : LogState
   u = undoWith (off .control) L
 
-  named : Every (λ x. x .range .address < N) (off .durable .log)
-  named = proper-named N mostAhead _ _ (off .durable .log) (off .safe .proper)
+  restorable : Every (Restorable N) (off .durable .log)
+  restorable = proper-restorable N mostAhead _ _ (off .durable .log) (off .safe .proper)
 
   pub recovery-along : Along N L board g (recoverStores board u)
   recovery-along k h =
       record {
         control = off .control;
         durable = restoredPart k (off .durable);
-        reads = recover-cut u (off .reads) refl named k h;
+        reads = recover-cut u (off .reads) refl restorable k h;
         safe = part-safe (off .safe) k;
       }
 
   pub recovery-reads : Reads N L (applied board (recoverStores board u)) (undo.emptied (off .control)) (cleared (restoredAll (off .durable)))
-  recovery-reads = recover-reads u (off .reads) refl named
+  recovery-reads = recover-reads u (off .reads) refl restorable
 
   abbrev pub restartBounds : (slots : ℕ) → Bounds
   restartBounds slots = record { lines = N; slots = slots; persisted = off .control .persisted; epoch = off .control .persisted + 1 }

@@ -14,7 +14,7 @@ use Rattle.board.specs.Stores.{applied}
 use Rattle.undo.specs.declared.LogState.{LogState}
 use Rattle.undo.specs.Log.{counted}
 use Rattle.slots.specs.declared.Bounds.{Bounds}
-use Rattle.steps.specs.Effects.{flushingIf, entryFor, logged, storingHeld}
+use Rattle.steps.specs.Effects.{flushingIf, entryBetween, entryFor, logged, storingHeld}
 use Rattle.slots.specs.Slots.{entryDue}
 use Rattle.slots.specs.Slots.{holds, cleanSlot, dirtySlot, dirtied}
 use Rattle.history.specs.Machine.{dirty, Volatile, marked}
@@ -26,7 +26,7 @@ use Rattle.volatile.specs.Filter.{logged-exact}
 use Rattle.volatile.specs.Proper.{AtHome, FullSlot, is-clean, is-dirty, clean-holds, dirty-holds}
 use Rattle.volatile.specs.Slotted.{clean-cached, dirty-cached}
 use Rattle.volatile.specs.Stores.{dirtied-held}
-use Rattle.volatile.specs.View.{volatileOf, undoFields, marked-stored, view-marked}
+use Rattle.volatile.specs.View.{volatileOf, marked-stored, view-marked}
 use Rattle.refine.specs.Pass.{Sweep, pass-logged, pass-dirtied}
 use Rattle.refine.specs.State.{Ok}
 use Rattle.refine.specs.Along.{along-none, off-for}
@@ -41,22 +41,25 @@ module _ {L : ℕ} {b : Bounds} {at : Sweep} {board work : List ℕ} {u : LogSta
   ahead : b .persisted < b .epoch
   ahead = omega (arith, o .persisted, o .live .history .ahead)
 
+  window : b .epoch ≤ b .persisted + mostAhead
+  window = omega (arith, o .persisted, o .live .history .window)
+
   fits : b .epoch < 2 ^ epochBits
   fits = omega (arith, o .last)
 
   -- with its entry buffered
-  module _ (h : holds work k a ≡ true) (from : ℕ) (early : from < b .epoch) (place : u .buffered < bufferPlaces)
+  module _ (h : holds work k a ≡ true) (from : ℕ) (early : from < b .epoch) (near : b .epoch ≤ from + mostAhead) (place : u .buffered < bufferPlaces)
       (room : u .control .length + u .buffered + 1 ≤ L)
       (live : Live (b .lines) mostAhead (o .durable) (marked w a from (dataIn work k) value) (stores g a value)) where
     abbrev work′ : List ℕ
-    work′ = dirtied (logged u work (undoFields (b .epoch) a from) (dataIn work k)) k a (b .epoch) value
+    work′ = dirtied (logged u work (entryBetween a from (b .epoch)) (dataIn work k)) k a (b .epoch) value
 
-    entry-fits : EntryFits (undoFields (b .epoch) a from)
-    entry-fits = record { address = home .fits; from = omega (arith, fits); till = fits }
+    entry-fits : EntryFits (entryBetween a from (b .epoch))
+    entry-fits = record { address = home .fits; till = fits; span = omega arith }
 
     logged-ok : Ok L b at board work′ (counted u) (stores g a value)
     logged-ok =
-        let st = marked-stored (o .slotted) u k a below h ahead fits (dataIn work k) value (undoFields (b .epoch) a from) in
+        let st = marked-stored (o .slotted) u k a below h ahead fits (dataIn work k) value (entryBetween a from (b .epoch)) in
         record {
           durable = o .durable;
           reads = o .reads;
@@ -66,12 +69,12 @@ module _ {L : ℕ} {b : Bounds} {at : Sweep} {board work : List ℕ} {u : LogSta
           last = o .last;
           room = omega arith;
           places = omega arith;
-          filter = rw (st .buffer) (logged-exact (o .slotted) u (o .filter) (undoFields (b .epoch) a from) (dataIn work k) place entry-fits);
-          pass = pass-dirtied (pass-logged (o .pass) (o .slotted) u (undoFields (b .epoch) a from) (dataIn work k)) st;
+          filter = rw (st .buffer) (logged-exact (o .slotted) u (o .filter) (entryBetween a from (b .epoch)) (dataIn work k) place entry-fits);
+          pass = pass-dirtied (pass-logged (o .pass) (o .slotted) u (entryBetween a from (b .epoch)) (dataIn work k)) st;
           safe = store-safe (o .safe) a value;
           live =
               subst (λ (x : Volatile). Live (b .lines) mostAhead (o .durable) x (stores g a value))
-              (sym (view-marked (o .slotted) u k a below h ahead fits (dataIn work k) value from early place)) live;
+              (sym (view-marked (o .slotted) u k a below h ahead fits (dataIn work k) value from early near place)) live;
         }
 
     -- "at 32 the buffer is flushed at once"
@@ -90,7 +93,7 @@ module _ {L : ℕ} {b : Bounds} {at : Sweep} {board work : List ℕ} {u : LogSta
     clean-keeps e =
         let due : u .control .length + u .buffered + 1 ≤ L = room (rw e) in
         rw e
-        (logged-keeps (clean-holds work k a e) (u .control .persisted) (omega (arith, named, ahead)) place due
+        (logged-keeps (clean-holds work k a e) (u .control .persisted) (omega (arith, named, ahead)) (omega (arith, named, window)) place due
         (subst (λ (p : ℕ). Live (b .lines) mostAhead (o .durable) (marked w a p (dataIn work k) value) (stores g a value))
         (sym (reads-persisted (o .reads)))
         (store-clean-live (o .live) a value (clean-cached (o .slotted) k a below e) (home .inside))))
@@ -108,7 +111,7 @@ module _ {L : ℕ} {b : Bounds} {at : Sweep} {board work : List ℕ} {u : LogSta
           let other : eqb tag (b .epoch) ≡ false = ne-eqb tag (b .epoch) (omega arith) in
           let due : u .control .length + u .buffered + 1 ≤ L = room (rw (e, other)) in
           rw (e, other)
-          (logged-keeps held tag early place due (store-committed-live (o .live) a value cached early (home .inside)))
+          (logged-keeps held tag early (omega (arith, window)) place due (store-committed-live (o .live) a value cached early (home .inside)))
 
       transient-keeps : tag ≡ b .epoch → Keeps L b board g (storingHeld u work k a (b .epoch) value) at (stores g a value)
       unfolding storingHeld entryDue applied

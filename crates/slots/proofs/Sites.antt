@@ -13,7 +13,7 @@ use Rattle.base.specs.Bits.{left-or, right-or}
 use Rattle.base.specs.Tests.{held, hold-together, and-left}
 use Rattle.layout.specs.declared.Slot.{Slot}
 use Rattle.layout.specs.Laws.{slot-laws}
-use Rattle.layout.specs.Limits.{ways, mostSlots}
+use Rattle.layout.specs.Limits.{ways, mostSlots, spareBits}
 use Rattle.layout.specs.Memory.{slotAt, slotIn}
 use Rattle.layout.specs.SlotTests.{slotForm}
 use Rattle.layout.specs.Fields.{width, pack, encode}
@@ -319,7 +319,7 @@ form-below : (s : Slot) → SlotFits s → slotForm s + 3 < 2 ^ 64
 unfolding encode pack width
 form-below s fits = go (s .valid) (s .dirty)
   where
-    go : (v d : Bool) → bit v * 2 ^ 63 + (bit d * 2 ^ 62 + (0 * 2 ^ 46 + (s .tag * 2 ^ 22 + (s .spare * 2 ^ 0 + 0)))) + 3 < 2 ^ 64
+    go : (v d : Bool) → bit v * 2 ^ 63 + (bit d * 2 ^ 62 + (0 * 2 ^ 46 + (s .tag * 2 ^ spareBits + (s .spare * 2 ^ 0 + 0)))) + 3 < 2 ^ 64
     go true true = omega (arith, fits .tag, fits .spare)
     go true false = omega (arith, fits .tag, fits .spare)
     go false true = omega (arith, fits .tag, fits .spare)

@@ -1,12 +1,12 @@
 -- Where an address is found, and what a proper slot names.
 use Prim.Native.Nat.{ℕ, _+_, _*_, _/_, _<_, _≤_}
 use mathlib.Core.Path.{_≡_, refl, sym}
-use mathlib.Core.Bool.{Bool, true, false, _||_, not}
+use mathlib.Core.Bool.{Bool, true, false, cond, _&&_, _||_, not, false≢true}
 use mathlib.Core.List.{List, [], _∷_}
 use native.Mathlib.Nat.{mod-lt}
 use native.Mathlib.Omega.{arith}
 use borrow.Author.Tests.{eqb-true, eqb-false, eq-eqb, not-true}
-use lib.Dec.{leb, eqb}
+use lib.Dec.{ltb, leb, eqb}
 use lib.ListN.{getD}
 use Rattle.base.specs.Cases.{either}
 use Rattle.base.specs.Several.{allOf, anyOf, firstOf, all-head, all-tail, first-all, first-holds, none-all}
@@ -15,8 +15,10 @@ use Rattle.layout.specs.Limits.{ways}
 use Rattle.layout.specs.ZeroWord.{decode-zero}
 use Rattle.layout.specs.Memory.{slotIn, slotAt}
 use Rattle.layout.specs.Words.{decodeSlot}
+use Rattle.layout.specs.declared.Slot.{Slot}
 use Rattle.slots.specs.declared.Bounds.{Bounds}
-use Rattle.slots.specs.Slots.{setOf, holds, properFull, properSlot, properAt}
+use Rattle.slots.specs.Contracts.{Tagged}
+use Rattle.slots.specs.Slots.{setOf, holds, properTag, properFull, properSlot, properAt}
 use Rattle.slots.specs.Sets.{slotsFrom, placesOf, properSet, emptyAt, cleanAt, smallestTag, victimOf, spotOf}
 
 -- ---- the slots of a set
@@ -119,6 +121,36 @@ proper-named b work k some h = go (eqb (getD work (slotAt k) 0) 0) refl h
         → slotIn work k .address < b .lines
     go true e x = rw (eqb-true (getD work (slotAt k) 0) 0 e, decode-zero) (omega arith)
     go false e x = full x
+
+-- the tag of a dirty one
+proper-tag : (b : Bounds) (s : Slot) → properTag b s ≡ true
+    → cond (s .dirty) (ltb (b .persisted) (s .tag) && leb (s .tag) (b .epoch)) (eqb (s .tag) 0) ≡ true
+unfolding properTag
+proper-tag b s h = h
+
+full-tagged : (b : Bounds) (k : ℕ) (s : Slot) → properFull b k s ≡ true → Tagged (b .persisted) (b .epoch) s
+unfolding properFull
+full-tagged b k s h =
+    record { after = λ d. let t = dirty d in search held; until = λ d. let t = dirty d in search held }
+  where
+    dirty : s .dirty ≡ true → ltb (b .persisted) (s .tag) && leb (s .tag) (b .epoch) ≡ true
+    dirty d = let t : properTag b s ≡ true = search held depth 12 in rw d at (proper-tag b s t)
+
+pub proper-tagged : (b : Bounds) (work : List ℕ) (k : ℕ) → properAt b work k ≡ true → Tagged (b .persisted) (b .epoch) (slotIn work k)
+unfolding properAt properSlot
+proper-tagged b work k h = go (eqb (getD work (slotAt k) 0) 0) refl h
+  where
+    go : (t : Bool) → eqb (getD work (slotAt k) 0) 0 ≡ t → t || properFull b k (slotIn work k) ≡ true
+        → Tagged (b .persisted) (b .epoch) (slotIn work k)
+    go true e x =
+        rw (eqb-true (getD work (slotAt k) 0) 0 e, decode-zero) record { after = λ d. absurd (false≢true d); until = λ d. absurd (false≢true d) }
+    go false e x = full-tagged b k (slotIn work k) x
+
+pub spot-tagged : (b : Bounds) (work : List ℕ) (address : ℕ) → properSet b work (placesOf (b .slots) address) ≡ true
+    → Tagged (b .persisted) (b .epoch) (slotIn work (spotOf work (b .slots) address .slot))
+unfolding properSet
+spot-tagged b work address h =
+    proper-tagged b work (spotOf work (b .slots) address .slot) (spot-all work (b .slots) address (properAt b work) (and-left _ _ h))
 
 pub spot-named : (b : Bounds) (work : List ℕ) (address : ℕ) → 1 ≤ b .lines → properSet b work (placesOf (b .slots) address) ≡ true
     → slotIn work (spotOf work (b .slots) address .slot) .address < b .lines

@@ -20,7 +20,7 @@ setOf slots address = address % (slots / ways)
 unfoldable pub properTag : Bounds → Slot → Bool
 properTag b s = cond (s .dirty) (ltb (b .persisted) (s .tag) && leb (s .tag) (b .epoch)) (eqb (s .tag) 0)
 
--- "A proper slot word is zero, or is valid with the 22 bits zero, address < N," its set the slot's, "and .."
+-- "A proper slot word is zero, or is valid with the" zero "bits zero, address < N," its set the slot's, "and .."
 unfoldable pub properFull : Bounds → (k : ℕ) → Slot → Bool
 properFull b k s =
     s .valid && eqb (s .spare) 0 && ltb (s .address) (b .lines) && eqb (setOf (b .slots) (s .address)) (k / ways) && properTag b s

@@ -129,14 +129,16 @@ module _ (board work : List ℕ) (u : LogState) (address : ℕ) (spot : Spot) (e
         ready = ready .fill .slot .ready;
         within = ready .fill .slot .within;
         address-fits = ready .fill .fits;
-        epoch-fits = ready .epoch-fits;
+        window = ready .window;
+        tagged = ready .tagged;
         place = ready .place;
         room = rw h at room;
       }
 
   -- a line that leaves its slot flushes or leaves the log's numbers as they are; either keeps the room for the store's entry
   abbrev Kept : LogState → Type 0
-  Kept v = Sound v × (v .entries ≡ u .entries) × (v .buffered < bufferPlaces) × (v .control .length + v .buffered + 1 ≤ v .entries)
+  Kept v =
+      Sound v × (v .entries ≡ u .entries) × (v .control .persisted ≡ u .control .persisted) × (v .buffered < bufferPlaces) × (v .control .length + v .buffered + 1 ≤ v .entries)
 
   kept : spot .held ≡ false → Kept (writingBack u work (spot .slot) .undo)
   unfolding writingBack writingOut flushingIf flushed undoDue
@@ -146,10 +148,10 @@ module _ (board work : List ℕ) (u : LogState) (address : ℕ) (spot : Spot) (e
       room = ready .room (rw h)
 
       same : Kept u
-      same = (ready .fill .slot .ready .sound, refl, ready .place, room)
+      same = (ready .fill .slot .ready .sound, refl, refl, ready .place, room)
 
       flush : (t : Bool) → Kept (cond t (flushing u work) (nothing u work) .undo)
-      flush true = (sound-flushed u (ready .fill .slot .ready .sound), refl, omega arith, omega (arith, room))
+      flush true = (sound-flushed u (ready .fill .slot .ready .sound), refl, refl, omega arith, omega (arith, room))
       flush false = same
 
       dirty : (t : Bool) → Kept (cond t (writingOut u work (slotIn work (spot .slot) .address) (dataIn work (spot .slot))) (nothing u work) .undo)
@@ -179,9 +181,9 @@ module _ (board work : List ℕ) (u : LogState) (address : ℕ) (spot : Spot) (e
                 named = omega (arith, k .1, fill .named, same-board);
                 fits = fill .fits;
               };
-          epoch-fits = ready .epoch-fits;
-          place = k .2;
-          room = k .3;
+          window = rw (k .2) (ready .window);
+          place = k .3;
+          room = k .4;
         }
 
     -- what was brought, where all stores were allowed

@@ -17,9 +17,9 @@ use Rattle.undo.specs.declared.Progress.{Progress}
 use Rattle.undo.specs.Log.{pushed}
 use Rattle.slots.specs.Slots.{cleanSlot, dirtySlot, zeroed, filled, dirtied}
 use Rattle.layout.specs.Memory.{withBuffer}
-use Rattle.steps.specs.Effects.{lineIn, entryFor, logged, storingHeld}
+use Rattle.steps.specs.Effects.{lineIn, entryBetween, entryFor, logged, storingHeld}
 use Rattle.slots.specs.Slots.{entryDue}
-use Rattle.steps.specs.Contracts.{Acts, loggingStore, StoreAbsentReady}
+use Rattle.steps.specs.Contracts.{Acts, loggingStore, LogStoreReady, StoreAbsentReady}
 
 pair-again : (memory : List ℕ) (at a b x y : ℕ) → setPair (setPair memory at a b) at x y ≡ setPair memory at x y
 pair-again memory at a b x y =
@@ -69,18 +69,26 @@ module _ (work : List ℕ) (k address line : ℕ) (within : 2 * k + 2 + bufferWo
   -- a slot filled clean makes the entry P, s with its line, and its words give way to the dirty ones
   storingHeld-filled : (u : LogState) (epoch value : ℕ) → address < 2 ^ addressBits
       → storingHeld u (filled work k address line) k address epoch value
-      ≡ loggingStore u work k (record { address = address; from = u .control .persisted; till = epoch }) line value
+      ≡ loggingStore u work k (entryBetween address (u .control .persisted) epoch) line value
   unfolding storingHeld entryDue entryFor
   storingHeld-filled u epoch value fits =
-      rw (slot-filled fits, data-filled, logged-filled u (record { address = address; from = u .control .persisted; till = epoch }) line, dirtied-filled)
+      rw (slot-filled fits, data-filled, logged-filled u (entryBetween address (u .control .persisted) epoch) line, dirtied-filled)
 
 -- the way out of a store to a line that was not held
-module _ (board work : List ℕ) (u : LogState) (k address epoch : ℕ) (ready : StoreAbsentReady board work u k address epoch) where
-  abbrev entry : Entry
-  entry = record { address = address; from = u .control .persisted; till = epoch }
+module _ (board work : List ℕ) (u : LogState) (k address epoch : ℕ) (ready : StoreAbsentReady board work u k address epoch) (e : Entry)
+    (entry : e ≡ entryBetween address (u .control .persisted) epoch) where
+  pub absent-log-ready : LogStoreReady board work u k e
+  absent-log-ready =
+      rw entry record {
+        ready = ready .ready;
+        within = ready .taken .within;
+        place = ready .place;
+        room = ready .room;
+        fits = record { address = ready .taken .fits; till = ready .window .fits; span = omega (arith, ready .window) };
+      }
 
   pub absent-stored : (lines value : ℕ) (m : Meter) (board′ work′ : List ℕ) (r : Progress) → lines ≡ linesAt (u .entries)
-      → Acts board m (loggingStore u work k entry (getD board (lines + address) 0) value) board′ work′ r
+      → Acts board m (loggingStore u work k e (getD board (lines + address) 0) value) board′ work′ r
       → Acts board m (storingHeld u (filled work k address (lineIn board u address)) k address epoch value) board′ work′ r
   unfolding lineIn
   absent-stored lines value m board′ work′ r at x =
@@ -88,4 +96,4 @@ module _ (board work : List ℕ) (u : LogState) (k address epoch : ℕ) (ready :
         storingHeld-filled work k address (lineIn board u address) (ready .taken .within) u epoch value (ready .taken .fits),
         ← at,
       )
-      x
+      (rw entry at x)

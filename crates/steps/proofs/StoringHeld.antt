@@ -1,5 +1,5 @@
 -- Making a held line dirty: the undo entry of a store, and where it goes.
-use Prim.Native.Nat.{ℕ, _+_, _-_, _*_, _^_, _<_}
+use Prim.Native.Nat.{ℕ, _+_, _-_, _*_, _^_, _<_, _≤_}
 use mathlib.Core.Path.{_≡_, refl, sym, _∙_}
 use mathlib.Core.Bool.{Bool, true, false, not, cond}
 use mathlib.Core.List.{List, _++_}
@@ -12,29 +12,33 @@ use Rattle.board.specs.declared.Meter.{Meter}
 use Rattle.board.specs.Laws.{ran-none}
 use Rattle.layout.specs.declared.Entry.{Entry}
 use Rattle.layout.specs.declared.Slot.{Slot}
-use Rattle.layout.specs.Limits.{epochBits, bufferPlaces}
+use Rattle.layout.specs.Limits.{bufferPlaces}
 use Rattle.layout.specs.Memory.{bufferAt, slotIn, dataIn}
 use Rattle.layout.specs.Words.{Decoded, SlotFits, encodeSlot}
 use Rattle.undo.specs.declared.LogState.{LogState}
 use Rattle.undo.specs.declared.Progress.{Progress}
 use Rattle.undo.specs.Contracts.{Pushes}
 use Rattle.undo.specs.Laws.{sound-counted}
+use Rattle.slots.specs.Contracts.{Tagged}
 use Rattle.slots.specs.Slots.{dirtySlot, dirtied}
 use Rattle.layout.specs.Memory.{withBuffer}
-use Rattle.steps.specs.Effects.{flushingIf, entryFor, logged, storingHeld}
+use Rattle.steps.specs.Effects.{flushingIf, entryBetween, entryFor, logged, storingHeld}
 use Rattle.slots.specs.Slots.{entryDue}
 use Rattle.steps.specs.Contracts.{Acts, Logs, loggingStore, LogStoreReady, Ready, StoreHeldReady}
 
 -- the undo entry of a store
 module _ (s : Slot) (epoch : ℕ) where
   module _ (persisted address : ℕ) where
-    pub entry-clean : not (s .dirty) ≡ true → record { address = address; from = persisted; till = epoch } ≡ entryFor persisted epoch address s
+    pub entry-clean : (e : Entry) → not (s .dirty) ≡ true → e ≡ entryBetween address persisted epoch → e ≡ entryFor persisted epoch address s
     unfolding entryFor
-    entry-clean h = rw (not-true (s .dirty) h)
+    entry-clean e h is = is ∙ rw (not-true (s .dirty) h)
 
-    pub entry-dirty : not (s .dirty) ≡ false → record { address = address; from = s .tag; till = epoch } ≡ entryFor persisted epoch address s
+    pub entry-dirty : (e : Entry) → not (s .dirty) ≡ false → e ≡ entryBetween address (s .tag) epoch → e ≡ entryFor persisted epoch address s
     unfolding entryFor
-    entry-dirty h = rw (not-false (s .dirty) h)
+    entry-dirty e h is = is ∙ rw (not-false (s .dirty) h)
+
+    pub tag-until : not (s .dirty) ≡ false → Tagged persisted epoch s → s .tag ≤ epoch
+    tag-until h t = t .until (not-false (s .dirty) h)
 
 pub log-done : (work : List ℕ) (u : LogState) (e : Entry) (old at : ℕ) (buffer′ : List ℕ) (r : LogState) → at ≡ bufferAt (length work)
     → Pushes (take (length work - at) (drop at work)) u e old buffer′ r
@@ -66,6 +70,9 @@ module _ (board work : List ℕ) (u : LogState) (k : ℕ) (e : Entry) (ready : L
 -- a store to the line that slot k holds
 module _ (board work : List ℕ) (u : LogState) (k address epoch value : ℕ) (m : Meter) (s : Slot) (read : Decoded SlotFits (slotIn work k) s)
     (t : Bool) (test : t ≡ entryDue epoch s) where
+  pub held-tagged : StoreHeldReady board work u k address epoch → Tagged (u .control .persisted) epoch s
+  held-tagged ready = rw (read .is) (ready .tagged)
+
   due : t ≡ entryDue epoch (slotIn work k)
   due = rw (← read .is) test
 
@@ -84,12 +91,12 @@ module _ (board work : List ℕ) (u : LogState) (k address epoch value : ℕ) (m
           within = ready .within;
           place = ready .place;
           room = ready .room (sym due ∙ not-false t made);
-          fits = record { address = ready .address-fits; from = earlier (s .dirty); till = ready .epoch-fits };
+          fits = record { address = ready .address-fits; till = ready .window .fits; span = near (s .dirty) refl };
         }
       where
-        earlier : (d : Bool) → cond d (s .tag) (u .control .persisted) < 2 ^ epochBits
-        earlier true = read .fits .tag
-        earlier false = ready .ready .sound .persisted
+        near : (d : Bool) → s .dirty ≡ d → epoch - cond d (s .tag) (u .control .persisted) < 2 ^ 8
+        near true d = omega (arith, ready .window, held-tagged ready .after d)
+        near false d = omega (arith, ready .window)
 
     pub held-logged : (board′ work′ : List ℕ) (r : Progress) → Acts board m (loggingStore u work k e (dataIn work k) value) board′ work′ r
         → Acts board m (storingHeld u work k address epoch value) board′ work′ r

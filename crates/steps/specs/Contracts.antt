@@ -1,5 +1,5 @@
 -- What the functions of this crate do, and what they ask.
-use Prim.Native.Nat.{ℕ, _+_, _^_, _<_, _≤_}
+use Prim.Native.Nat.{ℕ, _+_, _-_, _^_, _<_, _≤_}
 use mathlib.Core.Path.{_≡_}
 use mathlib.Core.Bool.{true}
 use mathlib.Core.List.{List}
@@ -9,12 +9,13 @@ use Rattle.board.specs.declared.Meter.{Meter}
 use Rattle.board.specs.Stores.{allowed, Ran}
 use Rattle.layout.specs.declared.Entry.{Entry}
 use Rattle.layout.specs.Words.{EntryFits}
-use Rattle.layout.specs.Limits.{epochBits, addressBits, mostEntries, bufferPlaces}
+use Rattle.layout.specs.Limits.{epochBits, addressBits, mostEntries, bufferPlaces, mostAhead}
 use Rattle.layout.specs.Memory.{linesAt, bufferWords, slotIn, slotAt, slotWords}
 use Rattle.undo.specs.declared.LogState.{LogState}
 use Rattle.undo.specs.declared.Progress.{Progress}
 use Rattle.undo.specs.Log.{Sound, counted}
 use Rattle.slots.specs.declared.Spot.{Spot}
+use Rattle.slots.specs.Contracts.{Tagged}
 use Rattle.slots.specs.Slots.{dirtied}
 use Rattle.steps.specs.Effects.{Effect, flushingIf, logged}
 use Rattle.slots.specs.Slots.{entryDue, undoDue}
@@ -63,12 +64,19 @@ pub record FillReady (board work : List ℕ) (u : LogState) (k address : ℕ) : 
   pub named : linesAt (u .entries) + address < length board
   pub fits : address < 2 ^ addressBits
 
+-- The running epoch is ahead of the persisted one, and no farther than an entry's span can tell.
+pub record Window (persisted epoch : ℕ) : Type 0 where
+  pub ahead : persisted ≤ epoch
+  pub near : epoch - persisted ≤ mostAhead
+  pub fits : epoch < 2 ^ epochBits
+
 -- A store to a held line, with room for the entry that it may make.
 pub record StoreHeldReady (board work : List ℕ) (u : LogState) (k address epoch : ℕ) : Type 0 where
   pub ready : Ready board work u
   pub within : slotAt k + slotWords + bufferWords ≤ length work
   pub address-fits : address < 2 ^ addressBits
-  pub epoch-fits : epoch < 2 ^ epochBits
+  pub window : Window (u .control .persisted) epoch
+  pub tagged : Tagged (u .control .persisted) epoch (slotIn work k)
   pub place : u .buffered < bufferPlaces
   pub room : entryDue epoch (slotIn work k) ≡ true → u .control .length + u .buffered + 1 ≤ u .entries
 
@@ -76,14 +84,15 @@ pub record StoreHeldReady (board work : List ℕ) (u : LogState) (k address epoc
 pub record StoreAbsentReady (board work : List ℕ) (u : LogState) (k address epoch : ℕ) : Type 0 where
   pub ready : Ready board work u
   pub taken : PlaceReady board work u k address
-  pub epoch-fits : epoch < 2 ^ epochBits
+  pub window : Window (u .control .persisted) epoch
   pub place : u .buffered < bufferPlaces
   pub room : u .control .length + u .buffered + 1 ≤ u .entries
 
 -- A store to the line at an address, whether it is held or has to be brought.
 pub record StoreReady (board work : List ℕ) (u : LogState) (address : ℕ) (spot : Spot) (epoch : ℕ) : Type 0 where
   pub fill : FillReady board work u (spot .slot) address
-  pub epoch-fits : epoch < 2 ^ epochBits
+  pub window : Window (u .control .persisted) epoch
+  pub tagged : Tagged (u .control .persisted) epoch (slotIn work (spot .slot))
   pub place : u .buffered < bufferPlaces
   pub room : undoDue work spot epoch ≡ true → u .control .length + u .buffered + 1 ≤ u .entries
 

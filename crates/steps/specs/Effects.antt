@@ -1,5 +1,5 @@
 -- What the steps of a call do: the board stores they owe, the log's numbers and the work memory behind them.
-use Prim.Native.Nat.{ℕ, _+_}
+use Prim.Native.Nat.{ℕ, _+_, _-_}
 use mathlib.Core.Bool.{Bool, true, cond, _&&_}
 use mathlib.Core.List.{List, [], _++_}
 use lib.Dec.{leb, eqb}
@@ -55,9 +55,13 @@ bringing board u work k address =
     let e = emptying u work k in
     record { stores = e .stores; undo = e .undo; work = filled (e .work) k address (lineIn (applied board (e .stores)) u address) }
 
+-- an entry by its ValidFrom and ValidTill: request 9/13, "span is ValidTill − ValidFrom"
+abbrev pub entryBetween : (address from till : ℕ) → Entry
+entryBetween address from till = record { address = address; till = till; span = till - from }
+
 -- "a clean line makes the entry P, s with the old data; a dirty line with tag t < s makes t, s"
 unfoldable pub entryFor : (persisted epoch address : ℕ) → Slot → Entry
-entryFor persisted epoch address s = record { address = address; from = cond (s .dirty) (s .tag) persisted; till = epoch }
+entryFor persisted epoch address s = entryBetween address (cond (s .dirty) (s .tag) persisted) epoch
 
 -- "An entry goes to the buffer's end"
 unfoldable pub logged : LogState → List ℕ → Entry → (old : ℕ) → List ℕ

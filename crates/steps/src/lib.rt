@@ -1,15 +1,16 @@
 // What the calls do once their tests have passed: the steps of load, store, evict and scan.
 mod moves;
 
-ghost use Prim.Native.Nat.{_+_, _*_, _^_, _<_};
+ghost use Prim.Native.Nat.{_+_, _*_, _^_, _<_, _≤_};
 ghost use mathlib.Core.Path.{_≡_};
 ghost use Rattle.layout.specs.Limits.{addressBits, lastEpoch};
 ghost use Rattle.layout.specs.Memory.{slotIn};
+ghost use Rattle.slots.specs.Contracts.{Tagged};
 ghost use Rattle.slots.specs.Slots.{filled};
-ghost use Rattle.steps.specs.Effects.{entryFor, storingHeld, lineIn};
+ghost use Rattle.steps.specs.Effects.{entryBetween, entryFor, storingHeld, lineIn};
 ghost use Rattle.steps.specs.Effects.{loading, storing, evicting, cleaning, visiting, persisting};
 ghost use Rattle.steps.specs.Contracts.{Acts, Carries, SlotReady, FillReady, StoreHeldReady, StoreAbsentReady};
-ghost use Rattle.steps.specs.Contracts.{Logs, LogReady, loggingStore, LogStoreReady, StoreReady, PersistReady};
+ghost use Rattle.steps.specs.Contracts.{Logs, LogReady, loggingStore, LogStoreReady, Window, StoreReady, PersistReady};
 use board::Meter;
 use layout::BUFFER_PLACES;
 use layout::Entry;
@@ -19,22 +20,28 @@ use slots::Spot;
 use undo::LogState;
 use undo::Progress;
 
+// Old data that holds from an epoch on until another.
+fn entry_between(address: u64, from: u64, till: u64) -> Entry
+    requires { ⌜ from ≤ till ⌝ }
+    ensures { λ r. ⌜ r ≡ entryBetween address from till ⌝ }
+{
+    Entry {
+        address,
+        till,
+        span: till - from,
+    }
+}
+
 // A line's old data holds from the epoch of its last store on, or from the persisted epoch on if it is clean.
 fn entry_for(slot: Slot, persisted: u64, epoch: u64, address: u64) -> Entry
+    requires { ⌜ Window persisted epoch ⌝ }
+    requires { ⌜ Tagged persisted epoch slot ⌝ }
     ensures { λ r. ⌜ r ≡ entryFor persisted epoch address slot ⌝ }
 {
     if !slot.dirty {
-        return Entry {
-            address,
-            from: persisted,
-            till: epoch,
-        };
+        return entry_between(address, persisted, epoch);
     }
-    Entry {
-        address,
-        from: slot.tag,
-        till: epoch,
-    }
+    entry_between(address, slot.tag, epoch)
 }
 
 // An entry to the end of the buffer, which stands behind the slots.
@@ -122,11 +129,7 @@ fn store_absent(
 {
     let at = layout::lines_at(undo.entries) + address as usize;
     let old = board[at];
-    let entry = Entry {
-        address,
-        from: undo.control.persisted,
-        till: epoch,
-    };
+    let entry = entry_between(address, undo.control.persisted, epoch);
     log_store(board, work, undo, k, entry, old, value, meter)
 }
 

@@ -14,16 +14,16 @@ use Rattle.ranges.specs.Ranges.{Range, properRange}
 use Rattle.layout.specs.declared.Entry.{Entry}
 use Rattle.layout.specs.Limits.{mostLines, mostAhead}
 use Rattle.layout.specs.Memory.{logAt, linesAt}
-use Rattle.layout.specs.Words.{Decoded, EntryFits, decodeEntry}
+use Rattle.layout.specs.Words.{Decoded, EntryFits, decodeEntry, formed}
+use Rattle.layout.specs.Laws.{entry-laws}
 use Rattle.undo.specs.declared.LogState.{LogState}
-use Rattle.undo.specs.Entries.{rangeOf, properEntry}
+use Rattle.undo.specs.Entries.{rangeOf, properWord, properEntry}
 use Rattle.undo.specs.Recovery.{olderTill, properAt, firstImproper}
 use Rattle.undo.specs.Log.{Sound, Placed, placeOf, entryIn, logIn}
 use Rattle.undo.specs.Filter.{marks}
 use Rattle.undo.specs.Log.{bufferedIn, bufferedProper, bufferProper, bufferedMarked, bufferMarked, expired, dropped, KeptBy}
 use Rattle.undo.specs.Contracts.{Straight, Bounds, Searched, SearchReady, expiredFrom, KeptFrom}
-use Rattle.undo.specs.Laws.{proper-till}
-use Rattle.undo.specs.Ring.{entryAt}
+use Rattle.undo.specs.Laws.{formed-nonempty, proper-till}
 use Rattle.undo.proofs.Ring.{straight-place, turned-place}
 
 -- the test of an epoch, one law for each way out
@@ -36,19 +36,21 @@ module _ (epoch least most : ℕ) where
 
 -- the test of an entry's word, one law for each way out
 module _ (word lines least most : ℕ) (t : Bool) (address : t ≡ ltb (decodeEntry word .address) lines) where
-  pub word-address : not t ≡ true → false ≡ properRange lines least most (rangeOf (decodeEntry word))
-  unfolding properRange
-  word-address x = rw (← address, not-true t x)
+  pub word-address : not t ≡ true → false ≡ properWord lines least most (decodeEntry word)
+  unfolding properWord properRange
+  word-address x = rw (← address, not-true t x, and-false)
 
-  module _ (named : not t ≡ false) (s : Bool) (range : s ≡ ltb (decodeEntry word .from) (decodeEntry word .till)) where
-    pub word-empty : not s ≡ true → false ≡ properRange lines least most (rangeOf (decodeEntry word))
-    unfolding properRange
-    word-empty x = rw (← address, not-false t named, ← range, not-true s x)
+  module _ (named : not t ≡ false) (e : Entry) (d : Decoded EntryFits (decodeEntry word) e) (s : Bool) (span : s ≡ formed e) where
+    pub word-unformed : not s ≡ true → false ≡ properWord lines least most (decodeEntry word)
+    unfolding properWord
+    word-unformed x = rw (← d .is, ← span, not-true s x)
 
-    pub word-till : (r : Bool) → not s ≡ false → (e : Entry) → Decoded EntryFits (decodeEntry word) e
-        → r ≡ leb least (e .till) && leb (e .till) most → r ≡ properRange lines least most (rangeOf (decodeEntry word))
-    unfolding properRange
-    word-till r x e d between = between ∙ rw (← address, not-false t named, ← range, not-false s x, d .is)
+    pub word-till : (r : Bool) → not s ≡ false → r ≡ leb least (e .till) && leb (e .till) most → r ≡ properWord lines least most (decodeEntry word)
+    unfolding properWord properRange
+    word-till r x between =
+        let h : formed e ≡ true = sym span ∙ not-false s x in
+        let inside : ltb (e .address) lines ≡ true = rw (d .is) (sym address ∙ not-false t named) in
+        between ∙ rw (← d .is, h, inside, lt-ltb _ _ (formed-nonempty e h))
 
 -- the two lower bounds of a ValidTill that one stands for
 bounds-first : (persisted : ℕ) → Bounds persisted 0 (persisted + 1)
@@ -109,12 +111,12 @@ module _ {board : List ℕ} {u : LogState} {lines i at least to : ℕ} (s : Sear
               ap (placeOf u) e ∙ s .straight .placed (k + 1) (omega arith) ∙ p;
         }
 
-    module _ (t : Bool) (a : t ≡ properRange lines least (u .control .persisted + mostAhead) (rangeOf (decodeEntry (getD board (logAt + at) 0)))) where
+    module _ (t : Bool) (a : t ≡ properWord lines least (u .control .persisted + mostAhead) (decodeEntry (getD board (logAt + at) 0))) where
       tested : t ≡ properAt (logIn board u) lines i
-      unfolding properAt
+      unfolding properAt properWord
       tested =
-          a ∙ ap (λ (e : Entry). properRange lines least (u .control .persisted + mostAhead) (rangeOf e)) word-read
-          ∙ proper-between lines _ _ least (s .carried) (rangeOf (entryIn board u i))
+          a ∙ ap (properWord lines least (u .control .persisted + mostAhead)) word-read
+          ∙ ap (λ (p : Bool). formed (entryIn board u i) && p) (proper-between lines _ _ least (s .carried) (rangeOf (entryIn board u i)))
 
       pub search-found : not t ≡ true → i ≡ first (properAt (logIn board u) lines) to
       search-found x = walk-found (s .walked) t tested h x
@@ -133,21 +135,25 @@ module _ {board : List ℕ} {u : LogState} {lines i at least to : ℕ} (s : Sear
 
 -- the test of a buffered entry's word, one law for each way out
 module _ (word lines epoch : ℕ) (t : Bool) (address : t ≡ ltb (decodeEntry word .address) lines) where
-  pub buffered-outside : not t ≡ true → false ≡ properRange lines 0 epoch (rangeOf (decodeEntry word))
-  unfolding properRange
-  buffered-outside x = rw (← address, not-true t x)
+  pub buffered-outside : not t ≡ true → false ≡ properWord lines 0 epoch (decodeEntry word)
+  buffered-outside x = word-address word lines 0 epoch t address x
 
   module _ (named : not t ≡ false) (s : Bool) (till : s ≡ leb (decodeEntry word .till) epoch) where
-    pub buffered-late : not s ≡ true → false ≡ properRange lines 0 epoch (rangeOf (decodeEntry word))
-    unfolding properRange
-    buffered-late x = rw (← address, not-false t named, ← till, not-true s x, and-false)
+    pub buffered-late : not s ≡ true → false ≡ properWord lines 0 epoch (decodeEntry word)
+    unfolding properWord properRange
+    buffered-late x = rw (← till, not-true s x, and-false, and-false)
 
-    pub buffered-range : (r : Bool) → not s ≡ false → r ≡ ltb (decodeEntry word .from) (decodeEntry word .till)
-        → r ≡ properRange lines 0 epoch (rangeOf (decodeEntry word))
-    unfolding properRange
-    buffered-range r x range =
-        let least : leb 0 (decodeEntry word .till) ≡ true = le-leb 0 (decodeEntry word .till) (omega arith) in
-        rw (← address, not-false t named, ← till, not-false s x, ← range, least, and-true, and-true)
+    pub buffered-span : (r : Bool) → not s ≡ false → r ≡ formed (decodeEntry word) → r ≡ properWord lines 0 epoch (decodeEntry word)
+    buffered-span r x span = go r refl
+      where
+        read : Decoded EntryFits (decodeEntry word) (decodeEntry word)
+        read = record { is = refl; fits = entry-laws .decoded-fits word }
+
+        go : (q : Bool) → r ≡ q → r ≡ properWord lines 0 epoch (decodeEntry word)
+        go false e = e ∙ word-unformed word lines 0 epoch t address named (decodeEntry word) read r span (ap not e)
+        go true e =
+            e ∙ word-till word lines 0 epoch t address named (decodeEntry word) read r span true (ap not e)
+            (sym (rw (le-leb 0 (decodeEntry word .till) (omega arith), ← till, not-false s x)))
 
 -- the walk over the buffered entries that tests each, and the filter's bits of each
 abbrev pub soundAt : List ℕ → (lines epoch : ℕ) → ℕ → Bool
@@ -161,7 +167,7 @@ module _ (buffer : List ℕ) (count lines epoch i : ℕ) (w : Walked (soundAt bu
   pub sound-end : count ≤ i → true ≡ bufferProper buffer count lines epoch && bufferMarked buffer count
   sound-end h = walk-all w h ∙ sound-both
 
-  module _ (h : i < count) (t : Bool) (proper : t ≡ properRange lines 0 epoch (rangeOf (decodeEntry (getD buffer (2 * i) 0)))) where
+  module _ (h : i < count) (t : Bool) (proper : t ≡ properWord lines 0 epoch (decodeEntry (getD buffer (2 * i) 0))) where
     pub sound-improper : not t ≡ true → false ≡ bufferProper buffer count lines epoch && bufferMarked buffer count
     unfolding bufferedProper bufferedIn
     sound-improper x =
@@ -196,31 +202,25 @@ module _ (board : List ℕ) (target at left least : ℕ) where
     pub drop-end : rest ≡ least → KeptFrom board target at left least rest
     drop-end h = record { within = s .within; fewer = s .fewer; rest = walk-end (s .walked) (omega arith) }
 
-    module _ (some : rest ≡ least → ⊥) (e : Entry) (d : Decoded EntryFits (decodeEntry (getD board (logAt + place) 0)) e) where
+    module _ (some : rest ≡ least → ⊥) (t : Bool) (tested : t ≡ leb (decodeEntry (getD board (logAt + place) 0) .till) target) where
       before : left - rest < left - least
       before = omega (arith, s .within, s .fewer)
 
-      read : e ≡ entryAt board (at + 2 * (left - rest))
-      read = d .is ∙ rw (s .here)
-
-      pub drop-stop : target < e .till → KeptFrom board target at left least rest
+      useless : expiredFrom board target at (left - rest) ≡ t
       unfolding expiredFrom
-      drop-stop h =
-          record {
-            within = s .within;
-            fewer = s .fewer;
-            rest = walk-stop (s .walked) before (rw (← read) (lt-leb (e .till) target h));
-          }
+      useless = sym (tested ∙ rw (s .here))
 
-      pub drop-next : e .till ≤ target → Dropping board target at left least (place + 2) (rest - 1)
-      unfolding expiredFrom
+      pub drop-stop : not t ≡ true → KeptFrom board target at left least rest
+      drop-stop h = record { within = s .within; fewer = s .fewer; rest = walk-stop (s .walked) before (useless ∙ not-true t h) }
+
+      pub drop-next : not t ≡ false → Dropping board target at left least (place + 2) (rest - 1)
       drop-next h =
           let k : left - rest + 1 ≡ left - (rest - 1) = omega (arith, s .within, s .fewer) in
           record {
             fewer = omega (arith, s .fewer);
             within = omega (arith, s .within);
             here = omega (arith, s .here, s .within, s .fewer);
-            walked = rw k at (walk-pass (s .walked) before (rw (← read) (le-leb (e .till) target h)));
+            walked = rw k at (walk-pass (s .walked) before (useless ∙ not-false t h));
           }
 
 -- the log's entries before the ring's end, and from its beginning on

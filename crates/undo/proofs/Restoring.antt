@@ -44,18 +44,18 @@ module _ (board : List ℕ) (u : LogState) (at : ℕ) (e : Entry) (read : Decode
       rw (rest-lent lines board, length-drop) (omega arith)
 
   module _ (m : Meter) where
-    pub restore-skipped : u .control .persisted < e .from → Ran board m (restoreAt board u at) board m
+    pub restore-skipped : u .control .persisted + e .span < e .till → Ran board m (restoreAt board u at) board m
     unfolding restoreAt
-    restore-skipped h = rw (← read .is, lt-leb (e .from) (u .control .persisted) h) (ran-none board m)
+    restore-skipped h = rw (← read .is, lt-leb (rangeOf e .from) (u .control .persisted) (omega arith)) (ran-none board m)
 
-    pub restore-made : (lines : ℕ) (part : List ℕ) (m′ : Meter) → e .from ≤ u .control .persisted → lines ≡ linesAt (u .entries)
+    pub restore-made : (lines : ℕ) (part : List ℕ) (m′ : Meter) → e .till ≤ u .control .persisted + e .span → lines ≡ linesAt (u .entries)
         → RestoreReady board u at
         → Ran (take (length board - lines) (drop lines board)) m (one (e .address) (getD board (logAt + at + 1) 0)) part m′
         → Ran board m (restoreAt board u at) (take lines board ++ (part ++ drop (length board - lines) (drop lines board))) m′
     unfolding restoreAt shifted
     restore-made lines part m′ h l g x =
         let k : lines ≤ length board = omega (arith, g .named) in
-        rw (← read .is, le-leb (e .from) (u .control .persisted) h, ← l) (ran-part lines k x)
+        rw (← read .is, le-leb (rangeOf e .from) (u .control .persisted) (omega arith), ← l) (ran-part lines k x)
 
 -- of an entry that ends above P, the test of its begin alone decides
 restore-same : (board : List ℕ) (u : LogState) (i at : ℕ) → at ≡ placeOf u i → u .control .persisted < entryIn board u i .till

@@ -1,14 +1,19 @@
 -- Undo entries: the range that an entry's word says, and when it is proper.
-use Prim.Native.Nat.{ℕ, _+_}
+use Prim.Native.Nat.{ℕ, _+_, _-_}
 use mathlib.Core.Bool.{Bool, _&&_}
 use lib.Dec.{ltb}
 use Rattle.ranges.specs.Ranges.{Range, properRange}
 use Rattle.layout.specs.declared.Entry.{Entry}
 use Rattle.layout.specs.Limits.{mostAhead}
+use Rattle.layout.specs.Words.{formed}
 
--- "address 16, ValidFrom 24, ValidTill 24"
+-- request 9/13: "span is ValidTill − ValidFrom"
 abbrev pub rangeOf : Entry → Range
-rangeOf e = record { address = e .address; from = e .from; till = e .till }
+rangeOf e = record { address = e .address; from = e .till - e .span; till = e .till }
+
+-- An entry's word: its span is one that arises, and its range is proper, with a ValidTill from least to most.
+unfoldable pub properWord : (lines least most : ℕ) → Entry → Bool
+properWord lines least most e = formed e && properRange lines least most (rangeOf e)
 
 -- "A proper log entry has address < N, ValidFrom < ValidTill, P < ValidTill, and a ValidTill not below that of the next
 -- older entry." Request 2/13: "A log entry is now proper only if ValidTill ≤ P + 16 as well."

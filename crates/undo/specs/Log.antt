@@ -6,16 +6,15 @@ use mathlib.Core.Bool.{Bool, true, false, cond, _||_}
 use mathlib.Core.List.{List, [], _++_}
 use lib.Dec.{leb, eqb}
 use lib.ListN.{length, getD, set, replicate}
-use Rattle.ranges.specs.Ranges.{properRange}
 use Rattle.base.specs.Walk.{first}
 use Rattle.board.specs.Stores.{Store, one, each, shifted}
 use Rattle.layout.specs.declared.Control.{Control}
 use Rattle.layout.specs.declared.Entry.{Entry}
 use Rattle.layout.specs.Limits.{epochBits, mostEntries, bufferPlaces}
 use Rattle.layout.specs.Memory.{controlAt, logAt, linesAt, entryWords}
-use Rattle.layout.specs.Words.{encodeControl, encodeEntry, decodeEntry}
+use Rattle.layout.specs.Words.{encodeControl, encodeEntry, decodeEntry, formed}
 use Rattle.undo.specs.declared.LogState.{LogState}
-use Rattle.undo.specs.Entries.{rangeOf}
+use Rattle.undo.specs.Entries.{rangeOf, properWord}
 use Rattle.undo.specs.Recovery.{Log, properAt, firstImproper, restoreAll}
 use Rattle.undo.specs.Filter.{isBitOf, marks, marking}
 
@@ -43,18 +42,18 @@ entryIn board u i = decodeEntry (getD board (logAt + placeOf u i) 0)
 unfoldable pub oldIn : List ℕ → LogState → ℕ → ℕ
 oldIn board u i = getD board (logAt + placeOf u i + 1) 0
 
--- as recovery reads it: an entry may have any word
+-- as recovery reads it
 abbrev pub logIn : List ℕ → LogState → Log
 logIn board u =
-    record { persisted = u .control .persisted; count = u .control .length; formed = λ i. true; range = λ i. rangeOf (entryIn board u i); old = oldIn board u }
+    record { persisted = u .control .persisted; count = u .control .length; formed = λ i. formed (entryIn board u i); range = λ i. rangeOf (entryIn board u i); old = oldIn board u }
 
 -- The buffer, entry i behind i others.
 unfoldable pub bufferedIn : List ℕ → ℕ → Entry
 bufferedIn buffer i = decodeEntry (getD buffer (entryWords * i) 0)
 
--- "A proper buffered entry has address < N and ValidFrom < ValidTill ≤ s."
+-- "A proper buffered entry has address < N and ValidFrom < ValidTill ≤ s"; its span is one that arises
 unfoldable pub bufferedProper : List ℕ → (lines epoch : ℕ) → ℕ → Bool
-bufferedProper buffer lines epoch i = properRange lines 0 epoch (rangeOf (bufferedIn buffer i))
+bufferedProper buffer lines epoch i = properWord lines 0 epoch (bufferedIn buffer i)
 
 -- "7 buffer: a buffered entry is not proper": none of the first count is
 unfoldable pub bufferProper : List ℕ → (count lines epoch : ℕ) → Bool

@@ -12,7 +12,7 @@ use Rattle.undo.specs.Entries.{properEntry}
 pub record Log : Type 0 where
   pub persisted : ℕ
   pub count : ℕ
-  -- whether an entry's word is one that its packing gives: what no range can tell
+  -- whether an entry's word says a range at all
   pub formed : ℕ → Bool
   pub range : ℕ → Range
   pub old : ℕ → ℕ

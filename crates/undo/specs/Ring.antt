@@ -10,6 +10,7 @@ use Rattle.layout.specs.declared.Entry.{Entry}
 use Rattle.layout.specs.Memory.{logAt, linesAt}
 use Rattle.layout.specs.Words.{decodeEntry}
 use Rattle.undo.specs.declared.LogState.{LogState}
+use Rattle.undo.specs.Entries.{rangeOf}
 
 -- end is the number of the ring's words
 unfoldable pub nextPlace : (end at : ℕ) → ℕ
@@ -21,6 +22,6 @@ entryAt board at = decodeEntry (getD board (logAt + at) 0)
 -- the restoring of an entry whose ValidTill is above P, as every proper one's is
 unfoldable pub restoreAt : List ℕ → LogState → ℕ → List Store
 restoreAt board u at =
-    cond (leb (entryAt board at .from) (u .control .persisted))
+    cond (leb (rangeOf (entryAt board at) .from) (u .control .persisted))
     (one (linesAt (u .entries) + entryAt board at .address) (getD board (logAt + at + 1) 0))
     []

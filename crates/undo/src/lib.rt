@@ -9,11 +9,10 @@ ghost use mathlib.Core.Bool.{_&&_};
 ghost use mathlib.Core.Path.{_≡_};
 ghost use Rattle.base.specs.Walk.{first};
 ghost use Rattle.board.specs.Stores.{Ran, each};
-ghost use Rattle.ranges.specs.Ranges.{properRange};
 ghost use Rattle.layout.specs.Limits.{epochBits, mostLines, mostEntries, bufferPlaces};
 ghost use Rattle.layout.specs.Memory.{logAt, linesAt, bufferWords, entryWords};
 ghost use Rattle.layout.specs.Words.{decodeEntry};
-ghost use Rattle.undo.specs.Entries.{rangeOf};
+ghost use Rattle.undo.specs.Entries.{properWord};
 ghost use Rattle.undo.specs.Recovery.{properAt, firstImproper};
 ghost use Rattle.undo.specs.Log.{logIn, Sound, Placed, bufferProper, bufferMarked};
 ghost use Rattle.undo.specs.Log.{DroppedBy, KeptBy, entryStores, counted, flushed, advanceStores};
@@ -90,15 +89,16 @@ fn is_between(epoch: u64, least: u64, most: u64) -> bool
 fn is_proper_word(word: u64, lines: u64, least: u64, most: u64) -> bool
     requires { ⌜ 1 ≤ lines ⌝ }
     requires { ⌜ lines ≤ mostLines ⌝ }
-    ensures { λ r. ⌜ r ≡ properRange lines least most (rangeOf (decodeEntry word)) ⌝ }
+    ensures { λ r. ⌜ r ≡ properWord lines least most (decodeEntry word) ⌝ }
 {
     if !layout::is_address_below(word, lines) {
         return false;
     }
-    if !layout::is_range(word) {
+    let entry = Entry::decode(word);
+    if !entry.is_formed() {
         return false;
     }
-    is_between(Entry::decode(word).till, least, most)
+    is_between(entry.till, least, most)
 }
 
 // The first word of entry i, counted from the log's first word.
@@ -186,6 +186,7 @@ pub fn first_improper(board: &[u64], undo: LogState, lines: u64) -> u64
 // Of left entries that stand one behind the other from a place on, those are dropped that the target makes useless, up to the first that it does
 // not. It stops where least are left.
 fn kept_from(board: &[u64], target: u64, at: usize, left: u64, least: u64) -> u64
+    requires { ⌜ target < 2 ^ epochBits ⌝ }
     requires { ⌜ least ≤ left ⌝ }
     requires { ⌜ logAt + at + entryWords * (left - least) ≤ length (now board) ⌝ }
     ensures { λ r. ⌜ KeptFrom (now (board .entry)) target at left least r ⌝ }
@@ -196,8 +197,7 @@ fn kept_from(board: &[u64], target: u64, at: usize, left: u64, least: u64) -> u6
         if rest == least {
             break rest;
         }
-        let entry = Entry::decode(board[LOG_AT + place]);
-        if entry.till > target {
+        if !layout::is_till_at_most(board[LOG_AT + place], target) {
             break rest;
         }
         place += ENTRY_WORDS;
@@ -209,8 +209,7 @@ fn kept_from(board: &[u64], target: u64, at: usize, left: u64, least: u64) -> u6
 // How many of the log's entries are left once the oldest run is dropped that the target makes useless: first those before the ring's end, then
 // those from its beginning on.
 fn kept_by(board: &[u64], undo: LogState, target: u64) -> u64
-    requires { ⌜ Sound undo ⌝ }
-    requires { ⌜ linesAt (undo .entries) ≤ length (now board) ⌝ }
+    requires { ⌜ AdvanceReady (now board) undo target ⌝ }
     ensures { λ r. ⌜ KeptBy (now (board .entry)) undo target r ⌝ }
 {
     let first = ENTRY_WORDS * undo.control.start as usize;
@@ -227,9 +226,8 @@ fn kept_by(board: &[u64], undo: LogState, target: u64) -> u64
 }
 
 // How many of the oldest entries no longer matter once the target is persisted.
-pub fn dropped_by(board: &[u64], undo: LogState, target: u64) -> u64
-    requires { ⌜ Sound undo ⌝ }
-    requires { ⌜ linesAt (undo .entries) ≤ length (now board) ⌝ }
+fn dropped_by(board: &[u64], undo: LogState, target: u64) -> u64
+    requires { ⌜ AdvanceReady (now board) undo target ⌝ }
     ensures { λ r. ⌜ DroppedBy (now (board .entry)) undo target r ⌝ }
 {
     undo.control.length - kept_by(board, undo, target)
@@ -240,7 +238,7 @@ fn is_buffered_proper(word: u64, lines: u64, epoch: u64) -> bool
     requires { ⌜ 1 ≤ lines ⌝ }
     requires { ⌜ lines ≤ mostLines ⌝ }
     requires { ⌜ epoch < 2 ^ epochBits ⌝ }
-    ensures { λ r. ⌜ r ≡ properRange lines 0 epoch (rangeOf (decodeEntry word)) ⌝ }
+    ensures { λ r. ⌜ r ≡ properWord lines 0 epoch (decodeEntry word) ⌝ }
 {
     if !layout::is_address_below(word, lines) {
         return false;
@@ -248,7 +246,7 @@ fn is_buffered_proper(word: u64, lines: u64, epoch: u64) -> bool
     if !layout::is_till_at_most(word, epoch) {
         return false;
     }
-    layout::is_range(word)
+    layout::is_formed_word(word)
 }
 
 // Whether the first entries of the buffer, count of them, are proper.

@@ -21,7 +21,7 @@ fn restore_entry(board: &mut [u64], undo: LogState, at: usize, meter: Meter) -> 
     ensures { λ r. ⌜ Ran (now (board .entry)) meter (restoreAt (now (board .entry)) undo at) (now (board .exit)) r ⌝ }
 {
     let entry = Entry::decode(board[LOG_AT + at]);
-    if entry.from > undo.control.persisted {
+    if entry.till > undo.control.persisted + entry.span {
         return meter;
     }
     let old = board[LOG_AT + at + 1];

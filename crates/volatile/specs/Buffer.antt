@@ -9,12 +9,13 @@ use lib.Dec.{eqb}
 use lib.ListN.{length, getD, set, length-set, length-drop, replicate, length-replicate}
 use lib.Seq.{getD-set-same, getD-set-other}
 use Rattle.base.specs.Walk.{all-first}
-use Rattle.ranges.specs.Ranges.{properRange, proper-rebound}
+use Rattle.ranges.specs.Ranges.{properRange, proper-facts, proper-rebound}
 use Rattle.layout.specs.declared.Entry as layout
 use Rattle.layout.specs.Laws.{entry-laws}
 use Rattle.layout.specs.Limits.{bufferPlaces}
 use Rattle.layout.specs.Memory.{filterAt, bufferWords, bufferIn}
-use Rattle.layout.specs.Words.{encodeEntry, EntryFits}
+use Rattle.layout.specs.Words.{encodeEntry, EntryFits, formed}
+use Rattle.undo.specs.Entries.{rangeOf, properWord}
 use Rattle.undo.specs.declared.LogState.{LogState}
 use Rattle.undo.specs.Log.{bufferedIn, bufferedProper, bufferProper, pushed, flushedBuffer}
 use Rattle.undo.specs.Marks.{marking-length, marking-before}
@@ -22,9 +23,9 @@ use Rattle.base.specs.Every.{Every, every-split, every-map}
 use Rattle.history.specs.Invariant.{ProperEntry}
 use Rattle.history.specs.Machine.{Entry}
 use Rattle.history.specs.Proper.{entry-facts}
-use Rattle.base.specs.Cases.{here-or-there}
-use Rattle.base.specs.Listed.{listed, listed-same, listed-append, every-listed}
-use Rattle.durable.specs.View.{entryWith, bufferedAt, bufferOf}
+use Rattle.base.specs.Listed.{listed, listed-same, listed-append, every-listed, listed-every}
+use Rattle.durable.specs.Recover.{some-formed}
+use Rattle.durable.specs.View.{rangeIf, entryWith, bufferedAt, bufferOf}
 
 pub buffer-none : (buffer : List ℕ) → bufferOf buffer 0 ≡ []
 unfolding listed
@@ -45,12 +46,7 @@ module _ (Q : Entry → Type 0) (buffer : List ℕ) where
   every-buffered n h = every-listed Q (bufferedAt buffer) 0 n (λ k least below. h k (omega arith))
 
   pub buffered-every : (n : ℕ) → Every Q (bufferOf buffer n) → (i : ℕ) → i < n → Q (bufferedAt buffer i)
-  buffered-every zero h = λ i below. absurd (omega arith)
-  buffered-every (suc n) h =
-      let parts = every-split Q (bufferOf buffer n) (bufferedAt buffer n ∷ []) (rw (buffer-next buffer n) at h) in
-      here-or-there n (λ i. i < suc n → Q (bufferedAt buffer i))
-      (λ _. parts .1 .0)
-      (λ i away below. buffered-every n (parts .0) i (omega arith))
+  buffered-every n h i below = listed-every Q (bufferedAt buffer) 0 n h i (omega arith) (omega arith)
 
 -- ---- the buffer's words
 
@@ -115,12 +111,19 @@ module _ (buffer : List ℕ) (n : ℕ) (e : layout.Entry) (old : ℕ) where
 
 -- ---- "7 buffer: a buffered entry is not proper"
 
+-- what is read as a proper range is a proper word
+read-proper : (lines epoch : ℕ) (e : layout.Entry) → properRange lines 0 epoch (rangeIf (formed e) (rangeOf e)) ≡ true → properWord lines 0 epoch e ≡ true
+unfolding properWord
+read-proper lines epoch e h =
+    let says : formed e ≡ true = some-formed (formed e) (rangeOf e) (proper-facts lines 0 epoch _ h .nonempty) in
+    rw says (rw says at h)
+
 module _ (buffer : List ℕ) (count lines epoch : ℕ) where
   buffer-proper : Every (λ x. properRange lines 0 epoch (x .range) ≡ true) (bufferOf buffer count) → bufferProper buffer count lines epoch ≡ true
   unfolding bufferProper bufferedProper bufferedAt
   buffer-proper h =
       all-first (bufferedProper buffer lines epoch) count
-      (buffered-every (λ x. properRange lines 0 epoch (x .range) ≡ true) buffer count h)
+      (λ i below. read-proper lines epoch (bufferedIn buffer i) (buffered-every (λ x. properRange lines 0 epoch (x .range) ≡ true) buffer count h i below))
 
   -- the buffered entries are the last of all entries
   pub entries-buffer-proper : (W low : ℕ) (log : List Entry) → Every (ProperEntry lines W low epoch) (log ++ bufferOf buffer count)

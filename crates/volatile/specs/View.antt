@@ -1,24 +1,25 @@
 -- The work memory and the registers as the abstract machine's volatile state, and what each step makes of it in that machine's
 -- terms.
-use Prim.Native.Nat.{ℕ, _+_, _^_, _<_}
+use Prim.Native.Nat.{ℕ, _+_, _-_, _^_, _<_, _≤_}
 use mathlib.Core.Path.{_≡_, ap, _∙_}
 use mathlib.Core.Bool.{true}
 use mathlib.Core.List.{List, [], _∷_, _++_}
 use native.Mathlib.Numerals.{add-one}
 use native.Mathlib.Omega.{arith}
+use borrow.Author.Tests.{le-leb}
 use lib.ListN.{length}
 use Rattle.layout.specs.declared.Entry as layout
 use Rattle.layout.specs.declared.Slot.{Slot}
-use Rattle.layout.specs.Limits.{epochBits, bufferPlaces}
+use Rattle.layout.specs.Limits.{epochBits, bufferPlaces, mostAhead}
 use Rattle.layout.specs.Memory.{bufferWords, bufferIn, slotIn}
-use Rattle.layout.specs.Words.{EntryFits}
+use Rattle.layout.specs.Words.{EntryFits, formed}
 use Rattle.undo.specs.declared.LogState.{LogState}
 use Rattle.undo.specs.Log.{pushed, flushedBuffer}
 use Rattle.slots.specs.declared.Bounds.{Bounds}
 use Rattle.slots.specs.Slots.{holds, dirtySlot, dirtied}
 use Rattle.layout.specs.Memory.{withBuffer}
-use Rattle.steps.specs.Effects.{logged}
-use Rattle.history.specs.Machine.{Entry, Line, dirty, Durable, Volatile, marked, unbuffered, nextEpoch, restarted}
+use Rattle.steps.specs.Effects.{entryBetween, logged}
+use Rattle.history.specs.Machine.{Entry, Line, dirty, Durable, Volatile, undo, marked, unbuffered, nextEpoch, restarted}
 use Rattle.base.specs.Cases.{update}
 use Rattle.volatile.specs.Parts.{with-buffer}
 use Rattle.volatile.specs.Cache.{cacheOf}
@@ -39,9 +40,12 @@ withLines w lines = record { running = w .running; buffer = w .buffer; cache = l
 abbrev pub withEntries : Volatile → List Entry → Volatile
 withEntries w entries = record { running = w .running; buffer = entries; cache = w .cache }
 
--- the fields of the entry that a store makes in epoch s: history's `undo`, but for the data
-abbrev pub undoFields : (s address from : ℕ) → layout.Entry
-undoFields s address from = record { address = address; from = from; till = s }
+-- the entry that a store makes, which spans at most as many epochs as s may be ahead, is read as history's `undo`
+pub undo-read : (s address from old : ℕ) → from < s → s ≤ from + mostAhead → entryWith (entryBetween address from s) old ≡ undo s address from old
+unfolding formed
+undo-read s address from old early near =
+    let since : s - (s - from) ≡ from = omega arith in
+    rw (le-leb 1 (s - from) (omega arith), le-leb (s - from) mostAhead (omega arith), le-leb (s - from) s (omega arith), since)
 
 -- ---- power-up and commit
 
@@ -125,13 +129,15 @@ module _ {b : Bounds} {work : List ℕ} (slotted : Slotted b work) where
           dirtied-held (logged-slotted e old) k below address (logged-holds e old k address below ∙ h)
           (b .epoch) value ahead (omega arith) last
 
-      pub view-marked : (from : ℕ) → from < b .epoch → u .buffered < bufferPlaces
-          → volatileOf (dirtied (logged u work (undoFields (b .epoch) address from) old) k address (b .epoch) value)
+      pub view-marked : (from : ℕ) → from < b .epoch → b .epoch ≤ from + mostAhead → u .buffered < bufferPlaces
+          → volatileOf (dirtied (logged u work (entryBetween address from (b .epoch)) old) k address (b .epoch) value)
           (b .slots) (b .epoch) (u .buffered + 1)
           ≡ marked (volatileOf work (b .slots) (b .epoch) (u .buffered)) address from old value
-      view-marked from early place =
-          let e = undoFields (b .epoch) address from in
-          let fits : EntryFits e = record { address = slot-home slotted k address below h .fits; from = omega arith; till = last } in
+      view-marked from early near place =
+          let e = entryBetween address from (b .epoch) in
+          let fits : EntryFits e = record { address = slot-home slotted k address below h .fits; till = last; span = omega arith } in
+          let read = undo-read (b .epoch) address from old early near in
           view-stored (marked-stored e) (b .epoch) (u .buffered + 1)
           ∙ ap (λ (w : Volatile). withLines w (update (w .cache) address (dirty (b .epoch) value)))
-          (view-logged e old place fits (b .epoch))
+          (view-logged e old place fits (b .epoch)
+          ∙ ap (λ (x : Entry). withEntries (volatileOf work (b .slots) (b .epoch) (u .buffered)) (bufferOf (bufferIn work) (u .buffered) ++ (x ∷ []))) read)

@@ -25,7 +25,7 @@ abbrev pub control : (persisted start length : ℕ) → Control
 control persisted start length = record { persisted = persisted; start = start; length = length }
 
 abbrev pub entry : (address from till : ℕ) → Entry
-entry address from till = record { address = address; from = from; till = till }
+entry address from till = record { address = address; till = till; span = till - from }
 
 abbrev pub slot : (valid dirty : Bool) → (address tag : ℕ) → Slot
 slot valid dirty address tag = record { valid = valid; dirty = dirty; address = address; tag = tag; spare = 0 }
@@ -40,13 +40,13 @@ dirty tag = slot true true 3 tag
 abbrev pub undo : (address from till old : ℕ) → List ℕ
 undo address from till old = encodeEntry (entry address from till) ∷ old ∷ []
 
--- two entries for line 3 from epoch 0 and from epoch 1 on, with the data 4 and 6
+-- two entries for line 3, each as wide as any may be, with the data 4 and 6
 abbrev pub ending : (till₁ till₂ : ℕ) → List ℕ
-ending till₁ till₂ = undo 3 0 till₁ 4 ++ undo 3 1 till₂ 6
+ending till₁ till₂ = undo 3 (till₁ - 16) till₁ 4 ++ undo 3 (till₂ - 16) till₂ 6
 
 -- one for it that ends in the last epoch
 abbrev pub endingLast : List ℕ
-endingLast = undo 3 0 lastEpoch 4
+endingLast = undo 3 (lastEpoch - 16) lastEpoch 4
 
 -- two with W5's range, over the ring's end: the older, with the data 4, in the log's last place, the newer, with 6, in its first
 abbrev pub around : List ℕ

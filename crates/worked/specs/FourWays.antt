@@ -9,7 +9,9 @@ use Rattle.board.specs.Verdict.{refused, boardAfter, workAfter}
 use Rattle.layout.specs.Fields.{width, pack, unpack, encode, decode}
 use Rattle.layout.specs.Memory.{withBuffer}
 use Rattle.status.specs.declared.Status.the-variants as status
+use Rattle.layout.specs.Words.{formed}
 use Rattle.ranges.specs.Ranges.{properRange}
+use Rattle.undo.specs.Entries.{properWord}
 use Rattle.undo.specs.Filter.{firstBit, secondBit, isSet, withBit, marking, marks, hits, onesOf}
 use Rattle.undo.specs.Log.{placeOf, bufferedIn, bufferedProper, bufferProper, bufferedMarked, bufferMarked}
 use Rattle.undo.specs.Log.{pushed, entryStores, flushed, flushStores, flushedBuffer}
@@ -173,7 +175,7 @@ pub record FourWays : Type 0 where
       × (loadingFrom 260 ≡ refused status.Work 0)
 
 pub four-ways : FourWays
-unfolding width pack unpack encode decode firstFrom applied each shifted boardAfter workAfter withBuffer properRange
+unfolding width pack unpack encode decode firstFrom applied each shifted boardAfter workAfter withBuffer formed properRange properWord
     firstBit secondBit isSet withBit marking marks hits onesOf ones placeOf bufferedIn bufferedProper bufferProper bufferedMarked bufferMarked
     pushed entryStores flushed flushStores flushedBuffer
     slots.setOf slots.properTag slots.properFull slots.properSlot slots.properAt slots.holds sets.placesOf sets.properSet sets.victimOf sets.spotOf

@@ -6,5 +6,7 @@ pub mod Sets
 pub mod FourWays
 pub mod Hex
 pub mod Passes
+pub mod FortyBits
+pub mod Conversions
 pub mod Replayed
 pub mod Table

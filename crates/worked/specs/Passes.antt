@@ -9,10 +9,10 @@ use Rattle.board.specs.Verdict.{refused, due, boardAfter, workAfter}
 use Rattle.layout.specs.declared.Control.{Control}
 use Rattle.layout.specs.Fields.{width, pack, unpack, encode, decode}
 use Rattle.layout.specs.Memory.{shapeFor, withBuffer}
-use Rattle.layout.specs.Words.{encodeControl, encodeShape}
+use Rattle.layout.specs.Words.{encodeControl, encodeShape, formed}
 use Rattle.status.specs.declared.Status.the-variants as status
 use Rattle.ranges.specs.Ranges.{covers, properRange}
-use Rattle.undo.specs.Entries.{properEntry}
+use Rattle.undo.specs.Entries.{properWord, properEntry}
 use Rattle.undo.specs.Recovery as recovery
 use Rattle.undo.specs.Filter as filters
 use Rattle.undo.specs.Log as log
@@ -120,7 +120,7 @@ pub record Passes : Type 0 where
   pub cursor-out : tallied 0 (at 5 0 3) ≡ refused status.Regs 0
 
 pub passes : Passes
-unfolding width pack unpack encode decode firstFrom applied each shifted boardAfter workAfter withBuffer covers properRange properEntry
+unfolding width pack unpack encode decode firstFrom applied each shifted boardAfter workAfter withBuffer covers formed properRange properWord properEntry
     filters.firstBit filters.secondBit filters.isSet filters.marks filters.hits
     log.placeOf log.entryIn log.oldIn recovery.olderTill recovery.properAt recovery.firstImproper log.bufferedIn log.bufferedProper log.bufferProper log.bufferedMarked
     log.bufferMarked log.entryStores log.flushed log.flushStores log.flushedBuffer log.expired log.dropped log.advanceStores recovery.restoreStores

@@ -5,7 +5,8 @@ use Rattle.base.specs.Walk.{firstFrom}
 use Rattle.board.specs.Stores.{applied, each, shifted}
 use Rattle.layout.specs.Fields.{width, pack, unpack, encode, decode}
 use Rattle.ranges.specs.Ranges.{covers, properRange}
-use Rattle.undo.specs.Entries.{properEntry}
+use Rattle.layout.specs.Words.{formed}
+use Rattle.undo.specs.Entries.{properWord, properEntry}
 use Rattle.undo.specs.Recovery.{olderTill, properAt, firstImproper, restoreStores, restoreTurn}
 use Rattle.undo.specs.Log.{placeOf, entryIn, oldIn, bufferedIn, bufferedProper, bufferProper}
 use Rattle.undo.specs.Log.{expired, dropped, advanceStores}
@@ -61,7 +62,7 @@ pub record Replayed : Type 0 where
       "n ok 0 1 1 0 0 0\ns ok 0 0 1 0 0 1\ne cut 0 3 0 0 1 0\np cut 0 1 0 0 1 0\np ok 0 2 1 0 0 0\n"
 
 pub replayed : Replayed
-unfolding width pack unpack encode decode firstFrom applied each shifted covers properRange properEntry placeOf entryIn oldIn olderTill
+unfolding width pack unpack encode decode firstFrom applied each shifted covers formed properRange properWord properEntry placeOf entryIn oldIn olderTill
     properAt firstImproper bufferedIn bufferedProper bufferProper firstBit secondBit isSet withBit marking marks hits bufferedMarked bufferMarked pushed
     entryStores flushed flushStores flushedBuffer restoreStores restoreTurn recoverStores slots.setOf slots.properTag slots.properFull slots.properSlot
     slots.properAt slots.holds sets.placesOf sets.properSet sets.victimOf sets.spotOf slots.zeroed slots.dirtied slots.cleaned withBuffer flushingIf

@@ -9,10 +9,10 @@ use Rattle.base.specs.Walk.{firstFrom}
 use Rattle.board.specs.Stores.{applied, each, shifted}
 use Rattle.layout.specs.Fields.{width, pack, unpack, encode, decode}
 use Rattle.layout.specs.Limits.{lastEpoch}
-use Rattle.layout.specs.Words.{encodeControl, encodeShape, encodeEntry, encodeSlot}
+use Rattle.layout.specs.Words.{encodeControl, encodeShape, encodeEntry, encodeSlot, formed}
 use Rattle.status.specs.Numbers.{numberOf}
 use Rattle.ranges.specs.Ranges.{covers, properRange}
-use Rattle.undo.specs.Entries.{rangeOf, properEntry}
+use Rattle.undo.specs.Entries.{rangeOf, properWord, properEntry}
 use Rattle.undo.specs.Recovery.{olderTill, properAt, firstImproper, restoreStores, restoreTurn}
 use Rattle.undo.specs.Log.{placeOf, entryIn, oldIn, bufferedIn, bufferedProper, bufferProper}
 use Rattle.undo.specs.Log.{expired, dropped, advanceStores}
@@ -49,27 +49,22 @@ use Rattle.worked.specs.Bench.{control, entry, slot, clean, dirty, undo,
 use Rattle.worked.specs.Bench.{around, ending, endingLast, powerUp, RestoresAs, store, evict, commit, scan, still, ok, improper}
 use Rattle.worked.specs.Filtered.{buffer, full, store14, commit14, scan14, wide, evictShared}
 use Rattle.worked.specs.FourWays.{FourWays, four-ways}
+use Rattle.worked.specs.Conversions.{Conversions, conversions}
+use Rattle.worked.specs.FortyBits.{FortyBits, forty-bits}
 use Rattle.worked.specs.Hex.{Exported, exported}
 use Rattle.worked.specs.Passes.{Passes, passes}
 use Rattle.worked.specs.Replayed.{Replayed, replayed}
 use Rattle.worked.specs.Counted.{holding, loading, storing, evicting, scanning, committing, badEntry, before7, before11}
 
 pub record Worked : Type 0 where
-  -- "W1 entry 5, 1, 2: hexadecimal 0005000001000002."
-  pub w1 : encodeEntry (entry 5 1 2) ≡ 0x0005000001000002
-  -- "W2 control P 1, start 1, length 1: 0000010000100001."
-  pub w2 : encodeControl (control 1 1 1) ≡ 0x0000010000100001
-  -- "W3 N 4, L 8: 0000000000400008."
-  pub w3 : encodeShape (shapeFor 4 8) ≡ 0x0000000000400008
-  -- "W4 slot valid, dirty, address 3, tag 2: C000C00000800000."
-  pub w4 : encodeSlot (slot true true 3 2) ≡ 0xC000C00000800000
-  -- fields of ones, and counts of 65,536 = 10000: each in its place and in no other. Address 16, ValidFrom 24, ValidTill 24 ..
-  pub ones-entry : (encodeEntry (entry 65535 0 lastEpoch) ≡ 0xFFFF000000FFFFFF) × (encodeEntry (entry 0 lastEpoch 0) ≡ 0x0000FFFFFF000000)
-  -- .. P 24, start 20, length 20, and zero 24, N 20, L 20 ..
-  pub ones-control : encodeControl (control lastEpoch 65535 65536) ≡ 0xFFFFFF0FFFF10000
-  pub ones-shape : encodeShape (shapeFor 65536 65536) ≡ 0x0000001000010000
-  -- .. and 18 ones and 46 zeros; a one, 17 zeros, 24 ones and 22 zeros
-  pub ones-slot : (encodeSlot (slot true true 65535 0) ≡ 0xFFFFC00000000000) × (encodeSlot (slot true false 0 lastEpoch) ≡ 0x80003FFFFFC00000)
+  -- W1 to W4 "are worked anew" by 9/13. "W1 entry 5, 1, 2": address 5, ValidTill 2, span 1
+  pub w1 : encodeEntry (entry 5 1 2) ≡ 0x0005000000000201
+  -- "W2 control P 1, start 1, length 1"
+  pub w2 : encodeControl (control 1 1 1) ≡ 0x0000000001001001
+  -- "W3 N 4, L 8"
+  pub w3 : encodeShape (shapeFor 4 8) ≡ 0x0000010000400008
+  -- "W4 slot valid, dirty, address 3, tag 2"
+  pub w4 : encodeSlot (slot true true 3 2) ≡ 0xC000C00000000080
   -- "W5 range 1, 3 covers 1 and 2, not 0, not 3."
   pub w5-covers : (covers (rangeOf (entry 3 1 3)) 1 ≡ true) × (covers (rangeOf (entry 3 1 3)) 2 ≡ true)
   pub w5-not : (covers (rangeOf (entry 3 1 3)) 0 ≡ false) × (covers (rangeOf (entry 3 1 3)) 3 ≡ false)
@@ -245,6 +240,9 @@ pub record Worked : Type 0 where
   pub in-hex : Exported
   -- 8/13: passes of several epochs
   pub in-passes : Passes
+  -- 9/13: epochs of 40 bits
+  pub in-forty-bits : FortyBits
+  pub in-conversions : Conversions
   -- "Replay on the bench": whole scripts
   pub in-replay : Replayed
 
@@ -255,7 +253,7 @@ all-counted word e = rw e
 
 pub worked : Worked
 unfolding width pack unpack encode decode
-    firstFrom applied each shifted covers properRange properEntry placeOf entryIn oldIn olderTill properAt firstImproper bufferedIn
+    firstFrom applied each shifted covers formed properRange properWord properEntry placeOf entryIn oldIn olderTill properAt firstImproper bufferedIn
     bufferedProper bufferProper firstBit secondBit isSet withBit marking marks hits onesOf ones onesIn bufferedMarked bufferMarked pushed entryStores flushed flushStores flushedBuffer restoreStores restoreTurn recoverStores
     slots.setOf slots.properTag slots.properFull slots.properSlot slots.properAt slots.holds sets.placesOf sets.properSet sets.victimOf sets.spotOf slots.zeroed
     slots.dirtied slots.cleaned withBuffer flushingIf writingOut writingBack emptying slots.entryDue slots.undoDue entryFor logged storingHeld
@@ -272,10 +270,6 @@ worked =
       w2 = refl;
       w3 = refl;
       w4 = refl;
-      ones-entry = (refl, refl);
-      ones-control = refl;
-      ones-shape = refl;
-      ones-slot = (refl, refl);
       w5-covers = (refl, refl);
       w5-not = (refl, refl);
       w5-restores = ((refl, refl), (refl, refl), (refl, refl));
@@ -395,5 +389,7 @@ worked =
       in-sets = four-ways;
       in-hex = exported;
       in-passes = passes;
+      in-forty-bits = forty-bits;
+      in-conversions = conversions;
       in-replay = replayed;
     }

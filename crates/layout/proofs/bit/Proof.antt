@@ -1,4 +1,4 @@
-use Rattle.layout.proofs.Reading.{is-bit}
+use Rattle.layout.specs.Reading.{is-bit}
 use borrow.Author.Needs.{needs}
 use Rattle.layout.proofs.bit.Statement.{statement}
 use Rattle.layout.proofs.bit.Tie as tie

@@ -9,15 +9,18 @@ cast-result c = search needs
 shl-result : tie.Need-shl-result
 shl-result c = search needs
 
-cast-result-2 : tie.Need-cast-result-2
-cast-result-2 c = search needs
+mul-result : tie.Need-mul-result
+mul-result c = search needs
 
-shl-result-2 : tie.Need-shl-result-2
-shl-result-2 c = search needs
+sub-result : tie.Need-sub-result
+sub-result c = search needs
+
+add-result : tie.Need-add-result
+add-result c = search needs
 
 returns : tie.Need-returns
 returns c = search (till-at-most)
 
 pub is-till-at-most-spec : {M : Type 1} → statement M
 is-till-at-most-spec =
-    tie.close (tie.spec cast-result shl-result cast-result-2 shl-result-2 returns)
+    tie.close (tie.spec cast-result shl-result mul-result sub-result add-result returns)

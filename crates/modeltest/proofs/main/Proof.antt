@@ -8,7 +8,7 @@ abbrev Inv-loop : tie.InvT-loop
 Inv-loop h₀ n₀ h n = Unit {0}
 
 abbrev μ-loop : tie.MeasureT-loop
-μ-loop h₀ n₀ h n = 240000 - n
+μ-loop h₀ n₀ h n = 216000 - n
 
 new-score-requires : tie.Need-new-score-requires Inv-loop μ-loop
 new-score-requires c κs = search needs
@@ -31,6 +31,9 @@ loop-less c = search needs
 loop-again : tie.Need-loop-again Inv-loop μ-loop
 loop-again c = search needs
 
+large-boards-requires : tie.Need-large-boards-requires Inv-loop μ-loop
+large-boards-requires c κs = search needs
+
 report-requires : tie.Need-report-requires Inv-loop μ-loop
 report-requires c κs = search needs
 
@@ -50,5 +53,6 @@ main-spec =
     add-n
     loop-less
     loop-again
+    large-boards-requires
     report-requires
     returns)

@@ -1,4 +1,4 @@
-use Rattle.steps.proofs.StoringAbsent.{absent-stored}
+use Rattle.steps.proofs.StoringAbsent.{absent-log-ready, absent-stored}
 use borrow.Author.Needs.{needs}
 use Rattle.steps.proofs.store_absent.Statement.{statement}
 use Rattle.steps.proofs.store_absent.Tie as tie
@@ -15,8 +15,11 @@ mul-old c = search needs
 slice-read-old : tie.Need-slice-read-old
 slice-read-old c = search needs
 
+entry-between-requires : tie.Need-entry-between-requires
+entry-between-requires c κs = search needs
+
 log-store-requires : tie.Need-log-store-requires
-log-store-requires c κs = search needs
+log-store-requires c κs = search (absent-log-ready)
 
 same-length : tie.Need-same-length
 same-length c = search needs
@@ -35,6 +38,7 @@ store-absent-spec =
     add-at
     mul-old
     slice-read-old
+    entry-between-requires
     log-store-requires
     same-length
     same-length-2

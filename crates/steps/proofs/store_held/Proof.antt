@@ -1,4 +1,4 @@
-use Rattle.steps.proofs.StoringHeld.{held-again, held-log-ready, held-logged}
+use Rattle.steps.proofs.StoringHeld.{held-again, held-tagged, held-log-ready, held-logged}
 use borrow.Author.Needs.{needs}
 use Rattle.steps.proofs.store_held.Statement.{statement}
 use Rattle.steps.proofs.store_held.Tie as tie
@@ -25,7 +25,7 @@ returns : tie.Need-returns
 returns c = search (held-again)
 
 entry-for-requires : tie.Need-entry-for-requires
-entry-for-requires c κs = search needs
+entry-for-requires c κs = (search needs, search (held-tagged))
 
 mul-old : tie.Need-mul-old
 mul-old c = search needs

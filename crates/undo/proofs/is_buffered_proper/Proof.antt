@@ -1,4 +1,4 @@
-use Rattle.undo.proofs.Reading.{buffered-outside, buffered-late, buffered-range}
+use Rattle.undo.proofs.Reading.{buffered-outside, buffered-late, buffered-span}
 use borrow.Author.Needs.{needs}
 use Rattle.undo.proofs.is_buffered_proper.Statement.{statement}
 use Rattle.undo.proofs.is_buffered_proper.Tie as tie
@@ -15,11 +15,11 @@ is-till-at-most-requires c κs = search needs
 returns-2 : tie.Need-returns-2
 returns-2 c = search (buffered-late)
 
-is-range-requires : tie.Need-is-range-requires
-is-range-requires c κs = search needs
+is-formed-word-requires : tie.Need-is-formed-word-requires
+is-formed-word-requires c κs = search needs
 
 returns-3 : tie.Need-returns-3
-returns-3 c = search (buffered-range)
+returns-3 c = search (buffered-span)
 
 pub is-buffered-proper-spec : {M : Type 1} → statement M
 is-buffered-proper-spec =
@@ -29,5 +29,5 @@ is-buffered-proper-spec =
     returns
     is-till-at-most-requires
     returns-2
-    is-range-requires
+    is-formed-word-requires
     returns-3)

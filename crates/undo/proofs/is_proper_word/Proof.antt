@@ -1,4 +1,4 @@
-use Rattle.undo.proofs.Reading.{word-address, word-empty, word-till}
+use Rattle.undo.proofs.Reading.{word-address, word-unformed, word-till}
 use borrow.Author.Needs.{needs}
 use Rattle.undo.proofs.is_proper_word.Statement.{statement}
 use Rattle.undo.proofs.is_proper_word.Tie as tie
@@ -9,14 +9,14 @@ is-address-below-requires c κs = search needs
 returns : tie.Need-returns
 returns c = search (word-address)
 
-is-range-requires : tie.Need-is-range-requires
-is-range-requires c κs = search needs
-
-returns-2 : tie.Need-returns-2
-returns-2 c = search (word-empty)
-
 decode-requires : tie.Need-decode-requires
 decode-requires c κs = search needs
+
+is-formed-requires : tie.Need-is-formed-requires
+is-formed-requires c κs = search needs
+
+returns-2 : tie.Need-returns-2
+returns-2 c = search (word-unformed)
 
 is-between-requires : tie.Need-is-between-requires
 is-between-requires c κs = search needs
@@ -30,8 +30,8 @@ is-proper-word-spec =
     (tie.spec
     is-address-below-requires
     returns
-    is-range-requires
-    returns-2
     decode-requires
+    is-formed-requires
+    returns-2
     is-between-requires
     returns-3)

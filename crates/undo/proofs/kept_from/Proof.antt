@@ -12,17 +12,17 @@ abbrev μ-loop : tie.MeasureT-loop
 loop-holds : tie.Need-loop-holds Inv-loop μ-loop
 loop-holds c = search (drop-start)
 
-add-decode : tie.Need-add-decode Inv-loop μ-loop
-add-decode c = search needs
+add-is-till-at-most : tie.Need-add-is-till-at-most Inv-loop μ-loop
+add-is-till-at-most c = search needs
 
-mul-decode : tie.Need-mul-decode Inv-loop μ-loop
-mul-decode c = search needs
+mul-is-till-at-most : tie.Need-mul-is-till-at-most Inv-loop μ-loop
+mul-is-till-at-most c = search needs
 
-shared-slice-read-decode : tie.Need-shared-slice-read-decode Inv-loop μ-loop
-shared-slice-read-decode c = search needs
+shared-slice-read-is-till-at-most : tie.Need-shared-slice-read-is-till-at-most Inv-loop μ-loop
+shared-slice-read-is-till-at-most c = search needs
 
-decode-requires : tie.Need-decode-requires Inv-loop μ-loop
-decode-requires c κs = search needs
+is-till-at-most-requires : tie.Need-is-till-at-most-requires Inv-loop μ-loop
+is-till-at-most-requires c κs = search needs
 
 add-place : tie.Need-add-place Inv-loop μ-loop
 add-place c = search needs
@@ -34,13 +34,7 @@ loop-less : tie.Need-loop-less Inv-loop μ-loop
 loop-less c = search needs
 
 loop-again : tie.Need-loop-again Inv-loop μ-loop
-loop-again c =
-    drop-next _ _ _ _ _ _ _
-    (c .before .before .before .before .before .loop .inv)
-    (c .before .before .before .before .if1 .left)
-    _
-    (c .before .before .decode .ensures)
-    (c .if2 .left)
+loop-again c = search (drop-next)
 
 returns : tie.Need-returns Inv-loop μ-loop
 returns c = search (drop-end)
@@ -55,10 +49,10 @@ kept-from-spec =
     Inv-loop
     μ-loop
     loop-holds
-    add-decode
-    mul-decode
-    shared-slice-read-decode
-    decode-requires
+    add-is-till-at-most
+    mul-is-till-at-most
+    shared-slice-read-is-till-at-most
+    is-till-at-most-requires
     add-place
     sub-rest
     loop-less

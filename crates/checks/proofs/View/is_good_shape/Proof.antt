@@ -1,4 +1,4 @@
-use Rattle.checks.proofs.Testing.{shape-control, shape-sizes}
+use Rattle.checks.proofs.Testing.{shape-control, shape-some, shape-sizes}
 use borrow.Author.Needs.{needs}
 use Rattle.checks.proofs.View.is_good_shape.Statement.{statement}
 use Rattle.checks.proofs.View.is_good_shape.Tie as tie
@@ -9,11 +9,8 @@ is-good-control-requires c κs = search needs
 returns : tie.Need-returns
 returns c = search (shape-control)
 
-own-lines-requires : tie.Need-own-lines-requires
-own-lines-requires c κs = search needs
-
-is-good-sizes-requires : tie.Need-is-good-sizes-requires
-is-good-sizes-requires c κs = search needs
+is-sized-requires : tie.Need-is-sized-requires
+is-sized-requires c κs = search (shape-some)
 
 returns-2 : tie.Need-returns-2
 returns-2 c = search (shape-sizes)
@@ -21,4 +18,4 @@ returns-2 c = search (shape-sizes)
 pub is-good-shape-spec : {M : Type 1} → statement M
 is-good-shape-spec =
     tie.close
-    (tie.spec is-good-control-requires returns own-lines-requires is-good-sizes-requires returns-2)
+    (tie.spec is-good-control-requires returns is-sized-requires returns-2)

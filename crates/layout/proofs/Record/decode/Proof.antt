@@ -1,7 +1,7 @@
 use mathlib.Core.Path.{refl}
 use Rattle.layout.specs.Fields.{width}
 use Rattle.layout.specs.Laws.{record-laws}
-use Rattle.layout.proofs.Reading.{lower, read, decoded}
+use Rattle.layout.specs.Reading.{lower, read, decoded}
 use Rattle.layout.proofs.Record.decode.Statement.{statement}
 use Rattle.layout.proofs.Record.decode.Tie as tie
 

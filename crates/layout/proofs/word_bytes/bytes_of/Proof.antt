@@ -1,5 +1,5 @@
 use Rattle.layout.specs.Fields.{width}
-use Rattle.layout.proofs.Reading.{lower, read, bytes-read}
+use Rattle.layout.specs.Reading.{lower, read, bytes-read}
 use borrow.Author.Needs.{needs}
 use Rattle.layout.proofs.word_bytes.bytes_of.Statement.{statement}
 use Rattle.layout.proofs.word_bytes.bytes_of.Tie as tie

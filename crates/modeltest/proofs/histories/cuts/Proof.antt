@@ -22,8 +22,8 @@ compared-requires c κs = search needs
 returns : tie.Need-returns Inv-loop μ-loop
 returns c = search needs
 
-recovered-requires : tie.Need-recovered-requires Inv-loop μ-loop
-recovered-requires c κs = search needs
+behind-cut-requires : tie.Need-behind-cut-requires Inv-loop μ-loop
+behind-cut-requires c κs = search needs
 
 add-allowance : tie.Need-add-allowance Inv-loop μ-loop
 add-allowance c = search needs
@@ -47,7 +47,7 @@ cuts-spec =
     allowed-requires
     compared-requires
     returns
-    recovered-requires
+    behind-cut-requires
     add-allowance
     loop-less
     loop-again

@@ -5,16 +5,16 @@ use Rattle.modeltest.proofs.print.report.Statement.{statement}
 use Rattle.modeltest.proofs.print.report.Tie as tie
 
 abbrev Inv-loop : tie.InvT-loop
-Inv-loop score kind₀ t3 t4 t5 t6 t7 t8 kind = Unit {0}
+Inv-loop score row₀ t3 t4 t5 t6 t7 t8 t9 row = Unit {0}
 
 abbrev μ-loop : tie.MeasureT-loop
-μ-loop score kind₀ t3 t4 t5 t6 t7 t8 kind = 10 - kind
+μ-loop score row₀ t3 t4 t5 t6 t7 t8 t9 row = 67 - row
 
 loop-holds : tie.Need-loop-holds Inv-loop μ-loop
 loop-holds c = search needs
 
-call-name-requires : tie.Need-call-name-requires Inv-loop μ-loop
-call-name-requires c κs = search needs
+row-name-requires : tie.Need-row-name-requires Inv-loop μ-loop
+row-name-requires c κs = search needs
 
 slice-aggregate-text : tie.Need-slice-aggregate-text Inv-loop μ-loop
 slice-aggregate-text c = search needs
@@ -22,8 +22,8 @@ slice-aggregate-text c = search needs
 text-requires : tie.Need-text-requires Inv-loop μ-loop
 text-requires c κs = search needs
 
-answers-requires : tie.Need-answers-requires Inv-loop μ-loop
-answers-requires c κs = search needs
+numbers-requires : tie.Need-numbers-requires Inv-loop μ-loop
+numbers-requires c κs = search needs
 
 slice-aggregate-text-2 : tie.Need-slice-aggregate-text-2 Inv-loop μ-loop
 slice-aggregate-text-2 c = search needs
@@ -31,8 +31,8 @@ slice-aggregate-text-2 c = search needs
 text-requires-2 : tie.Need-text-requires-2 Inv-loop μ-loop
 text-requires-2 c κs = search needs
 
-add-kind : tie.Need-add-kind Inv-loop μ-loop
-add-kind c = search needs
+add-row : tie.Need-add-row Inv-loop μ-loop
+add-row c = search needs
 
 loop-less : tie.Need-loop-less Inv-loop μ-loop
 loop-less c = search needs
@@ -58,6 +58,12 @@ slice-aggregate-named-3 c = search needs
 named-requires-3 : tie.Need-named-requires-3 Inv-loop μ-loop
 named-requires-3 c κs = search needs
 
+slice-aggregate-named-4 : tie.Need-slice-aggregate-named-4 Inv-loop μ-loop
+slice-aggregate-named-4 c = search needs
+
+named-requires-4 : tie.Need-named-requires-4 Inv-loop μ-loop
+named-requires-4 c κs = search needs
+
 slice-aggregate-text-3 : tie.Need-slice-aggregate-text-3 Inv-loop μ-loop
 slice-aggregate-text-3 c = search needs
 
@@ -74,13 +80,13 @@ report-spec =
     Inv-loop
     μ-loop
     loop-holds
-    call-name-requires
+    row-name-requires
     slice-aggregate-text
     text-requires
-    answers-requires
+    numbers-requires
     slice-aggregate-text-2
     text-requires-2
-    add-kind
+    add-row
     loop-less
     loop-again
     slice-aggregate-named
@@ -89,6 +95,8 @@ report-spec =
     named-requires-2
     slice-aggregate-named-3
     named-requires-3
+    slice-aggregate-named-4
+    named-requires-4
     slice-aggregate-text-3
     text-requires-3
     returns)

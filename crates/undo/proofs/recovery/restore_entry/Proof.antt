@@ -15,6 +15,9 @@ slice-read-decode c = search needs
 decode-requires : tie.Need-decode-requires
 decode-requires c κs = search needs
 
+add-if1 : tie.Need-add-if1
+add-if1 c = search needs
+
 returns : tie.Need-returns
 returns c = search (restore-skipped)
 
@@ -62,6 +65,7 @@ restore-entry-spec =
     mul-decode
     slice-read-decode
     decode-requires
+    add-if1
     returns
     add-old
     add-old-2

@@ -1,0 +1,3 @@
+pub mod Statement
+pub mod Lines
+pub mod Theorem
