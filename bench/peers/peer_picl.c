@@ -1,7 +1,7 @@
 /*
- * This library, as docs/INTEGRATION.md recommends it: a log of 5,200 entries, and 256 slots, or 64 where the controller evicts
- * the lines of a pick at its end; twice the S + 1 scan calls an epoch that persist one, spread evenly between the stores. A
- * committed epoch then waits for half an epoch until it is persisted.
+ * This library, as docs/INTEGRATION.md recommends it: the largest log, and 256 slots, or 64 where the controller evicts the
+ * lines of a pick at its end; twice the S + 1 scan calls an epoch that persist one, spread evenly between the stores. A
+ * committed epoch then waits for half an epoch until it is persisted. At this rate no order of the stores fills the log.
  *
  * The third way makes no scan calls between the stores, and S + 1 right after each commit: then every epoch is persisted when
  * its commit ends, as with the peers.
@@ -11,7 +11,7 @@
 #include "peer.h"
 #include "picl.h"
 
-enum { LOG_ENTRIES = 5200 };
+enum { LOG_ENTRIES = PICL_MOST_ENTRIES };
 
 struct way {
     unsigned slots;

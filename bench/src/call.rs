@@ -109,6 +109,23 @@ impl Call {
         }
     }
 
+    /// The call with another allowance, where it takes one.
+    pub fn under(self, allowance: u32) -> Self {
+        match self {
+            Call::PowerUp { .. } => Call::PowerUp { allowance },
+            Call::Load { address, .. } => Call::Load { address, allowance },
+            Call::Store { address, data, .. } => Call::Store {
+                address,
+                data,
+                allowance,
+            },
+            Call::Evict { address, .. } => Call::Evict { address, allowance },
+            Call::Commit { .. } => Call::Commit { allowance },
+            Call::Scan { .. } => Call::Scan { allowance },
+            Call::Format { .. } | Call::Begin { .. } | Call::Tally | Call::FilterBits => self,
+        }
+    }
+
     /// Format and the status question alone do not.
     pub fn takes_registers(self) -> bool {
         !matches!(self, Call::Format { .. } | Call::FilterBits)

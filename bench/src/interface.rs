@@ -1,5 +1,5 @@
-//! What both sides have in common: the ten calls, the export, the writer of records and the names, as one loop can have them
-//! on either side.
+//! What both sides have in common: the ten calls, the export, the converter, the writer of records and the names, as one loop
+//! can have them on either side.
 
 /// What a call answers: the paper's number, the value and the board stores made.
 #[derive(Clone, Copy, Debug, PartialEq, Eq)]
@@ -52,7 +52,7 @@ pub const ANSWER_WORDS: usize = 2;
 pub type RecordBytes = [u8; RECORD_BYTES];
 pub const RECORD_BYTES: usize = size_of::<u128>();
 
-/// One implementation of the ten calls, of the export, of the writer of records and of the names.
+/// One implementation of the ten calls, of the export, of the converter, of the writer of records and of the names.
 ///
 /// The registers have a type for each side, so that each is called as it wants to be: the library with an array of
 /// words, the hand-written Rust with a struct.
@@ -101,6 +101,9 @@ pub trait CacheLog {
 
     /// One record of the board's lines as Intel HEX, at the start of a text; the value is its bytes.
     fn hex_out(board: &[u64], text: &mut [u8], record: u64) -> Answer;
+
+    /// Fills a second memory with a board in the old layout, recovered and in the new one.
+    fn convert(old_board: &[u64], board: &mut [u64]) -> Answer;
 
     fn trace_write(bytes: &mut RecordBytes, kind: u64, address: u64, value: u64) -> Answer;
 

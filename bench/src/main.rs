@@ -3,9 +3,11 @@
 mod benchmark;
 mod differential;
 mod export;
+mod images;
 mod library;
 mod loom;
 mod memories;
+mod old_boards;
 mod order;
 mod placement;
 mod replay;
@@ -27,6 +29,8 @@ picl-bench rows
     the names of the rows
 picl-bench hex FOLDER
     write what each side exports of some boards, and the bytes of their lines; prints the names of the files, by pairs
+picl-bench convert FOLDER
+    write images of boards in the old layout, and what loomconvert must write for each; prints the names
 picl-bench loom
     what the loom's work asks of a board, and what it takes to persist fifteen epochs of it
 picl-bench loom --day
@@ -67,6 +71,7 @@ fn run(words: &[String]) -> Result<(), String> {
             Ok(())
         }
         "hex" => run_hex(flags),
+        "convert" => run_convert(flags),
         "loom" => run_loom(flags),
         "order" => run_order(flags),
         "scripts" => replay::compare_with_stored(),
@@ -112,6 +117,13 @@ fn run_benchmark(flags: &[String]) -> Result<(), String> {
 fn run_hex(flags: &[String]) -> Result<(), String> {
     match flags {
         [folder] => export::write_exports(folder),
+        _ => Err(USAGE.to_string()),
+    }
+}
+
+fn run_convert(flags: &[String]) -> Result<(), String> {
+    match flags {
+        [folder] => images::write_images(folder),
         _ => Err(USAGE.to_string()),
     }
 }

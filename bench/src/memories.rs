@@ -9,6 +9,7 @@ use crate::sizes::Sizes;
 /// What volatile memory holds once it is lost: any words.
 const LOST: u64 = u64::MAX;
 
+#[derive(Clone)]
 pub struct Loom {
     board: Vec<u64>,
     work: Vec<u64>,
@@ -30,6 +31,18 @@ impl Loom {
         (loom, answer)
     }
 
+    /// The same on a board whose persisted epoch is this.
+    pub fn start_behind(sizes: Sizes, persisted: u64) -> Self {
+        let (mut loom, _) = Loom::start(sizes);
+        let control = Control {
+            persisted,
+            ..loom.control()
+        };
+        loom.board[CONTROL_PLACE] = control.pack();
+        loom.make(Call::POWER_UP);
+        loom
+    }
+
     /// Makes a call; before a power-up volatile memory is lost.
     pub fn make(&mut self, call: Call) -> Answer {
         if call.kind() == Kind::PowerUp {
@@ -43,6 +56,10 @@ impl Loom {
     #[cfg(test)]
     pub fn write_out(&self, call: Call) -> Option<crate::write_out::WriteOut> {
         crate::write_out::WriteOut::of(call, &self.board, &self.work, self.registers)
+    }
+
+    pub fn board(&self) -> &[u64] {
+        &self.board
     }
 
     pub fn registers(&self) -> Registers {

@@ -71,29 +71,12 @@ fn any_call(random: &mut Random, state: &State, allowance: u32) -> Call {
     }
 }
 
-/// The call with another allowance.
-fn under(call: Call, allowance: u32) -> Call {
-    match call {
-        Call::Store { address, data, .. } => Call::Store {
-            address,
-            data,
-            allowance,
-        },
-        Call::Load { address, .. } => Call::Load { address, allowance },
-        Call::Evict { address, .. } => Call::Evict { address, allowance },
-        Call::Commit { .. } => Call::Commit { allowance },
-        Call::Scan { .. } => Call::Scan { allowance },
-        Call::PowerUp { .. } => Call::PowerUp { allowance },
-        other => other,
-    }
-}
-
 /// The places of the stores that are due, in order; none where a store leaves the word as it was.
 fn due(state: &State, call: Call) -> Vec<Option<usize>> {
     let stores = state.clone().make(call).stores as u32;
     let board_after = |allowance| {
         let mut copy = state.clone();
-        copy.make(under(call, allowance));
+        copy.make(call.under(allowance));
         copy.board
     };
     (0..stores)

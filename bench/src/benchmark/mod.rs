@@ -16,7 +16,7 @@ pub fn print_times() {
     println!(
         "Each row: the median of {REPETITIONS} repetitions on each side, taken by turns, in one process, warmed.\n\
          Before each repetition, and outside of the measured part, board, work memory and registers become a fresh\n\
-         copy of the row's start. Board N = L = 65,536. A row of one kind of call times each call alone, and takes\n\
+         copy of the row's start. Board N = 65,536, L = 4,095. A row of one kind of call times each call alone, and takes\n\
          the clock's own cost off.\n"
     );
     println!(

@@ -1,4 +1,5 @@
-//! The measured part: a loop that makes the calls of a trace, or all records of an export, the same for both sides.
+//! The measured part: a loop that makes the calls of a trace, or all records of an export, or one conversion, the same for both
+//! sides.
 
 use super::aligned::Aligned;
 use crate::call::Call;
@@ -14,13 +15,16 @@ pub struct Start {
     pub board: Vec<u64>,
     pub work: Vec<u64>,
     pub registers: RegisterWords,
+    /// What is converted; the board is the second memory then. Other rows have none.
+    pub old_board: Vec<u64>,
 }
 
-/// What is played in one go: calls, or the records of these numbers.
+/// What is played in one go: calls, the records of these numbers, or a conversion.
 #[derive(Clone)]
 pub enum Piece<'a> {
     Calls(&'a [Call]),
     Records(Range<u64>),
+    Conversion,
 }
 
 /// One side's own copy of them, and a text for records.
@@ -28,6 +32,7 @@ pub struct Memories<C: CacheLog> {
     board: Aligned,
     work: Aligned,
     registers: C::Registers,
+    old_board: Aligned,
     text: [u8; TEXT_BYTES],
 }
 
@@ -37,6 +42,7 @@ impl<C: CacheLog> Memories<C> {
             board: Aligned::new(&start.board),
             work: Aligned::new(&start.work),
             registers: start.registers.into(),
+            old_board: Aligned::new(&start.old_board),
             text: [0; TEXT_BYTES],
         }
     }
@@ -52,6 +58,7 @@ impl<C: CacheLog> Memories<C> {
             board: self.board.words().to_vec(),
             work: self.work.words().to_vec(),
             registers: self.registers.into(),
+            old_board: self.old_board.words().to_vec(),
         }
     }
 
@@ -84,12 +91,20 @@ impl<C: CacheLog> Memories<C> {
         sum
     }
 
+    /// Converts the old board and gives the sum of the answer.
+    #[inline(always)]
+    fn convert(&mut self) -> u64 {
+        let answer = C::convert(self.old_board.words(), self.board.words_mut());
+        with_answer(0, answer)
+    }
+
     /// Plays what is not measured.
     #[inline(never)]
     pub fn play_unmeasured(&mut self, piece: Piece) -> u64 {
         match piece {
             Piece::Calls(trace) => self.play(trace),
             Piece::Records(records) => self.export(records),
+            Piece::Conversion => self.convert(),
         }
     }
 }
@@ -111,6 +126,7 @@ impl Measured for Library {
         match piece {
             Piece::Calls(trace) => counted_region_library(memories, trace),
             Piece::Records(records) => counted_region_library_export(memories, records),
+            Piece::Conversion => counted_region_library_conversion(memories),
         }
     }
 }
@@ -120,6 +136,7 @@ impl Measured for HandWritten {
         match piece {
             Piece::Calls(trace) => counted_region_handwritten(memories, trace),
             Piece::Records(records) => counted_region_handwritten_export(memories, records),
+            Piece::Conversion => counted_region_handwritten_conversion(memories),
         }
     }
 }
@@ -146,4 +163,16 @@ fn counted_region_library_export(memories: &mut Memories<Library>, records: Rang
 #[inline(never)]
 fn counted_region_handwritten_export(memories: &mut Memories<HandWritten>, records: Range<u64>) -> u64 {
     memories.export(records)
+}
+
+#[no_mangle]
+#[inline(never)]
+fn counted_region_library_conversion(memories: &mut Memories<Library>) -> u64 {
+    memories.convert()
+}
+
+#[no_mangle]
+#[inline(never)]
+fn counted_region_handwritten_conversion(memories: &mut Memories<HandWritten>) -> u64 {
+    memories.convert()
 }

@@ -14,16 +14,18 @@ pub struct Row {
     build: Build,
 }
 
-/// How a row's memories and trace are made: calls, or a whole export of so many records.
+/// How a row's memories and trace are made: calls, a whole export of so many records, or one conversion.
 enum Build {
     Calls(fn() -> (Start, Vec<Call>)),
     Export(fn() -> (Start, u64)),
+    Conversion(fn() -> Start),
 }
 
 /// What is played.
 enum Trace {
     Calls(Vec<Call>),
     Export(u64),
+    Conversion,
 }
 
 /// A row with its memories and trace.
@@ -44,6 +46,7 @@ impl Row {
                 let (start, records) = build();
                 (start, Trace::Export(records))
             }
+            Build::Conversion(build) => (build(), Trace::Conversion),
         };
         Prepared {
             start,
@@ -70,6 +73,7 @@ impl Prepared {
         match &self.trace {
             Trace::Calls(calls) => calls.iter().filter(|call| self.is_measured(call)).count(),
             Trace::Export(records) => *records as usize,
+            Trace::Conversion => 1,
         }
     }
 
@@ -78,6 +82,7 @@ impl Prepared {
     pub fn for_each_piece(&self, mut play: impl FnMut(Piece, bool)) {
         match &self.trace {
             Trace::Export(records) => play(Piece::Records(0..*records), true),
+            Trace::Conversion => play(Piece::Conversion, true),
             Trace::Calls(calls) if self.only.is_none() => play(Piece::Calls(calls), true),
             Trace::Calls(calls) => {
                 for call in calls {
@@ -97,7 +102,7 @@ const fn row(name: &'static str, about: &'static str, only: Option<Kind>, build:
     }
 }
 
-pub static ROWS: [Row; 25] = [
+pub static ROWS: [Row; 26] = [
     row(
         "loom-64",
         "a loom's epoch, scattered, S = 64: 2,600 stores, 2,600 loads, 65 scans, 1 commit",
@@ -189,7 +194,7 @@ pub static ROWS: [Row; 25] = [
     ),
     row(
         "last-step-most",
-        "the last scan of a pass over the largest epoch, S = 256: it drops 65,536 entries",
+        "the last scan of a pass over the largest epoch, S = 256: it drops 4,095 entries",
         None,
         || traces::last_step(256, MOST_ENTRIES),
     ),
@@ -203,9 +208,15 @@ pub static ROWS: [Row; 25] = [
     row("tally-256", "S = 256", None, || traces::tallies(256)),
     row(
         "power-up",
-        "a full log of 65,536 entries, three in four cover P",
+        "a full log of 4,095 entries, three in four cover P",
         None,
         traces::power_up,
     ),
-    row("format", "65,536 lines, 65,536 entries", None, traces::format),
+    row("format", "65,536 lines, 4,095 entries", None, traces::format),
+    Row {
+        name: "convert",
+        about: "an old board of 65,536 lines and a full log of 4,095 entries, three in four cover P",
+        only: None,
+        build: Build::Conversion(traces::conversion),
+    },
 ];

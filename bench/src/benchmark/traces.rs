@@ -7,6 +7,7 @@ use crate::handwritten::layout::{
     entry_place, Control, Range, BUFFER_ENTRIES, CONTROL_PLACE, ENTRY_WORDS, MOST_AHEAD, MOST_ENTRIES, MOST_LINES,
     MOST_WAITING, WAYS,
 };
+use crate::handwritten::old::old_board;
 use crate::handwritten::HandWritten;
 use crate::interface::{Answer, NO_REGISTERS, OK};
 use crate::library::Library;
@@ -27,6 +28,7 @@ fn fresh_board(slots: usize) -> Start {
         board: vec![0; sizes.board_words()],
         work: vec![0; sizes.work_words()],
         registers: NO_REGISTERS,
+        old_board: Vec::new(),
     };
     after(start, &[sizes.format(), Call::POWER_UP])
 }
@@ -45,18 +47,27 @@ fn after(start: Start, calls: &[Call]) -> Start {
 fn epoch_in_midst(order: Order, slots: usize, access: fn(u64) -> Call) -> (Start, Vec<Call>) {
     let random = &mut Random::new(SEED);
     let lines = order.lines(random, MOST_LINES);
+    // A pass takes the first half of an epoch. Were it spread over the whole, 64 slots would need a longer log than there is.
     let before = Work {
         order,
         lines: &lines,
         access: Call::load,
-        scans_per_epoch: slots + 1,
+        scans_per_epoch: 2 * (slots + 1),
     };
     let mut calls = before.without_scans().epoch(random);
     for _ in 0..2 {
-        calls.extend(before.epoch(random));
+        calls.extend(with_one_pass(before.epoch(random), slots));
     }
     let start = after(fresh_board(slots), &calls);
-    (start, Work { access, ..before }.epoch(random))
+    let epoch = Work { access, ..before }.epoch(random);
+    (start, with_one_pass(epoch, slots))
+}
+
+/// The calls but for the scans behind those that persist an epoch.
+fn with_one_pass(calls: Vec<Call>, slots: usize) -> Vec<Call> {
+    let mut scans = 0..=slots;
+    let is_made = |call: &Call| *call != Call::SCAN || scans.next().is_some();
+    calls.into_iter().filter(is_made).collect()
 }
 
 pub fn loom(slots: usize) -> (Start, Vec<Call>) {
@@ -230,7 +241,7 @@ pub fn format() -> (Start, Vec<Call>) {
 /// A power-up with a full log that starts in the middle of the ring; three entries in four cover the persisted epoch.
 pub fn power_up() -> (Start, Vec<Call>) {
     const PERSISTED: u64 = 1_000;
-    const RING_START: u64 = 12_345;
+    const RING_START: u64 = 1_234;
     let random = &mut Random::new(SEED);
     let mut start = fresh_board(256);
     let control = Control {
@@ -242,13 +253,25 @@ pub fn power_up() -> (Start, Vec<Call>) {
     for age in 0..MOST_ENTRIES {
         let place = entry_place(((RING_START + age) % MOST_ENTRIES) as usize);
         let covers = !random.one_in(4);
+        let valid_till = PERSISTED + 2 + age * (MOST_AHEAD - 2) / MOST_ENTRIES;
         let range = Range {
             address: random.below(MOST_LINES),
-            valid_from: PERSISTED + 1 - u64::from(covers),
-            valid_till: PERSISTED + 2 + age * (MOST_AHEAD - 2) / MOST_ENTRIES,
+            valid_till,
+            span: valid_till - (PERSISTED + 1 - u64::from(covers)),
         };
         start.board[place] = range.pack();
         start.board[place + 1] = random.word();
     }
     (start, vec![Call::POWER_UP])
+}
+
+/// A conversion of the board that the power-up is of, as it was in the old layout, into a memory of any words.
+pub fn conversion() -> Start {
+    let (start, _) = power_up();
+    let second_memory = Random::new(SEED).words(start.board.len());
+    Start {
+        old_board: old_board(&start.board),
+        board: second_memory,
+        ..start
+    }
 }

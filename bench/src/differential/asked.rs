@@ -1,4 +1,5 @@
-//! What both sides are asked: a call; or an export, a record of a trace or a name, which are no `Call` since they are lent bytes.
+//! What both sides are asked: a call; or an export, a conversion, a record of a trace or a name, which are no `Call` since they are
+//! lent bytes, or another board.
 
 use crate::call::{Call, Kind};
 use crate::record::Record;
@@ -8,6 +9,7 @@ use std::fmt;
 pub enum Asked {
     Call(Call),
     HexOut { record: u64 },
+    Convert,
     TraceWrite(Record),
     Name { number: u64 },
 }
@@ -17,17 +19,23 @@ pub enum Asked {
 pub enum Function {
     Call(Kind),
     HexOut,
+    Convert,
     TraceWrite,
     Name,
 }
 
 impl Function {
-    const WITH_BYTES: [Function; 3] = [Function::HexOut, Function::TraceWrite, Function::Name];
-    pub const COUNT: usize = Kind::ALL.len() + Self::WITH_BYTES.len();
+    const NO_CALLS: [Function; 4] = [
+        Function::HexOut,
+        Function::Convert,
+        Function::TraceWrite,
+        Function::Name,
+    ];
+    pub const COUNT: usize = Kind::ALL.len() + Self::NO_CALLS.len();
 
     pub fn all() -> impl Iterator<Item = Function> {
         let calls = Kind::ALL.into_iter().map(Function::Call);
-        calls.chain(Self::WITH_BYTES)
+        calls.chain(Self::NO_CALLS)
     }
 
     /// Its place among all of them.
@@ -35,8 +43,9 @@ impl Function {
         match self {
             Function::Call(kind) => kind as usize,
             Function::HexOut => Kind::ALL.len(),
-            Function::TraceWrite => Kind::ALL.len() + 1,
-            Function::Name => Kind::ALL.len() + 2,
+            Function::Convert => Kind::ALL.len() + 1,
+            Function::TraceWrite => Kind::ALL.len() + 2,
+            Function::Name => Kind::ALL.len() + 3,
         }
     }
 
@@ -44,6 +53,7 @@ impl Function {
         match self {
             Function::Call(kind) => kind.name(),
             Function::HexOut => "hex-out",
+            Function::Convert => "convert",
             Function::TraceWrite => "trace-write",
             Function::Name => "name",
         }
@@ -55,6 +65,7 @@ impl Asked {
         match self {
             Asked::Call(call) => Function::Call(call.kind()),
             Asked::HexOut { .. } => Function::HexOut,
+            Asked::Convert => Function::Convert,
             Asked::TraceWrite(_) => Function::TraceWrite,
             Asked::Name { .. } => Function::Name,
         }
@@ -78,6 +89,7 @@ impl fmt::Display for Asked {
         match self {
             Asked::Call(call) => write!(out, "{call}"),
             Asked::HexOut { record } => write!(out, "{}, record {record}", self.function().name()),
+            Asked::Convert => write!(out, "{}", self.function().name()),
             Asked::TraceWrite(record) => write!(out, "{}, {record}", self.function().name()),
             Asked::Name { number } => write!(out, "{}, number {number}", self.function().name()),
         }

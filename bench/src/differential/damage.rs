@@ -3,9 +3,10 @@
 use super::passes::damage_pass;
 use super::sides::Lent;
 use crate::handwritten::layout::{
-    slot_place, FilterBit, Range, Shape, SlotWord, BUFFER_ENTRIES, ENTRY_WORDS, FILTER_BITS, LAST_ADDRESS, LAST_EPOCH,
-    MOST_AHEAD, WAYS,
+    ones, slot_place, FilterBit, Range, Shape, SlotWord, BUFFER_ENTRIES, ENTRY_WORDS, FILTER_BITS, LAST_ADDRESS,
+    LAST_EPOCH, MOST_AHEAD, MOST_ENTRIES, SPAN_BITS, WAYS,
 };
+use crate::handwritten::old;
 use crate::interface::REGISTER_WORDS;
 use crate::random::Random;
 
@@ -49,10 +50,15 @@ fn damage_control(random: &mut Random, state: &mut Lent) {
     let entries = state.shape().entries;
     match random.below(3) {
         0 => control.persisted = near_epoch(random, control.persisted),
-        1 => control.start = random.near(entries, 2) as usize,
-        _ => control.length = random.near(entries, 2) as usize,
+        1 => control.start = near_in_ring(random, entries),
+        _ => control.length = near_in_ring(random, entries),
     }
     state.set_control(control);
+}
+
+/// Just as many as the log has, or a few more or less, as far as the control word can say.
+fn near_in_ring(random: &mut Random, entries: u64) -> usize {
+    random.near(entries, 2).min(MOST_ENTRIES) as usize
 }
 
 fn damage_shape(random: &mut Random, state: &mut Lent) {
@@ -66,11 +72,17 @@ fn damage_shape(random: &mut Random, state: &mut Lent) {
             shape.entries = shape.entries.saturating_sub(1);
         }
         _ => {
-            let (first, last) = Shape::ZERO_BITS;
-            shape.lines ^= 1 << random.between(first, last);
+            let version = draw_other_version(random);
+            return state.set_version(version);
         }
     }
     state.set_shape(shape);
+}
+
+/// A version that the layout does not have: that of the old one, the next, or one that differs by any bit.
+pub fn draw_other_version(random: &mut Random) -> u64 {
+    let bit = random.below(u64::from(u64::BITS - Shape::VERSION_SHIFT));
+    random.pick(&[0, Shape::VERSION + 1, Shape::VERSION ^ 1 << bit])
 }
 
 fn damage_log_entry(random: &mut Random, state: &mut Lent) {
@@ -144,11 +156,29 @@ fn damaged_range(random: &mut Random, state: &Lent, mut range: Range) -> Range {
     let lines = state.shape().lines;
     match random.below(4) {
         0 => range.address = random.near(lines, 1) & LAST_ADDRESS,
-        1 => range.valid_from = random.near(range.valid_till, 1) & LAST_EPOCH,
-        2 => range.valid_till = random.near(state.registers().epoch, 1) & LAST_EPOCH,
-        _ => range.valid_till = random.near(range.valid_from, 1) & LAST_EPOCH,
+        1 => range.valid_till = random.near(state.registers().epoch, 1) & LAST_EPOCH,
+        2 => range.valid_till = random.near(range.span, 1) & LAST_EPOCH,
+        _ => range.span = draw_span(random, range.valid_till),
     }
     range
+}
+
+/// A span at an edge of what is proper beside a ValidTill, or any.
+pub fn draw_span(random: &mut Random, valid_till: u64) -> u64 {
+    let any = random.between(0, ones(SPAN_BITS));
+    let edges = [0, 1, MOST_AHEAD, MOST_AHEAD + 1, ones(SPAN_BITS), any];
+    let about_till = [valid_till, valid_till + 1].map(|span| span.min(ones(SPAN_BITS)));
+    match random.one_in(3) {
+        true => random.pick(&about_till),
+        false => random.pick(&edges),
+    }
+}
+
+/// A span that is not proper beside a ValidTill.
+pub fn draw_improper_span(random: &mut Random, valid_till: u64) -> u64 {
+    let too_many = random.between(MOST_AHEAD + 2, ones(SPAN_BITS));
+    let above_till = (valid_till + 1).min(MOST_AHEAD + 1);
+    random.pick(&[0, MOST_AHEAD + 1, too_many, above_till])
 }
 
 fn damage_slot(random: &mut Random, state: &mut Lent) {
@@ -250,9 +280,10 @@ pub fn damage_count(random: &mut Random, state: &mut Lent) {
 }
 
 fn near_epoch(random: &mut Random, epoch: u64) -> u64 {
-    match random.below(3) {
+    match random.below(4) {
         0 => random.near(epoch, 2),
         1 => random.near(LAST_EPOCH, 1),
+        2 => random.near(old::LAST_EPOCH, 1),
         _ => random.below(LAST_EPOCH),
     }
 }

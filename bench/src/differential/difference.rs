@@ -4,6 +4,7 @@ use super::asked::Asked;
 use super::occurrences::number_name;
 use super::sides::{is_read_back, Lent};
 use crate::handwritten::layout::slot_count;
+use crate::handwritten::old;
 use crate::interface::{ANSWER_WORDS, REGISTER_NAMES};
 use std::fmt;
 
@@ -32,6 +33,7 @@ impl fmt::Display for Difference {
                 self.write_state(out)?;
                 self.write_lengths(out)?;
             }
+            Asked::Convert => self.write_old_board(out)?,
             Asked::TraceWrite(_) | Asked::Name { .. } => self.write_lengths(out)?,
         }
         self.write_number(out)?;
@@ -40,6 +42,7 @@ impl fmt::Display for Difference {
         self.write_words(out, "registers", |lent| &lent.registers)?;
         self.write_words(out, "board", |lent| &lent.board)?;
         self.write_words(out, "work", |lent| &lent.work)?;
+        self.write_words(out, "old board", |lent| &lent.old_board)?;
         self.write_words(out, "bytes", |lent| &lent.bytes)?;
         self.write_words(out, "answer behind", |lent| {
             lent.answer.get(ANSWER_WORDS..).unwrap_or(&[])
@@ -69,6 +72,21 @@ impl Difference {
             before.answer.len()
         )?;
         writeln!(out, "  registers    before {}", register_text(&before.registers))
+    }
+
+    /// What a conversion was lent.
+    fn write_old_board(&self, out: &mut fmt::Formatter) -> fmt::Result {
+        let before = &self.before;
+        write!(out, "  sizes        old board {} words", before.old_board.len())?;
+        if let Some((control, shape)) = old::head_of(&before.old_board) {
+            write!(out, " (its first words say {control:?}, {shape:?})")?;
+        }
+        writeln!(
+            out,
+            ", second memory {} words, answer {} words",
+            before.board.len(),
+            before.answer.len()
+        )
     }
 
     /// What an export, a record or a name was lent.

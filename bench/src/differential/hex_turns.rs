@@ -1,15 +1,14 @@
 //! Rare turns of the export: each kind of record put into a text and refused, records at the edges of banks and boards, each
 //! refusal for one reason alone, and which comes first where several hold.
 
-mod faults;
 mod lists;
 
+use super::faults::{self, FAULTS};
 use super::sides::Lent;
 use crate::handwritten::hex::{end_record, hex_out, BANK_LINES, BANK_RECORDS, RECORD_LINES, TEXT_BYTES};
 use crate::handwritten::layout::MOST_LINES;
 use crate::interface::{LOG_HELD, OK, PAST, SHAPE, SHORT};
 use crate::library::TOO_SHORT;
-use faults::FAULTS;
 use lists::{KINDS, OF_EACH_KIND, ORDER, PUT, REFUSED};
 
 /// The record that was asked for, what was lent and left, and the number answered.

@@ -2,13 +2,16 @@
 //! Rust, and all that they answer and leave compared word for word.
 
 mod asked;
+mod convert_turns;
 mod count_turns;
 mod damage;
 mod difference;
+mod faults;
 mod filter_turns;
 mod groups;
 mod habit;
 mod hex_turns;
+mod layout_turns;
 mod name_turns;
 mod occurrences;
 mod pass_turns;

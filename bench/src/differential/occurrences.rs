@@ -3,7 +3,10 @@
 use super::asked::{Asked, Function};
 use super::sides::Lent;
 use super::turn_lists::Counts;
-use super::{count_turns, filter_turns, hex_turns, name_turns, pass_turns, power_up_turns, record_turns, set_turns};
+use super::{
+    convert_turns, count_turns, filter_turns, hex_turns, layout_turns, name_turns, pass_turns, power_up_turns,
+    record_turns, set_turns,
+};
 use crate::call::{Call, Kind};
 use crate::handwritten::layout::Control;
 use crate::handwritten::names::{name_of, NAMES};
@@ -41,6 +44,7 @@ fn possible(function: Function) -> &'static [u64] {
         Function::Call(Kind::Tally) => &[0, 1, 2, 4, TOO_SHORT],
         Function::Call(Kind::FilterBits) => &[0, 2, TOO_SHORT],
         Function::HexOut => &[0, 1, SHORT, PAST, LOG_HELD, TOO_SHORT],
+        Function::Convert => &[0, 1, 3, TOO_SHORT],
         Function::TraceWrite => &[0, 13, TOO_SHORT],
         Function::Name => &[0, TOO_SHORT],
     }
@@ -101,10 +105,16 @@ pub struct Occurrences {
     count_turns: Counts<count_turns::Seen>,
     set_turns: Counts<set_turns::Seen>,
     pass_turns: Counts<pass_turns::Seen>,
+    layout_turns: Counts<layout_turns::Seen>,
+    convert_turns: convert_turns::Counts,
     hex_turns: hex_turns::Counts,
     record_turns: [u64; record_turns::TURNS.len()],
     name_turns: name_turns::Counts,
+    pub calls_on_converted: u64,
 }
+
+/// So many calls have to be made on converted boards.
+const FEWEST_ON_CONVERTED: u64 = 100_000;
 
 impl Default for Occurrences {
     fn default() -> Self {
@@ -116,9 +126,12 @@ impl Default for Occurrences {
             count_turns: Counts::new(&count_turns::ALL),
             set_turns: Counts::new(&set_turns::ALL),
             pass_turns: Counts::new(&pass_turns::ALL),
+            layout_turns: Counts::new(&layout_turns::ALL),
+            convert_turns: convert_turns::Counts::default(),
             hex_turns: hex_turns::Counts::default(),
             record_turns: [0; record_turns::TURNS.len()],
             name_turns: name_turns::Counts::default(),
+            calls_on_converted: 0,
         }
     }
 }
@@ -137,6 +150,7 @@ impl Occurrences {
                 after,
                 number,
             }),
+            Asked::Convert => self.convert_turns.count(&convert_turns::Seen { before, after, number }),
             Asked::TraceWrite(record) => self.count_record_turns(record, number, before),
             Asked::Name { number: asked } => self.count_name_turns(asked, number, before),
         }
@@ -169,6 +183,9 @@ impl Occurrences {
         }
         if let Some(seen) = pass_turns::Seen::new(call, number, before, after) {
             self.pass_turns.count(kind, &seen);
+        }
+        if let Some(seen) = layout_turns::Seen::new(call, number, before, after) {
+            self.layout_turns.count(kind, &seen);
         }
     }
 
@@ -210,7 +227,10 @@ impl Occurrences {
         let more = more.chain(&other.turns).chain(&other.power_up_turns);
         let more = more.chain(&other.filter_turns).chain(&other.record_turns);
         let more = more.chain(other.count_turns.iter()).chain(other.set_turns.iter());
-        let more = more.chain(other.pass_turns.iter());
+        let more = more.chain(other.pass_turns.iter()).chain(other.layout_turns.iter());
+        let more = more
+            .chain(other.convert_turns.iter())
+            .chain([&other.calls_on_converted]);
         let more = more.chain(other.hex_turns.iter()).chain(other.name_turns.iter());
         let counts = self.numbers.iter_mut().flatten();
         let counts = counts.chain(&mut self.turns).chain(&mut self.power_up_turns);
@@ -218,7 +238,11 @@ impl Occurrences {
         let counts = counts
             .chain(self.count_turns.iter_mut())
             .chain(self.set_turns.iter_mut())
-            .chain(self.pass_turns.iter_mut());
+            .chain(self.pass_turns.iter_mut())
+            .chain(self.layout_turns.iter_mut());
+        let counts = counts
+            .chain(self.convert_turns.iter_mut())
+            .chain([&mut self.calls_on_converted]);
         let counts = counts
             .chain(self.hex_turns.iter_mut())
             .chain(self.name_turns.iter_mut());
@@ -238,6 +262,8 @@ impl Occurrences {
         of_memories
             .chain(of_slots)
             .chain(self.pass_turns.named())
+            .chain(self.layout_turns.named())
+            .chain(self.convert_turns.named())
             .chain(self.hex_turns.named())
             .chain(of_records)
             .chain(self.name_turns.named())
@@ -264,7 +290,9 @@ impl Occurrences {
     }
 
     pub fn lines_of_turns(&self) -> Vec<String> {
+        let on_converted = ("calls on converted boards".to_string(), self.calls_on_converted);
         self.turns()
+            .chain([on_converted])
             .map(|(name, count)| format!("{count:>10}  {name}"))
             .collect()
     }
@@ -281,6 +309,9 @@ impl Occurrences {
         }
         let untaken = self.turns().filter(|&(_, count)| count == 0);
         missing.extend(untaken.map(|(name, _)| name));
+        if self.calls_on_converted < FEWEST_ON_CONVERTED {
+            missing.push(format!("{FEWEST_ON_CONVERTED} calls on converted boards"));
+        }
         missing
     }
 }

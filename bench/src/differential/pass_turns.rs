@@ -9,6 +9,7 @@ use super::count_turns::TESTING;
 use super::turn_lists;
 use crate::call::Kind;
 use crate::handwritten::layout::LAST_EPOCH;
+use crate::handwritten::old;
 use crate::interface::{BUFFER, FILTER, OK, REGS, SHAPE, TARGET, WORK};
 use crate::library::TOO_SHORT;
 pub use seen::Seen;
@@ -87,7 +88,7 @@ const TAKEN: [(&str, Turn); 8] = [
 /// The low bits that half a word has.
 const HALF_A_WORD: u64 = u32::MAX as u64;
 
-const REFUSED: [(&str, Turn); 16] = [
+const REFUSED: [(&str, Turn); 17] = [
     ("target inside a pass that was just begun, alone", |seen| {
         seen.is_for_inside() && seen.registers.cursor == 0
     }),
@@ -124,13 +125,15 @@ const REFUSED: [(&str, Turn); 16] = [
     ("target for 2^64 - 1 alone", |seen| {
         seen.is_for_range() && seen.asked == u64::MAX
     }),
-    ("target for upper bits alone", |seen| {
-        seen.is_for_range() && seen.waits_in(HALF_A_WORD, seen.asked)
+    ("target for bits from 24 to 31 alone", |seen| {
+        seen.is_for_range() && seen.waits_in(old::LAST_EPOCH, seen.asked) && seen.asked <= HALF_A_WORD
     }),
-    (
-        "target for bits above those of an epoch, of half a word, alone",
-        |seen| seen.is_for_range() && seen.waits_in(LAST_EPOCH, seen.asked) && seen.asked <= HALF_A_WORD,
-    ),
+    ("target for bits from 32 to 39 alone", |seen| {
+        seen.is_for_range() && seen.waits_in(HALF_A_WORD, seen.asked) && seen.asked <= LAST_EPOCH
+    }),
+    ("target for bits above those of an epoch alone", |seen| {
+        seen.is_for_range() && seen.waits_in(LAST_EPOCH, seen.asked)
+    }),
     ("target for P + 1, which runs", |seen| {
         seen.is_for_none_waiting() && seen.asked == seen.oldest()
     }),
@@ -148,8 +151,8 @@ const ORDER: [(&str, Turn); 6] = [
     ("filter before target", |seen| seen.is_before_target(FILTER)),
 ];
 
-/// Each of the first eleven is refused for this and for nothing else of the registers.
-const OF_THE_REGISTERS: [(&str, Turn); 12] = [
+/// Each of the first twelve is refused for this and for nothing else of the registers.
+const OF_THE_REGISTERS: [(&str, Turn); 13] = [
     ("regs for a cursor outside a pass alone", |seen| {
         seen.is_for_cursor_outside() && seen.some_wait()
     }),
@@ -177,12 +180,17 @@ const OF_THE_REGISTERS: [(&str, Turn); 12] = [
     ("regs for the target 2^64 - 1 alone", |seen| {
         seen.is_for_target(u64::MAX)
     }),
-    ("regs for upper bits of the target alone", |seen| {
-        seen.is_for_target(seen.registers.target) && seen.waits_in(HALF_A_WORD, seen.registers.target)
+    ("regs for bits of the target from 24 to 31 alone", |seen| {
+        let target = seen.registers.target;
+        seen.is_for_target(target) && seen.waits_in(old::LAST_EPOCH, target) && target <= HALF_A_WORD
+    }),
+    ("regs for bits of the target from 32 to 39 alone", |seen| {
+        let target = seen.registers.target;
+        seen.is_for_target(target) && seen.waits_in(HALF_A_WORD, target) && target <= LAST_EPOCH
     }),
     ("regs for bits of the target above those of an epoch alone", |seen| {
         let target = seen.registers.target;
-        seen.is_for_target(target) && seen.waits_in(LAST_EPOCH, target) && target <= HALF_A_WORD
+        seen.is_for_target(target) && seen.waits_in(LAST_EPOCH, target)
     }),
     (
         "is not refused for its registers inside a pass over several epochs",

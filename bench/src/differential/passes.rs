@@ -1,9 +1,12 @@
 //! Targets about every edge of what a pass may have, and the cursor and the target of registers.
 
 use super::sides::Lent;
-use crate::handwritten::layout::{EPOCH_BITS, LAST_EPOCH};
+use crate::handwritten::layout::LAST_EPOCH;
 use crate::handwritten::Registers;
 use crate::random::Random;
+
+/// A bit from here on is lost if an epoch is cut to 24 bits, from 32 on if to half a word, from 40 on if to those of an epoch.
+const LOWEST_UPPER_BIT: u64 = 24;
 
 /// A target that is right most times, or just not: the oldest and the newest epoch that wait, any between, and those beside them;
 /// or 0, far too large, too large by its upper bits alone, or any.
@@ -23,7 +26,7 @@ pub fn draw_target(random: &mut Random, state: &Lent) -> u64 {
         11 => persisted.saturating_sub(1),
         12 => epoch.saturating_add(1),
         13 => random.pick(&[0, u64::MAX]),
-        14 => waiting | 1 << random.between(EPOCH_BITS.into(), 63),
+        14 => waiting | 1 << random.between(LOWEST_UPPER_BIT, 63),
         _ => random.any_width(),
     }
 }

@@ -19,6 +19,8 @@ pub struct Player {
     /// Since its board was formatted and powered up, the history has damaged nothing: the registers have to count the
     /// dirty slots.
     pub is_undamaged: bool,
+    /// The board was converted, and not formatted.
+    pub is_converted: bool,
     pub occurrences: Occurrences,
     calls_in_history: u64,
     library: Lent,
@@ -32,6 +34,7 @@ impl Player {
             state: Lent::default(),
             last_number: 0,
             is_undamaged: false,
+            is_converted: false,
             occurrences: Occurrences::default(),
             calls_in_history: 0,
             library: Lent::default(),
@@ -48,6 +51,7 @@ impl Player {
         };
         self.last_number = 0;
         self.is_undamaged = false;
+        self.is_converted = false;
         self.calls_in_history = 0;
     }
 
@@ -78,6 +82,7 @@ impl Player {
         self.calls_in_history += 1;
         self.occurrences
             .count(asked, library_number, &self.state, &self.library);
+        self.occurrences.calls_on_converted += u64::from(self.is_converted);
         std::mem::swap(&mut self.state, &mut self.library);
         self.last_number = library_number;
         Ok(())

@@ -63,14 +63,11 @@ impl Seen<'_> {
             return false;
         }
         let place = self.after.answer[0] as usize;
-        let Range {
-            address,
-            valid_from,
-            valid_till,
-        } = self.entry(place);
+        let range = self.entry(place);
+        let valid_till = range.valid_till;
         let older_till = place.checked_sub(1).map(|older| self.entry(older).valid_till);
-        let is_proper_otherwise = address < self.before.shape().lines
-            && valid_from < valid_till
+        let is_proper_otherwise = range.address < self.before.shape().lines
+            && range.has_proper_span(MOST_AHEAD)
             && self.persisted() < valid_till
             && older_till.is_none_or(|older| valid_till >= older);
         valid_till > self.latest_till() && is_proper_otherwise && is_such(older_till, valid_till)

@@ -14,6 +14,8 @@ pub struct Lent {
     pub board: Vec<u64>,
     pub work: Vec<u64>,
     pub registers: Vec<u64>,
+    /// The board in the old layout that is converted; the second memory is `board`.
+    pub old_board: Vec<u64>,
     /// The bytes for an export, a record or a name, at their place among others that are not lent.
     pub bytes: Vec<u8>,
     pub bytes_place: Range<usize>,
@@ -26,6 +28,7 @@ impl Lent {
         self.board.clone_from(&other.board);
         self.work.clone_from(&other.work);
         self.registers.clone_from(&other.registers);
+        self.old_board.clone_from(&other.old_board);
         self.bytes.clone_from(&other.bytes);
         self.bytes_place.clone_from(&other.bytes_place);
         self.answer.clone_from(&other.answer);
@@ -37,6 +40,7 @@ pub fn on_library(asked: Asked, lent: &mut Lent) -> u64 {
     match asked {
         Asked::Call(call) => make_on_library(call, lent),
         Asked::HexOut { record } => export_on_library(record, lent),
+        Asked::Convert => library::convert(&lent.old_board, &mut lent.board, &mut lent.answer),
         Asked::TraceWrite(record) => write_on_library(record, lent),
         Asked::Name { number } => name_on_library(number, lent),
     }
@@ -93,6 +97,7 @@ pub fn on_handwritten(asked: Asked, lent: &mut Lent) -> u64 {
     let answer = match asked {
         Asked::Call(call) => make_on_handwritten(call, lent),
         Asked::HexOut { record } => Some(export_on_handwritten(record, lent)),
+        Asked::Convert => Some(HandWritten::convert(&lent.old_board, &mut lent.board)),
         Asked::TraceWrite(record) => write_on_handwritten(record, lent),
         Asked::Name { number } => HandWritten::name(&mut lent.bytes[lent.bytes_place.clone()], number),
     };
@@ -153,7 +158,7 @@ pub fn has_true_count(asked: Asked, number: u64, after: &Lent) -> bool {
 #[cfg(test)]
 mod tests {
     use super::*;
-    use crate::handwritten::layout::{work_words, SlotWord};
+    use crate::handwritten::layout::{work_words, Shape, SlotWord};
 
     /// The number, all bytes and the answer, once the hand-written Rust was asked for the name of 3 with a text from byte 2 on.
     fn ask_for_entry(text_bytes: usize, answer_words: usize) -> (u64, Vec<u8>, Vec<u64>) {
@@ -186,7 +191,7 @@ mod tests {
     /// The same once the last record of a board of one line was asked for, with a text from byte 1 on.
     fn ask_for_end(log_length: u64, text_bytes: usize, answer_words: usize) -> (u64, Vec<u8>, Vec<u64>) {
         let mut lent = Lent {
-            board: vec![log_length, 1 << 20 | 1, 0, 0, 7],
+            board: vec![log_length, Shape { lines: 1, entries: 1 }.pack(), 0, 0, 7],
             bytes: vec![0xEE; 46],
             bytes_place: 1..1 + text_bytes,
             answer: (100..).take(answer_words).collect(),

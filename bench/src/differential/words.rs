@@ -4,8 +4,8 @@
 use super::sides::Lent;
 use crate::call::Call;
 use crate::handwritten::layout::{
-    buffer_place, entry_place, filter_place, mark, slot_place, slots_in, work_words, Control, Filter, FilterBit, Range,
-    Shape, SlotWord, BUFFER_ENTRIES, CONTROL_PLACE, FILTER_WORDS, SHAPE_PLACE,
+    buffer_place, entry_place, filter_place, mark, ones, slot_place, slots_in, work_words, Control, Filter, FilterBit,
+    Range, Shape, SlotWord, BUFFER_ENTRIES, CONTROL_PLACE, FILTER_WORDS, MOST_AHEAD, SHAPE_PLACE,
 };
 use crate::handwritten::{record, Registers};
 use crate::interface::{RegisterWords, REGISTER_WORDS, TRACE};
@@ -42,6 +42,16 @@ impl Lent {
 
     pub fn set_shape(&mut self, shape: Shape) {
         self.board[SHAPE_PLACE] = shape.pack();
+    }
+
+    pub fn version(&self) -> u64 {
+        self.board[SHAPE_PLACE] >> Shape::VERSION_SHIFT
+    }
+
+    /// Changes the shape word's version and nothing else of it.
+    pub fn set_version(&mut self, version: u64) {
+        let others = self.board[SHAPE_PLACE] & ones(Shape::VERSION_SHIFT);
+        self.board[SHAPE_PLACE] = version << Shape::VERSION_SHIFT | others;
     }
 
     /// The range of the log entry at a place of the ring.
@@ -108,8 +118,11 @@ impl Lent {
 
     /// Whether the range of a buffered entry is proper on this board and beside these registers.
     pub fn is_proper_in_buffer(&self, range: Range) -> bool {
-        let is_in_epochs = range.valid_from < range.valid_till && range.valid_till <= self.registers().epoch;
-        range.address < self.shape().lines && is_in_epochs
+        self.is_proper_in_buffer_but_for_span(range) && range.has_proper_span(MOST_AHEAD)
+    }
+
+    pub fn is_proper_in_buffer_but_for_span(&self, range: Range) -> bool {
+        range.address < self.shape().lines && range.valid_till <= self.registers().epoch
     }
 
     /// Whether the bits of an address are set, the first and the second.

@@ -1,6 +1,8 @@
 //! The tests that a call makes before it changes anything.
 
-use super::layout::{self, Control, Entry, Filter, Range, Shape, SlotWord, BUFFER_ENTRIES, LAST_EPOCH, MOST_AHEAD};
+use super::layout::{
+    self, Control, Entry, Filter, Range, Shape, SlotWord, BUFFER_ENTRIES, LAST_EPOCH, MOST_AHEAD, MOST_ENTRIES,
+};
 use super::Registers;
 
 /// The refusals, by the paper's numbers. `Entry` is the one that comes with a value.
@@ -29,17 +31,23 @@ pub enum Refusal {
 #[inline]
 pub fn head(board: &[u64]) -> Result<(Control, Shape), Refusal> {
     let (control, shape) = layout::head_of(board).ok_or(Refusal::Shape)?;
-    let entries = shape.entries as usize;
-    let agree = shape.is_in_range()
-        && board.len() == shape.board_words()
-        && control.persisted < LAST_EPOCH
-        && control.start < entries
-        && control.length <= entries;
-    if agree {
+    if agree(board.len(), control, shape, MOST_ENTRIES, LAST_EPOCH) {
         Ok((control, shape))
     } else {
         Err(Refusal::Shape)
     }
+}
+
+/// Whether the first two words of a board agree with each other and with its length, in a layout that has room for so many
+/// log entries and whose last epoch is this.
+#[inline]
+pub fn agree(board_words: usize, control: Control, shape: Shape, most_entries: u64, last_epoch: u64) -> bool {
+    let entries = shape.entries as usize;
+    shape.is_in_range(most_entries)
+        && board_words == shape.board_words()
+        && control.persisted < last_epoch
+        && control.start < entries
+        && control.length <= entries
 }
 
 /// How many slots a work memory of that many words has.
@@ -138,7 +146,7 @@ pub fn buffer(buffered: &[Entry], filter: &Filter, lines: u64, epoch: u64) -> Re
     let mut all_marked = true;
     for &[packed, _] in buffered {
         let range = Range::unpack(packed);
-        let proper = range.address < lines && range.valid_from < range.valid_till && range.valid_till <= epoch;
+        let proper = range.address < lines && range.valid_till <= epoch && range.has_proper_span(MOST_AHEAD);
         if !proper {
             return Err(Refusal::Buffer);
         }
@@ -160,20 +168,24 @@ pub fn oldest_to_newest(log: &[Entry], control: Control) -> impl DoubleEndedIter
     older[..before_end].iter().chain(&wrapped[..after_end])
 }
 
-/// The place in the log, the oldest counted 0, of the first entry that is not proper.
+/// The place, the oldest counted 0, of the first entry of a log that is not proper, where an entry spans so many epochs at
+/// most.
 #[inline]
-pub fn first_improper_entry(log: &[Entry], control: Control, lines: u64) -> Option<usize> {
+pub fn first_improper(
+    oldest_to_newest: impl Iterator<Item = Range>,
+    persisted: u64,
+    lines: u64,
+    most_span: u64,
+) -> Option<usize> {
     // The least ValidTill that the next entry may have: above the persisted epoch, and not below the entry before.
-    let mut least_till = control.persisted + 1;
+    let mut least_till = persisted + 1;
     // And the most: no controller is further ahead of the persisted epoch. From the last epoch on, it refuses nothing.
-    let most_till = control.persisted + MOST_AHEAD;
-    oldest_to_newest(log, control).position(|&[packed, _]| {
-        let range = Range::unpack(packed);
-        let proper = range.address < lines
-            && range.valid_from < range.valid_till
-            && least_till <= range.valid_till
-            && range.valid_till <= most_till;
+    let most_till = persisted + MOST_AHEAD;
+    let is_proper = |range: Range| {
+        let is_in_order = (least_till..=most_till).contains(&range.valid_till);
         least_till = range.valid_till;
-        !proper
-    })
+        range.address < lines && range.has_proper_span(most_span) && is_in_order
+    };
+    let mut are_proper = oldest_to_newest.map(is_proper);
+    are_proper.position(|is_proper| !is_proper)
 }

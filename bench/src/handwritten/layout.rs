@@ -2,21 +2,26 @@
 //! memories.
 
 pub const MOST_LINES: u64 = 1 << 16;
-pub const MOST_ENTRIES: u64 = 1 << 16;
+pub const MOST_ENTRIES: u64 = ones(RING_BITS);
 pub const MOST_SLOTS: usize = 256;
 pub const BUFFER_ENTRIES: usize = 32;
 pub const LAST_ADDRESS: u64 = ones(ADDRESS_BITS);
 pub const LAST_EPOCH: u64 = ones(EPOCH_BITS);
-/// The most by which the running epoch, or the ValidTill of a log entry, is ahead of the persisted epoch.
+/// The most by which the running epoch, or the ValidTill of a log entry, is ahead of the persisted epoch; and so the most
+/// epochs that an undo entry spans.
 pub const MOST_AHEAD: u64 = 16;
 /// The most committed epochs that wait to be persisted.
 pub const MOST_WAITING: u64 = MOST_AHEAD - 1;
 
-pub const EPOCH_BITS: u32 = 24;
+pub const EPOCH_BITS: u32 = 40;
+/// The log's start and length in the control word.
+pub const RING_BITS: u32 = 12;
+/// N and L in the shape word.
 pub const COUNT_BITS: u32 = 20;
-const ADDRESS_BITS: u32 = 16;
+pub const SPAN_BITS: u32 = 8;
+pub const ADDRESS_BITS: u32 = 16;
 
-const fn ones(bits: u32) -> u64 {
+pub const fn ones(bits: u32) -> u64 {
     (1 << bits) - 1
 }
 
@@ -26,7 +31,7 @@ const FIRST_BIT: u64 = 1 << (u64::BITS - 1);
 /// A board: control word, shape word, log entries, lines.
 pub const CONTROL_PLACE: usize = 0;
 pub const SHAPE_PLACE: usize = 1;
-const HEAD_WORDS: usize = 2;
+pub const HEAD_WORDS: usize = 2;
 
 /// A packed range, then the data that the line had in it.
 pub type Entry = [u64; ENTRY_WORDS];
@@ -115,6 +120,13 @@ pub fn head_of(board: &[u64]) -> Option<(Control, Shape)> {
     Some((Control::unpack(control), Shape::unpack(shape)))
 }
 
+/// The log and the lines of a board that has the words of its shape.
+#[inline]
+pub fn board_parts(board: &[u64], shape: Shape) -> (&[Entry], &[u64]) {
+    let (log, lines) = board[HEAD_WORDS..].split_at(ENTRY_WORDS * shape.entries as usize);
+    (log.as_chunks().0, lines)
+}
+
 /// The control word, the log and the lines of a board with a shape word.
 #[inline]
 pub fn board_parts_mut(board: &mut [u64], shape: Shape) -> Option<(&mut u64, &mut [Entry], &mut [u64])> {
@@ -125,7 +137,7 @@ pub fn board_parts_mut(board: &mut [u64], shape: Shape) -> Option<(&mut u64, &mu
     Some((control_word, log.as_chunks_mut().0, lines))
 }
 
-/// The control word: persisted epoch 24, log start 20, log length 20.
+/// The control word: persisted epoch 40, log start 12, log length 12.
 #[derive(Clone, Copy, Debug, PartialEq, Eq)]
 pub struct Control {
     pub persisted: u64,
@@ -137,21 +149,22 @@ impl Control {
     #[inline]
     pub fn unpack(word: u64) -> Self {
         Control {
-            persisted: word >> (2 * COUNT_BITS),
-            start: (word >> COUNT_BITS & ones(COUNT_BITS)) as usize,
-            length: (word & ones(COUNT_BITS)) as usize,
+            persisted: word >> (2 * RING_BITS),
+            start: (word >> RING_BITS & ones(RING_BITS)) as usize,
+            length: (word & ones(RING_BITS)) as usize,
         }
     }
 
     #[inline]
     pub fn pack(self) -> u64 {
-        self.persisted << (2 * COUNT_BITS) | (self.start as u64) << COUNT_BITS | self.length as u64
+        self.persisted << (2 * RING_BITS) | (self.start as u64) << RING_BITS | self.length as u64
     }
 }
 
-/// The shape word: zero 24, lines 20, entries 20.
+/// The shape word: version 24, lines 20, entries 20.
 ///
-/// Unpacking leaves the 24 upper bits in front of `lines`: where they are not zero, there are too many lines.
+/// Unpacking takes the version off the bits in front of `lines` and leaves the rest there: where the version is another,
+/// there are too many lines.
 #[derive(Clone, Copy, Debug, PartialEq, Eq)]
 pub struct Shape {
     pub lines: u64,
@@ -159,25 +172,27 @@ pub struct Shape {
 }
 
 impl Shape {
-    /// The first and the last bit of `lines` that has to be zero.
-    pub const ZERO_BITS: (u64, u64) = (COUNT_BITS as u64, (63 - COUNT_BITS) as u64);
+    pub const VERSION: u64 = 1;
+    pub const VERSION_SHIFT: u32 = 2 * COUNT_BITS;
+    const VERSION_BEFORE_LINES: u64 = Self::VERSION << COUNT_BITS;
 
     #[inline]
     pub fn unpack(word: u64) -> Self {
         Shape {
-            lines: word >> COUNT_BITS,
+            lines: (word >> COUNT_BITS).wrapping_sub(Self::VERSION_BEFORE_LINES),
             entries: word & ones(COUNT_BITS),
         }
     }
 
+    /// The word that this is unpacked from, whatever its version.
     #[inline]
     pub fn pack(self) -> u64 {
-        self.lines << COUNT_BITS | self.entries
+        self.lines.wrapping_add(Self::VERSION_BEFORE_LINES) << COUNT_BITS | self.entries
     }
 
     #[inline]
-    pub fn is_in_range(self) -> bool {
-        (1..=MOST_LINES).contains(&self.lines) && (1..=MOST_ENTRIES).contains(&self.entries)
+    pub fn is_in_range(self, most_entries: u64) -> bool {
+        (1..=MOST_LINES).contains(&self.lines) && (1..=most_entries).contains(&self.entries)
     }
 
     /// The words of a board that has a shape in range.
@@ -199,32 +214,47 @@ impl Shape {
     }
 }
 
-/// The first word of an undo entry: address 16, ValidFrom 24, ValidTill 24.
+/// The first word of an undo entry: address 16, ValidTill 40, span 8. ValidFrom is so many epochs before ValidTill.
 #[derive(Clone, Copy, Debug, PartialEq, Eq)]
 pub struct Range {
     pub address: u64,
-    pub valid_from: u64,
     pub valid_till: u64,
+    pub span: u64,
 }
 
 impl Range {
     #[inline]
     pub fn unpack(word: u64) -> Self {
         Range {
-            address: word >> (2 * EPOCH_BITS),
-            valid_from: word >> EPOCH_BITS & LAST_EPOCH,
-            valid_till: word & LAST_EPOCH,
+            address: word >> (EPOCH_BITS + SPAN_BITS),
+            valid_till: word >> SPAN_BITS & LAST_EPOCH,
+            span: word & ones(SPAN_BITS),
         }
     }
 
     #[inline]
     pub fn pack(self) -> u64 {
-        self.address << (2 * EPOCH_BITS) | self.valid_from << EPOCH_BITS | self.valid_till
+        self.address << (EPOCH_BITS + SPAN_BITS) | self.valid_till << SPAN_BITS | self.span
     }
 
+    /// Whether the ValidTill of a packed word is behind an epoch, which is not the last. Behind the address it is the word's first
+    /// field, and need not be unpacked.
+    #[inline]
+    pub fn ends_behind(word: u64, epoch: u64) -> bool {
+        word << ADDRESS_BITS >= (epoch + 1) << (u64::BITS - EPOCH_BITS)
+    }
+
+    /// Whether the span is one up to so many epochs, and ValidFrom not before epoch 0.
+    #[inline]
+    pub fn has_proper_span(self, most: u64) -> bool {
+        (1..=most).contains(&self.span) && self.span <= self.valid_till
+    }
+
+    /// Whether an epoch is from ValidFrom on and before ValidTill, the span being a proper one.
     #[inline]
     pub fn covers(self, epoch: u64) -> bool {
-        self.valid_from <= epoch && epoch < self.valid_till
+        // From ValidTill on it wraps round.
+        self.valid_till.wrapping_sub(epoch + 1) < self.span
     }
 }
 
@@ -285,7 +315,7 @@ pub fn mark(filter: &mut Filter, address: u64) {
     }
 }
 
-/// A slot word: valid 1, dirty 1, address 16, tag 24, zero 22. An empty slot is zero.
+/// A slot word: valid 1, dirty 1, address 16, tag 40, zero 6. An empty slot is zero.
 #[derive(Clone, Copy, Debug, Default, PartialEq, Eq)]
 pub struct SlotWord(pub u64);
 
@@ -294,7 +324,7 @@ impl SlotWord {
     pub const VALID: u64 = 1 << 63;
     pub const DIRTY: u64 = 1 << 62;
     /// The zero bits at the word's end; the tag is before them.
-    pub const ZERO_BITS: u32 = 22;
+    pub const ZERO_BITS: u32 = 6;
     const TAG_SHIFT: u32 = Self::ZERO_BITS;
     const ADDRESS_SHIFT: u32 = Self::TAG_SHIFT + EPOCH_BITS;
 
@@ -343,32 +373,5 @@ impl SlotWord {
     #[inline]
     pub fn holds(self, address: u64) -> bool {
         self.is_valid() && self.address() == address
-    }
-}
-
-/// The first word of a record: kind 3, address 16, zero 45.
-#[derive(Clone, Copy, Debug, PartialEq, Eq)]
-pub struct RecordHead {
-    pub kind: u64,
-    pub address: u64,
-}
-
-impl RecordHead {
-    const ZERO_BITS: u32 = 45;
-    const KIND_SHIFT: u32 = Self::ZERO_BITS + ADDRESS_BITS;
-
-    #[inline]
-    pub fn pack(self) -> u64 {
-        self.kind << Self::KIND_SHIFT | self.address << Self::ZERO_BITS
-    }
-
-    /// None where a bit that has to be zero is not.
-    #[inline]
-    pub fn unpack(word: u64) -> Option<Self> {
-        let head = RecordHead {
-            kind: word >> Self::KIND_SHIFT,
-            address: word >> Self::ZERO_BITS & LAST_ADDRESS,
-        };
-        (word & ones(Self::ZERO_BITS) == 0).then_some(head)
     }
 }

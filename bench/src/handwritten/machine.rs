@@ -250,7 +250,7 @@ impl<'a> Machine<'a> {
     #[inline]
     pub fn droppable(&self, target: u64) -> usize {
         checks::oldest_to_newest(self.log, self.control)
-            .position(|&[packed, _]| Range::unpack(packed).valid_till > target)
+            .position(|&[packed, _]| Range::ends_behind(packed, target))
             .unwrap_or(self.control.length)
     }
 }

@@ -1,11 +1,13 @@
-//! The ten calls and the export in ordinary Rust, written from the paper alone: the yardstick for what the library answers
+//! The ten calls, the export and the converter in ordinary Rust, written from the paper alone: the yardstick for what the library answers
 //! and for how fast it does so.
 
 mod checks;
+pub mod convert;
 pub mod hex;
 pub mod layout;
 mod machine;
 pub mod names;
+pub mod old;
 pub mod record;
 mod registers;
 mod sets;
@@ -16,7 +18,8 @@ mod tests;
 use crate::interface::{Answer, CUT, OK};
 use checks::Refusal;
 use layout::{
-    board_parts_mut, buffer_and_filter_of, Control, Range, Shape, SlotWord, LAST_EPOCH, MOST_AHEAD, SHAPE_PLACE,
+    board_parts_mut, buffer_and_filter_of, Control, Range, Shape, SlotWord, LAST_EPOCH, MOST_AHEAD, MOST_ENTRIES,
+    SHAPE_PLACE,
 };
 use machine::{Machine, Mains, Stop, Visited};
 pub use registers::Registers;
@@ -25,7 +28,7 @@ pub use side::HandWritten;
 #[inline(never)]
 pub fn format(board: &mut [u64], lines: u64, entries: u64) -> Answer {
     let shape = Shape { lines, entries };
-    if !shape.is_in_range() || board.len() != shape.board_words() {
+    if !shape.is_in_range(MOST_ENTRIES) || board.len() != shape.board_words() {
         return refused(Refusal::Shape, 0);
     }
     board.fill(0);
@@ -53,7 +56,8 @@ fn recover(board: &mut [u64], work: &[u64], mains: &mut Mains) -> Result<u64, St
     let (control, shape) = checks::head(board)?;
     checks::slot_count(work.len())?;
     let (control_word, log, lines) = board_parts_mut(board, shape).ok_or(Refusal::Shape)?;
-    if let Some(place) = checks::first_improper_entry(log, control, shape.lines) {
+    let ranges = checks::oldest_to_newest(log, control).map(|&[packed, _]| Range::unpack(packed));
+    if let Some(place) = checks::first_improper(ranges, control.persisted, shape.lines, MOST_AHEAD) {
         return Err(Stop::Entry(place));
     }
     checks::oldest_to_newest(log, control)
@@ -118,8 +122,8 @@ pub fn store(
         machine.registers.dirty = visited.dirty_besides + 1;
         let range = Range {
             address,
-            valid_from,
             valid_till: epoch,
+            span: epoch - valid_from,
         };
         machine.record(range, old_data).map(|()| 0)
     })

@@ -1,9 +1,36 @@
 //! A record of a trace: one call as two words, most significant byte first. The second word is the value.
 
-use super::layout::{RecordHead, LAST_ADDRESS};
+use super::layout::{ones, ADDRESS_BITS, LAST_ADDRESS};
 use crate::call::Call;
 use crate::interface::{Answer, RecordBytes, OK, TRACE};
 use crate::record::{COMMIT, EVICT, LOAD, SCAN, STORE};
+
+/// The first word of a record: kind 3, address 16, zero 45.
+#[derive(Clone, Copy, Debug, PartialEq, Eq)]
+struct RecordHead {
+    kind: u64,
+    address: u64,
+}
+
+impl RecordHead {
+    const ZERO_BITS: u32 = 45;
+    const KIND_SHIFT: u32 = Self::ZERO_BITS + ADDRESS_BITS;
+
+    #[inline]
+    fn pack(self) -> u64 {
+        self.kind << Self::KIND_SHIFT | self.address << Self::ZERO_BITS
+    }
+
+    /// None where a bit that has to be zero is not.
+    #[inline]
+    fn unpack(word: u64) -> Option<Self> {
+        let head = RecordHead {
+            kind: word >> Self::KIND_SHIFT,
+            address: word >> Self::ZERO_BITS & LAST_ADDRESS,
+        };
+        (word & ones(Self::ZERO_BITS) == 0).then_some(head)
+    }
+}
 
 /// The record of a kind, an address and a value in the place of these bytes, or 13 and no byte touched.
 #[inline(never)]

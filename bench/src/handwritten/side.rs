@@ -1,6 +1,6 @@
 //! The hand-written calls as one of the two sides.
 
-use super::{hex, names, record, Registers};
+use super::{convert, hex, names, record, Registers};
 use crate::interface::{Answer, CacheLog, RecordBytes};
 
 pub struct HandWritten;
@@ -68,6 +68,11 @@ impl CacheLog for HandWritten {
     #[inline]
     fn hex_out(board: &[u64], text: &mut [u8], record: u64) -> Answer {
         hex::hex_out(board, text, record)
+    }
+
+    #[inline]
+    fn convert(old_board: &[u64], board: &mut [u64]) -> Answer {
+        convert::convert(old_board, board)
     }
 
     #[inline]

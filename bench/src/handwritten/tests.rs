@@ -1,15 +1,18 @@
-//! The paper's own examples: W1 to W12, its replay, its traps, and the latest log entry that is proper. filter.rs has those of
-//! the filter, count.rs the count of dirty slots, sets.rs the sets of four slots, names.rs the names, hex.rs the export, pass.rs
-//! passes over several epochs.
+//! The paper's own examples: W5 to W12, its replay, its traps, and the latest log entry that is proper. words.rs has W1 to W4 and
+//! the other words, spans.rs the spans of undo entries, filter.rs the filter, count.rs the count of dirty slots, sets.rs the sets
+//! of four slots, names.rs the names, hex.rs the export, pass.rs passes over several epochs, convert.rs the converter.
 
+mod convert;
 mod count;
 mod filter;
 mod hex;
 mod names;
 mod pass;
 mod sets;
+mod spans;
+mod words;
 
-use super::layout::{buffer_place, entry_place, Control, Range, Shape, SlotWord, CONTROL_PLACE, LAST_EPOCH};
+use super::layout::{buffer_place, entry_place, Control, Range, CONTROL_PLACE, LAST_EPOCH};
 use super::{HandWritten, Registers};
 use crate::call::{Call, NO_CUT};
 use crate::interface::Answer;
@@ -22,8 +25,8 @@ const fn answer(number: u64, value: u64, stores: u64) -> Answer {
 const fn range(address: u64, valid_from: u64, valid_till: u64) -> Range {
     Range {
         address,
-        valid_from,
         valid_till,
+        span: valid_till - valid_from,
     }
 }
 
@@ -143,28 +146,14 @@ impl Loom {
     }
 }
 
-/// What a power-up answers to entries with these ValidTills, oldest first, in a ring of 8. Each of them covers P.
+/// What a power-up answers to entries with these ValidTills, oldest first, in a ring of 8. Each covers P, or as many epochs as it
+/// may, so that none is refused for its span.
 fn power_up_with_tills(start: usize, persisted: u64, tills: &[u64]) -> Answer {
     let mut loom = Loom::new(4, 8, 4);
-    let log: Vec<(Range, u64)> = tills.iter().map(|&till| (range(3, persisted, till), 4)).collect();
+    let entry = |&till: &u64| (range(3, persisted.max(till.saturating_sub(16)), till), 4);
+    let log: Vec<(Range, u64)> = tills.iter().map(entry).collect();
     loom.put_log_from(start, persisted, &log);
     loom.power_up()
-}
-
-#[test]
-fn w1_to_w4_words() {
-    let control = Control {
-        persisted: 1,
-        start: 1,
-        length: 1,
-    };
-    let shape = Shape { lines: 4, entries: 8 };
-    assert_eq!(range(5, 1, 2).pack(), 0x0005000001000002);
-    assert_eq!(Range::unpack(0x0005000001000002), range(5, 1, 2));
-    assert_eq!(control.pack(), 0x0000010000100001);
-    assert_eq!(Control::unpack(0x0000010000100001), control);
-    assert_eq!(shape.pack(), 0x0000000000400008);
-    assert_eq!(SlotWord::dirty(3, 2).0, 0xC000C00000800000);
 }
 
 #[test]

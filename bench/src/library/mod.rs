@@ -118,6 +118,14 @@ mod c {
             answer: *mut u64,
             answer_words: usize,
         ) -> u64;
+        pub fn picl_convert(
+            old_board: *const u64,
+            old_words: usize,
+            board: *mut u64,
+            board_words: usize,
+            answer: *mut u64,
+            answer_words: usize,
+        ) -> u64;
         pub fn picl_trace_write(
             bytes: *mut u8,
             byte_count: usize,
@@ -323,6 +331,20 @@ pub fn hex_out(board: &[u64], text: &mut [u8], record: u64, answer: &mut [u64]) 
             text.as_mut_ptr(),
             text.len(),
             record,
+            answer.as_mut_ptr(),
+            answer.len(),
+        )
+    }
+}
+
+#[inline]
+pub fn convert(old_board: &[u64], board: &mut [u64], answer: &mut [u64]) -> u64 {
+    unsafe {
+        c::picl_convert(
+            old_board.as_ptr(),
+            old_board.len(),
+            board.as_mut_ptr(),
+            board.len(),
             answer.as_mut_ptr(),
             answer.len(),
         )

@@ -100,6 +100,11 @@ impl CacheLog for Library {
     }
 
     #[inline]
+    fn convert(old_board: &[u64], board: &mut [u64]) -> Answer {
+        answered(|answer| super::convert(old_board, board, answer))
+    }
+
+    #[inline]
     fn trace_write(bytes: &mut RecordBytes, kind: u64, address: u64, value: u64) -> Answer {
         answered(|answer| super::trace_write(bytes, kind, address, value, answer))
     }

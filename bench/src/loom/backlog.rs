@@ -1,5 +1,5 @@
-//! As many epochs of the loom's work as may wait, persisted one by one, each by a pass of its own, and all of them in one pass: what
-//! either takes, from the same state.
+//! As many epochs of the loom's work as may wait and the log has room for, persisted one by one, each by a pass of its own, and all of
+//! them in one pass: what either takes, from the same state.
 
 use super::controller::{Controller, Figures, Plan, EPOCHS_BEFORE, SEED};
 use crate::call::Call;
@@ -16,6 +16,8 @@ pub struct Cost {
 
 #[derive(Clone, Copy, Debug)]
 pub struct Costs {
+    /// How many epochs have waited.
+    pub epochs: u64,
     pub one_by_one: Cost,
     pub in_one_pass: Cost,
 }
@@ -24,19 +26,21 @@ pub struct Costs {
 /// lines or epochs.
 pub fn persist_both_ways(plan: Plan) -> Result<Costs, String> {
     let waiting = with_backlog(plan)?;
+    let epochs = waiting.waiting();
     let newest = waiting.registers().epoch - 1;
 
     let mut step_by_step = waiting.clone();
     let mut one_by_one = Vec::new();
-    for _ in 0..MOST_WAITING {
-        one_by_one.push(scan_to_the_end(&mut step_by_step, plan.slots)?);
+    for _ in 0..epochs {
+        one_by_one.push(step_by_step.persist()?);
     }
 
     let mut at_once = waiting;
     begin(&mut at_once, newest)?;
-    let in_one_pass = scan_to_the_end(&mut at_once, plan.slots)?;
+    let in_one_pass = at_once.persist()?;
 
     let costs = Costs {
+        epochs,
         one_by_one: Cost {
             scans: one_by_one.iter().sum(),
             figures: step_by_step.figures,
@@ -50,7 +54,8 @@ pub fn persist_both_ways(plan: Plan) -> Result<Costs, String> {
     Ok(costs)
 }
 
-/// A controller that has worked with scan calls, and then without any until no further epoch may wait. The running one is empty.
+/// A controller that has worked with scan calls, and then without any, as many epochs as may wait and the log has room for. The running
+/// one is empty.
 fn with_backlog(plan: Plan) -> Result<Controller, String> {
     let random = &mut Random::new(SEED);
     let lines = plan.order.lines(random, MOST_LINES);
@@ -59,8 +64,14 @@ fn with_backlog(plan: Plan) -> Result<Controller, String> {
     for _ in 0..EPOCHS_BEFORE {
         controller.epoch(&work.epoch(random))?;
     }
+    controller.figures = Figures::default();
     while controller.waiting() < MOST_WAITING {
-        controller.epoch(&work.without_scans().epoch(random))?;
+        let mut with_one_more = controller.clone();
+        with_one_more.epoch(&work.without_scans().epoch(random))?;
+        if with_one_more.figures.refused_for_room > 0 {
+            break;
+        }
+        controller = with_one_more;
     }
     controller.figures = Figures::default();
     Ok(controller)
@@ -71,16 +82,6 @@ fn begin(controller: &mut Controller, target: u64) -> Result<(), String> {
         OK => Ok(()),
         number => Err(format!("begin answered {number}")),
     }
-}
-
-/// Makes scan calls until one has persisted something, S + 1 at most, and gives how many they were.
-pub fn scan_to_the_end(controller: &mut Controller, slots: usize) -> Result<u64, String> {
-    for scans in 1..=slots as u64 + 1 {
-        if controller.scan(Call::SCAN)? != 0 {
-            return Ok(scans);
-        }
-    }
-    Err(format!("{} scan calls have persisted nothing", slots + 1))
 }
 
 /// Both have to have persisted the newest epoch that waited, and to restart with the same lines.

@@ -52,6 +52,8 @@ pub struct Figures {
     /// Write-outs with entries buffered.
     pub write_outs_beside_entries: u64,
     pub refused_for_room: u64,
+    /// The most scan calls that were made in one go before a store that was refused for room was made again.
+    pub most_late_scans: u64,
 }
 
 impl Figures {
@@ -65,6 +67,7 @@ pub struct Controller {
     board: Vec<u64>,
     work: Vec<u64>,
     registers: RegisterWords,
+    slots: usize,
     /// The log's size, L.
     entries: u64,
     pub figures: Figures,
@@ -97,6 +100,7 @@ impl Controller {
             board: vec![0; sizes.board_words()],
             work: vec![0; sizes.work_words()],
             registers: NO_REGISTERS,
+            slots: plan.slots,
             entries: plan.entries,
             figures: Figures::default(),
             entries_in_epoch: 0,
@@ -124,11 +128,32 @@ impl Controller {
     }
 
     fn store(&mut self, call: Call) -> Result<(), String> {
-        let before = self.entries_at_once();
-        self.counted(call)?;
+        let mut before = self.entries_at_once();
+        while self.counted(call)?.number == ROOM {
+            self.make_room()?;
+            before = self.entries_at_once();
+        }
         self.entries_in_epoch += self.entries_at_once() - before;
         self.note_state();
         Ok(())
+    }
+
+    /// What `include/picl.h` asks for where a store is refused for room, before it is made again: scan calls in one go until an epoch
+    /// is persisted. Gives how many they were.
+    pub fn make_room(&mut self) -> Result<u64, String> {
+        let scans = self.persist()?;
+        self.figures.most_late_scans = self.figures.most_late_scans.max(scans);
+        Ok(scans)
+    }
+
+    /// Makes scan calls until one has persisted something, S + 1 at most, and gives how many they were.
+    pub fn persist(&mut self) -> Result<u64, String> {
+        for scans in 1..=self.slots as u64 + 1 {
+            if self.scan(Call::SCAN)? != 0 {
+                return Ok(scans);
+            }
+        }
+        Err(format!("{} scan calls have persisted nothing", self.slots + 1))
     }
 
     /// Makes a scan call and gives the epoch that it has persisted, or 0.

@@ -1,12 +1,11 @@
 //! A day of the loom's work, epoch by epoch, at three rates of scan calls: how many epochs wait, and how full the log is. Now and then
 //! the controller is too busy to scan. `docs/picture` draws it.
 
-use super::backlog::scan_to_the_end;
 use super::controller::{Controller, Plan, SEED};
-use super::workload::{Order, LINES_OF_A_LOOM, STORES_PER_EPOCH};
+use super::workload::{Order, STORES_PER_EPOCH};
 use crate::call::{Call, Kind};
-use crate::handwritten::layout::{MOST_LINES, MOST_WAITING};
-use crate::interface::{OK, WAITING};
+use crate::handwritten::layout::{MOST_ENTRIES, MOST_LINES};
+use crate::interface::ROOM;
 use crate::random::Random;
 use std::ops::Range;
 
@@ -19,14 +18,13 @@ const SLOTS: usize = 64;
 /// One less than the S + 1 scan calls that persist an epoch, just these, and twice as many.
 const SCAN_RATES: [usize; 3] = [SLOTS, SLOTS + 1, 2 * (SLOTS + 1)];
 
-/// Each line makes one entry an epoch, since it is evicted when its pick is done. So the log has room for as many epochs as may wait, and
-/// the running one.
-const ENTRIES: u64 = (MOST_WAITING + 1) * LINES_OF_A_LOOM as u64;
+const ENTRIES: u64 = MOST_ENTRIES;
 
-/// At each full hour so many epochs have no scan calls; at noon as many as `docs/INTEGRATION.md` allows.
+/// At each full hour so many epochs have no scan calls; at noon as many as the log has room for at the highest of these rates
+/// (`bench/run loom`, its second table).
 const BUSY_EPOCHS: u64 = 1;
 const NOON: u64 = 12;
-const BUSY_EPOCHS_AT_NOON: u64 = 13;
+const BUSY_EPOCHS_AT_NOON: u64 = 8;
 
 /// What an epoch has met.
 #[derive(Clone, Copy, Debug, PartialEq, Eq)]
@@ -35,8 +33,8 @@ struct Met {
     waiting: u64,
     /// The most entries at once, in log and buffer.
     entries: u64,
-    /// Whether its commit was refused at first, and the scan calls that were then made in one go, until a pass had ended.
-    refused: bool,
+    /// Its stores that were refused for room at first, and the scan calls that were then made in one go, until passes had ended.
+    refused: u64,
     late_scans: u64,
 }
 
@@ -70,7 +68,6 @@ fn print_epoch(scans: usize, epoch: u64, met: Met) {
         refused,
         late_scans,
     } = met;
-    let refused = u64::from(refused);
     println!("{scans}\t{epoch}\t{waiting}\t{entries}\t{refused}\t{late_scans}");
 }
 
@@ -109,39 +106,27 @@ fn work_epoch(controller: &mut Controller, calls: &[Call]) -> Result<Met, String
     let mut met = Met {
         waiting: controller.waiting(),
         entries: 0,
-        refused: false,
+        refused: 0,
         late_scans: 0,
     };
     for &call in calls {
         match call.kind() {
-            Kind::Commit => commit(controller, &mut met)?,
-            Kind::Store => {
-                controller.make(call)?;
-                met.entries = met.entries.max(controller.entries_at_once());
-            }
+            Kind::Store => store(controller, call, &mut met)?,
             _ => {
                 controller.make(call)?;
             }
         }
     }
-    match controller.figures.refused_for_room {
-        0 => Ok(met),
-        _ => Err(format!("a store was refused for room, although L is {ENTRIES}")),
-    }
+    Ok(met)
 }
 
-/// Commits. Where too many epochs wait it does what `include/picl.h` says: it scans until one is persisted, and commits again.
-fn commit(controller: &mut Controller, met: &mut Met) -> Result<(), String> {
-    let mut number = controller.answer(Call::COMMIT).number;
-    if number == WAITING {
-        met.refused = true;
-        met.late_scans = scan_to_the_end(controller, SLOTS)?;
-        number = controller.answer(Call::COMMIT).number;
+fn store(controller: &mut Controller, call: Call, met: &mut Met) -> Result<(), String> {
+    while controller.make(call)?.number == ROOM {
+        met.refused += 1;
+        met.late_scans += controller.make_room()?;
     }
-    match number {
-        OK => Ok(()),
-        _ => Err(format!("commit answered {number}")),
-    }
+    met.entries = met.entries.max(controller.entries_at_once());
+    Ok(())
 }
 
 #[cfg(test)]
@@ -163,15 +148,17 @@ mod tests {
         assert!(!is_busy(NOON * HOUR + BUSY_EPOCHS_AT_NOON));
     }
 
-    /// Worked by hand: each epoch is one scan call short, so that one more waits every 65 epochs, 15 of them after 14 * 65 at most.
+    /// Worked by hand: each epoch is one scan call short, so that two wait from epoch 2 on, and one more every 65 epochs. Ten epochs of
+    /// 400 entries and 95 of the running one fill the log: in the 65 epochs from 2 + 8 * 65 on, when ten wait. From then on each
+    /// epoch has one store refused, and the scan call that it lacks behind it.
     #[test]
-    fn one_scan_call_too_few_ends_in_refused_commits() {
+    fn one_scan_call_too_few_ends_in_a_full_log() {
         let mets = met_by(SLOTS, 0..1_000);
-        let first = mets.iter().position(|met| met.refused).unwrap();
-        assert!((13 * 65..15 * 65).contains(&first));
+        let first = mets.iter().position(|met| met.refused > 0).unwrap();
+        assert!((2 + 8 * 65..2 + 9 * 65).contains(&first));
         for met in &mets[first..] {
-            assert_eq!((met.waiting, met.entries), (MOST_WAITING, ENTRIES));
-            assert_eq!((met.refused, met.late_scans), (true, 1));
+            assert_eq!((met.waiting, met.entries), (10, ENTRIES));
+            assert_eq!((met.refused, met.late_scans), (1, 1));
         }
     }
 

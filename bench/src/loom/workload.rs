@@ -19,6 +19,9 @@ pub enum Order {
     /// Pairs of lines that a cache of 64, 128 or 256 slots with one slot for a line has in one slot: a store to one of them, and
     /// then a load of the other, all day.
     Jacquard,
+    /// All lines belong in one set, whatever S is, and are stored to in turn: hardly a store finds its line held, so that an epoch
+    /// makes nearly as many entries as it has stores.
+    OneSet,
 }
 
 pub const PICKS_PER_EPOCH: usize = 10;
@@ -26,9 +29,17 @@ pub const PICKS_PER_EPOCH: usize = 10;
 pub const PAIRS: u64 = 20;
 /// A multiple of every number of slots that the work is measured with.
 const PAIR_DISTANCE: u64 = 256;
+/// A multiple of every number of sets that the work is measured with.
+const SET_DISTANCE: u64 = 64;
 
 impl Order {
-    pub const ALL: [Order; 4] = [Order::ByPicks, Order::ByPicksEvicted, Order::Scattered, Order::Jacquard];
+    pub const ALL: [Order; 5] = [
+        Order::ByPicks,
+        Order::ByPicksEvicted,
+        Order::Scattered,
+        Order::Jacquard,
+        Order::OneSet,
+    ];
 
     pub fn name(self) -> &'static str {
         match self {
@@ -36,6 +47,7 @@ impl Order {
             Order::ByPicks => "by picks",
             Order::ByPicksEvicted => "picks, evicted",
             Order::Jacquard => "jacquard",
+            Order::OneSet => "one set",
         }
     }
 
@@ -45,6 +57,7 @@ impl Order {
             Order::Scattered => scattered_lines(random, board_lines),
             Order::ByPicks | Order::ByPicksEvicted => (0..LINES_OF_A_LOOM as u64).collect(),
             Order::Jacquard => (0..PAIRS).flat_map(|line| [line, line + PAIR_DISTANCE]).collect(),
+            Order::OneSet => (0..LINES_OF_A_LOOM as u64).map(|line| line * SET_DISTANCE).collect(),
         }
     }
 
@@ -56,7 +69,7 @@ impl Order {
                 let lines = lines_of_pick(lines, pick_of(turn));
                 lines[turn % lines.len()]
             }
-            Order::Jacquard => lines[turn % lines.len()],
+            Order::Jacquard | Order::OneSet => lines[turn % lines.len()],
         }
     }
 
@@ -65,6 +78,8 @@ impl Order {
         match self {
             // The lines of a pair are neighbours in the list, the first in an even place.
             Order::Jacquard => lines[(turn % lines.len()) ^ 1],
+            // A line that is stored to half a round later.
+            Order::OneSet => lines[(turn + lines.len() / 2) % lines.len()],
             _ => self.address(random, lines, turn),
         }
     }

@@ -3,7 +3,7 @@
 
 use super::play_states;
 use crate::call::{Call, NO_CUT};
-use crate::differential::damage::{damage_count, damage_filter};
+use crate::differential::damage::{damage_count, damage_filter, draw_improper_span};
 use crate::differential::passes::{draw_epoch_about_pass, draw_target, put_pass};
 use crate::differential::player::{Outcome, Player};
 use crate::differential::sides::Lent;
@@ -15,14 +15,16 @@ use crate::sizes::Sizes;
 /// One state in so many has an improper slot, and as many an improper buffered entry, or a damaged filter.
 const DISTURBED_ONE_IN: u64 = 5;
 
-/// The persisted epochs: early and late ones, and such as have a carry into bit 8, 16 or 23 a few epochs on.
-const PERSISTED: [u64; 8] = [
+/// The persisted epochs: early and late ones, and such as have a carry into bit 8, 16, 24, 32 or 39 a few epochs on.
+const PERSISTED: [u64; 10] = [
     0,
     7,
     1_000,
     (1 << 8) - 6,
     (1 << 16) - 6,
-    (1 << 23) - 6,
+    (1 << 24) - 6,
+    (1 << 32) - 6,
+    (1 << 39) - 6,
     LAST_EPOCH - MOST_AHEAD,
     LAST_EPOCH - 1,
 ];
@@ -114,21 +116,28 @@ pub fn lend_buffer(random: &mut Random, state: &mut Lent, sizes: Sizes) {
         let valid_till = random.between(state.control().persisted + 1, epoch);
         let range = Range {
             address: random.below(sizes.lines),
-            valid_from: valid_till - 1,
             valid_till,
+            span: draw_proper_span(random, valid_till),
         };
         state.set_buffered(place, range);
     }
     if buffered > 0 && random.one_in(DISTURBED_ONE_IN) {
         let place = random.below(buffered) as usize;
         let range = state.buffered(place);
-        let valid_from = range.valid_till;
-        state.set_buffered(place, Range { valid_from, ..range });
+        let span = draw_improper_span(random, range.valid_till);
+        state.set_buffered(place, Range { span, ..range });
     }
     *state.filter_mut() = state.exact_filter();
     if random.one_in(DISTURBED_ONE_IN) {
         damage_filter(random, state);
     }
+}
+
+/// A span that is proper beside a ValidTill, often the shortest or the longest.
+pub fn draw_proper_span(random: &mut Random, valid_till: u64) -> u64 {
+    let longest = valid_till.min(MOST_AHEAD);
+    let any = random.between(1, longest);
+    random.pick(&[1, longest, any])
 }
 
 /// The slot under the scan's cursor, or any: not valid, with a tag that is too late, or with zero bits that are not zero.

@@ -1,8 +1,9 @@
 //! States in which the filter decides: a dirty line in its set, entries buffered for lines that have its bits or one of them,
 //! and a filter that has just their bits, or more, or less.
 
+use super::count::draw_proper_span;
 use crate::call::{Call, NO_CUT};
-use crate::differential::damage::damage_filter;
+use crate::differential::damage::{damage_filter, draw_improper_span};
 use crate::differential::habit::others_with;
 use crate::differential::passes::{draw_epoch_about_pass, draw_target, put_pass};
 use crate::differential::player::{Outcome, Player};
@@ -19,6 +20,18 @@ const MANY_LINES: (u64, u64) = (FILTER_BITS as u64 + 2, FILTER_BITS as u64 + 300
 
 /// Lines with the bits 0, 63, 64 and 4,095: four that have them as first ones, four as second ones.
 const CORNERS: [u64; 8] = [0, 63, 64, 4_095, 233, 2_597, 2_830, 4_338];
+
+/// The persisted epochs: early ones, such as go over the last that 24 and 32 bits can count, and the last.
+const PERSISTED: [u64; 8] = [
+    0,
+    5,
+    1_000,
+    (1 << 24) - 4,
+    (1 << 32) - 4,
+    LAST_EPOCH - MOST_AHEAD,
+    LAST_EPOCH - 2,
+    LAST_EPOCH - 1,
+];
 
 pub fn history(player: &mut Player) -> Outcome {
     let sizes = draw_sizes(&mut player.random);
@@ -70,7 +83,7 @@ fn lend_registers(random: &mut Random, state: &mut Lent, sizes: Sizes, slot: u64
     let room = sizes.entries - buffered;
     let some_of_room = random.below(room + 1);
     let control = Control {
-        persisted: random.pick(&[0, 5, 1_000, LAST_EPOCH - MOST_AHEAD, LAST_EPOCH - 2, LAST_EPOCH - 1]),
+        persisted: random.pick(&PERSISTED),
         start: random.below(sizes.entries) as usize,
         length: random.pick(&[0, room, some_of_room]) as usize,
     };
@@ -156,8 +169,8 @@ fn draw_range(random: &mut Random, address: u64, oldest: u64, epoch: u64) -> Ran
     let valid_till = random.between(oldest, epoch);
     Range {
         address,
-        valid_from: random.between(valid_till.saturating_sub(MOST_AHEAD), valid_till - 1),
         valid_till,
+        span: draw_proper_span(random, valid_till),
     }
 }
 
@@ -165,7 +178,7 @@ fn draw_range(random: &mut Random, address: u64, oldest: u64, epoch: u64) -> Ran
 fn improper(random: &mut Random, mut range: Range, lines: u64, epoch: u64) -> Range {
     match random.below(3) {
         0 => range.address = lines,
-        1 => range.valid_from = range.valid_till,
+        1 => range.span = draw_improper_span(random, range.valid_till),
         _ => range.valid_till = LAST_EPOCH.min(epoch + 1),
     }
     range

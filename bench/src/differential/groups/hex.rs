@@ -2,12 +2,12 @@
 //! of any length at any byte, answer arrays that are too short, just long enough, or longer.
 
 use crate::differential::asked::Asked;
-use crate::differential::damage::damage;
+use crate::differential::damage::{damage, draw_other_version};
 use crate::differential::habit::{go_on, start_mostly_small};
 use crate::differential::player::{Outcome, Player};
 use crate::differential::sides::Lent;
 use crate::handwritten::hex::{end_record, BANK_LINES, BANK_RECORDS, TEXT_BYTES};
-use crate::handwritten::layout::{Control, Shape, COUNT_BITS, LAST_EPOCH, MOST_ENTRIES, MOST_LINES};
+use crate::handwritten::layout::{Control, Shape, COUNT_BITS, LAST_EPOCH, MOST_ENTRIES, MOST_LINES, RING_BITS};
 use crate::interface::ANSWER_WORDS;
 use crate::random::Random;
 
@@ -190,7 +190,7 @@ fn make_wrong(random: &mut Random, state: &mut Lent) {
 fn make_control_wrong(random: &mut Random, state: &mut Lent) {
     let mut control = state.control();
     let entries = state.shape().entries;
-    let upper_bit = random.between(ABOVE_SMALL_ENTRIES, u64::from(COUNT_BITS) - 1);
+    let upper_bit = random.between(ABOVE_SMALL_ENTRIES, u64::from(RING_BITS) - 1);
     let (just_more, far_more) = (entries + random.below(2), entries | 1 << upper_bit);
     match random.below(4) {
         0 => control.persisted = LAST_EPOCH,
@@ -203,15 +203,18 @@ fn make_control_wrong(random: &mut Random, state: &mut Lent) {
 
 fn make_shape_wrong(random: &mut Random, state: &mut Lent) {
     let mut shape = state.shape();
-    let (first, last) = Shape::ZERO_BITS;
+    let last_bit = u64::from(COUNT_BITS) - 1;
     match random.below(7) {
         0 => shape.lines = random.near(shape.lines, 2),
         1 => shape.entries = random.near(shape.entries, 2),
-        2 => shape.lines |= 1 << random.between(first, last),
+        2 => {
+            let version = draw_other_version(random);
+            return state.set_version(version);
+        }
         3 => shape.lines = 0,
         4 => shape.entries = 0,
-        5 => shape.lines |= 1 << random.between(ABOVE_SMALL_LINES, first - 1),
-        _ => shape.entries |= 1 << random.between(ABOVE_SMALL_ENTRIES, first - 1),
+        5 => shape.lines |= 1 << random.between(ABOVE_SMALL_LINES, last_bit),
+        _ => shape.entries |= 1 << random.between(ABOVE_SMALL_ENTRIES, last_bit),
     }
     state.set_shape(shape);
     // The board has the words that go with them, most times where these are not too many.

@@ -1,4 +1,4 @@
-//! Histories whose epochs come to their end.
+//! Histories whose epochs come to their end, or go over the last that 24 or 32 bits can count.
 
 use crate::call::{Call, NO_CUT};
 use crate::differential::habit::{go_on, start, Habit};
@@ -9,8 +9,11 @@ use crate::sizes::Sizes;
 pub fn history(player: &mut Player) -> Outcome {
     let sizes = Sizes::draw_small(&mut player.random);
     start(player, sizes)?;
+    let last = player
+        .random
+        .pick(&[LAST_EPOCH, LAST_EPOCH, LAST_EPOCH, (1 << 24) - 1, (1 << 32) - 1]);
     let control = Control {
-        persisted: LAST_EPOCH - player.random.below(22),
+        persisted: last - player.random.below(22),
         start: player.random.below(sizes.entries) as usize,
         length: 0,
     };

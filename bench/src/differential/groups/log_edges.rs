@@ -1,6 +1,7 @@
 //! Logs whose entries stand at the edges: of being proper, of covering the persisted epoch, of being dropped.
 
 use crate::call::{Call, NO_CUT};
+use crate::differential::damage::draw_span;
 use crate::differential::habit::{go_on, Habit};
 use crate::differential::passes::put_pass;
 use crate::differential::player::{Outcome, Player};
@@ -30,7 +31,7 @@ pub fn history(player: &mut Player) -> Outcome {
 fn lend_log(player: &mut Player, sizes: Sizes) -> Control {
     let random = &mut player.random;
     // Around LAST_EPOCH - MOST_AHEAD, the bound of a ValidTill is just before the last epoch, in it and just after it.
-    let center = random.pick(&[0, 1, 50, LAST_EPOCH - MOST_AHEAD, LAST_EPOCH - 2]);
+    let center = random.pick(&[0, 1, 8, 50, 1 << 24, 1 << 32, LAST_EPOCH - MOST_AHEAD, LAST_EPOCH - 2]);
     let control = Control {
         persisted: random.near(center, 1),
         start: random.below(sizes.entries) as usize,
@@ -65,12 +66,14 @@ fn proper_log(random: &mut Random, sizes: Sizes, control: Control) -> Vec<Range>
             } else if random.one_in(4) {
                 valid_till = latest_till.min(valid_till + random.below(3));
             }
-            let newest_from = valid_till - 1;
-            let oldest_from = control.persisted.saturating_sub(2).min(newest_from);
+            // ValidFrom is from two epochs before P on, or as early as it may be.
+            let longest = valid_till.min(MOST_AHEAD);
+            let some = longest.min(valid_till - control.persisted.saturating_sub(2).min(valid_till - 1));
+            let any = random.between(1, some);
             Range {
                 address: random.below(sizes.lines),
-                valid_from: random.between(oldest_from, newest_from),
                 valid_till,
+                span: random.pick(&[any, any, any, longest]),
             }
         })
         .collect()
@@ -83,15 +86,15 @@ fn put_at_an_edge(random: &mut Random, sizes: Sizes, control: Control, log: &mut
         _ => log[place - 1].valid_till,
     };
     let range = &mut log[place];
-    match random.below(8) {
+    match random.below(9) {
         0 => range.address = sizes.lines,
-        1 => range.valid_from = range.valid_till,
-        2 => range.valid_till = control.persisted,
+        1 | 2 => range.span = draw_span(random, range.valid_till),
+        8 => range.valid_till = control.persisted,
         3 => range.valid_till = older_till.saturating_sub(1),
         4 => range.valid_till = older_till,
         5 => {
-            range.valid_from = control.persisted;
             range.valid_till = control.persisted + 1;
+            range.span = 1;
         }
         _ => range.valid_till = late_till(random, control, older_till),
     }

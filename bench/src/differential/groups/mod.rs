@@ -1,6 +1,7 @@
 //! The groups of inputs. Each is a function that plays one history.
 
 mod arrays;
+mod convert;
 mod count;
 mod damaged;
 mod filter;
@@ -28,15 +29,15 @@ pub struct Group {
     pub history: fn(&mut Player) -> Outcome,
 }
 
-pub const GROUPS: [Group; 14] = [
+pub const GROUPS: [Group; 15] = [
     Group {
         name: "histories",
-        share: 220,
+        share: 170,
         history: histories::history,
     },
     Group {
         name: "damaged",
-        share: 159,
+        share: 138,
         history: damaged::history,
     },
     Group {
@@ -85,6 +86,11 @@ pub const GROUPS: [Group; 14] = [
         history: hex::history,
     },
     Group {
+        name: "convert",
+        share: 70,
+        history: convert::history,
+    },
+    Group {
         name: "records",
         share: 20,
         history: records::history,
@@ -96,7 +102,7 @@ pub const GROUPS: [Group; 14] = [
     },
     Group {
         name: "large",
-        share: 1,
+        share: 2,
         history: large::history,
     },
 ];

@@ -1,7 +1,7 @@
 //! Passes over several epochs: states in which target and cursor decide, and whole passes on boards from their format on, whose every
 //! scan call is cut at every store first.
 
-use super::count::{lend_proper, make_a_slot_improper};
+use super::count::{draw_proper_span, lend_proper, make_a_slot_improper};
 use super::play_states;
 use crate::call::{Call, NO_CUT};
 use crate::differential::damage::damage_count;
@@ -64,8 +64,8 @@ fn lend_log(random: &mut Random, state: &mut Lent, sizes: Sizes) {
         let ring_place = (control.start + place) % sizes.entries as usize;
         let range = Range {
             address: random.below(sizes.lines),
-            valid_from: valid_till - 1,
             valid_till,
+            span: draw_proper_span(random, valid_till),
         };
         state.set_entry(ring_place, range);
     }

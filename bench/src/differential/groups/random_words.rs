@@ -1,7 +1,7 @@
 //! Memories and arguments that no history leads to.
 
 use crate::call::{Call, NO_CUT};
-use crate::differential::damage::{damage_count, damage_filter};
+use crate::differential::damage::{damage_count, damage_filter, draw_span};
 use crate::differential::passes::{damage_pass, draw_target, put_pass};
 use crate::differential::player::{Outcome, Player};
 use crate::differential::sides::Lent;
@@ -9,7 +9,7 @@ use crate::handwritten::layout::{
     entry_place, work_words, Control, Range, Shape, SlotWord, BUFFER_ENTRIES, COUNT_BITS, ENTRY_WORDS, LAST_EPOCH,
     MOST_AHEAD, MOST_ENTRIES, MOST_LINES, MOST_SLOTS, WAYS,
 };
-use crate::handwritten::Registers;
+use crate::handwritten::{old, Registers};
 use crate::interface::REGISTER_WORDS;
 use crate::random::Random;
 use crate::sizes::Sizes;
@@ -87,8 +87,8 @@ fn wild_work_words(random: &mut Random) -> usize {
     ])
 }
 
-/// A board with the most lines or entries is below.
-const MOST_FORMATTED: u64 = ENTRY_WORDS as u64 * MOST_ENTRIES + 20;
+/// A board with the most lines, or the most entries, and few of the others is below.
+const MOST_FORMATTED: u64 = MOST_LINES + 20;
 
 /// Sizes out of range, among them such as make the right number of words once it wraps round at 2^64.
 fn wild_format(player: &mut Player) -> Outcome {
@@ -96,16 +96,18 @@ fn wild_format(player: &mut Player) -> Outcome {
         let random = &mut player.random;
         let (past_field, past_word) = (1 << COUNT_BITS, 1 << (64 - COUNT_BITS));
         let edges = [0, 1, 2, 7, MOST_LINES, MOST_LINES + 1, past_field, past_word];
-        let (lines, entries) = match random.below(4) {
+        let ring_edges = [MOST_ENTRIES - 1, MOST_ENTRIES, MOST_ENTRIES + 1, MOST_ENTRIES + 2];
+        let (lines, entries) = match random.below(5) {
             0 => (random.pick(&edges), random.between(1, 4)),
             1 => (random.between(1, 4), random.pick(&edges)),
+            4 => (random.between(1, 4), random.pick(&ring_edges)),
             2 => (random.any_width(), random.any_width()),
             _ => (random.between(0, 6), random.between(0, 6) + (1 << 63)),
         };
         let fitting_words = Shape { lines, entries }.wrapping_board_words();
         let words = match fitting_words {
             0..100 => random.near(fitting_words, 1),
-            100..MOST_FORMATTED if random.one_in(20) => random.near(fitting_words, 1),
+            100..MOST_FORMATTED if random.one_in(4) => random.near(fitting_words, 1),
             _ => random.below(100),
         };
         player.state.board = vec![random.word(); words as usize];
@@ -114,13 +116,26 @@ fn wild_format(player: &mut Player) -> Outcome {
     Ok(())
 }
 
+/// The persisted epochs: early ones, those that 24 and 32 bits just can and cannot count, and the last.
+const PERSISTED: [u64; 9] = [
+    0,
+    1,
+    2,
+    5,
+    1000,
+    old::LAST_EPOCH,
+    1 << 32,
+    LAST_EPOCH - 1,
+    LAST_EPOCH - 3,
+];
+
 /// A board, a work memory and registers of right lengths and ranges, and each word behind them at the edges of proper.
 fn right_shape_wild_words(player: &mut Player) -> Outcome {
     let random = &mut player.random;
     let sizes = Sizes::draw_small(random);
     let Sizes { lines, entries, slots } = sizes;
     let control = Control {
-        persisted: random.pick(&[0, 1, 2, 5, 1000, LAST_EPOCH - 1, LAST_EPOCH - 3]),
+        persisted: random.pick(&PERSISTED),
         start: random.below(entries) as usize,
         length: random.between(0, entries) as usize,
     };
@@ -171,18 +186,19 @@ fn lend_wild_words(random: &mut Random, state: &mut Lent, sizes: Sizes) {
 
 /// Proper nearly always: one of many that is not makes a whole buffer or log improper.
 fn wild_range(random: &mut Random, lines: u64, persisted: u64, epoch: u64) -> Range {
-    let valid_from = random.near(persisted, 2) & LAST_EPOCH;
+    let valid_till = random.between(persisted.max(2) - 1, epoch).min(LAST_EPOCH);
+    let any_span = random.between(1, valid_till.min(MOST_AHEAD));
     let mut range = Range {
         address: random.below(lines),
-        valid_from,
-        valid_till: random
-            .between(valid_from + 1, epoch.max(valid_from + 1))
-            .min(LAST_EPOCH),
+        valid_till,
+        span: random.pick(&[any_span, 1, valid_till.min(MOST_AHEAD)]),
     };
     if random.one_in(60) {
-        range.address = random.near(lines, 1);
-        let edge = random.pick(&[valid_from, epoch]);
-        range.valid_till = random.near(edge, 1) & LAST_EPOCH;
+        match random.below(3) {
+            0 => range.address = random.near(lines, 1),
+            1 => range.valid_till = random.near(epoch, 1) & LAST_EPOCH,
+            _ => range.span = draw_span(random, valid_till),
+        }
     }
     range
 }

@@ -122,7 +122,7 @@ pub const REFUSED: [(&str, Turn); 10] = [
     ("logheld for a full log", |seen| {
         seen.is_held_by(|length, entries| length == entries)
     }),
-    ("logheld for a length whose low 16 bits are 0", |seen| {
+    ("logheld for the longest log", |seen| {
         seen.is_held_by(|length, _| length == MOST_ENTRIES)
     }),
     ("past by one, alone", |seen| {

@@ -127,15 +127,21 @@ const OF_THE_LAST_STEP: [(&str, Turn); 11] = [
 ];
 
 /// Epochs are compared whole: one is the earlier, although the low bits of it are the greater ones.
-const OVER_A_CARRY: [(&str, Turn); 12] = [
+const OVER_A_CARRY: [(&str, Turn); 20] = [
     ("writes a line out, a carry into bit 8 before the target", |seen| {
         seen.writes_out(|tag| is_carry_between::<8>(tag, seen.target))
     }),
     ("writes a line out, a carry into bit 16 before the target", |seen| {
         seen.writes_out(|tag| is_carry_between::<16>(tag, seen.target))
     }),
-    ("writes a line out, a carry into bit 23 before the target", |seen| {
-        seen.writes_out(|tag| is_carry_between::<23>(tag, seen.target))
+    ("writes a line out, a carry into bit 24 before the target", |seen| {
+        seen.writes_out(|tag| is_carry_between::<24>(tag, seen.target))
+    }),
+    ("writes a line out, a carry into bit 32 before the target", |seen| {
+        seen.writes_out(|tag| is_carry_between::<32>(tag, seen.target))
+    }),
+    ("writes a line out, a carry into bit 39 before the target", |seen| {
+        seen.writes_out(|tag| is_carry_between::<39>(tag, seen.target))
     }),
     ("leaves a line, a carry into bit 8 behind the target", |seen| {
         seen.leaves(|tag| is_carry_between::<8>(seen.target, tag))
@@ -143,8 +149,14 @@ const OVER_A_CARRY: [(&str, Turn); 12] = [
     ("leaves a line, a carry into bit 16 behind the target", |seen| {
         seen.leaves(|tag| is_carry_between::<16>(seen.target, tag))
     }),
-    ("leaves a line, a carry into bit 23 behind the target", |seen| {
-        seen.leaves(|tag| is_carry_between::<23>(seen.target, tag))
+    ("leaves a line, a carry into bit 24 behind the target", |seen| {
+        seen.leaves(|tag| is_carry_between::<24>(seen.target, tag))
+    }),
+    ("leaves a line, a carry into bit 32 behind the target", |seen| {
+        seen.leaves(|tag| is_carry_between::<32>(seen.target, tag))
+    }),
+    ("leaves a line, a carry into bit 39 behind the target", |seen| {
+        seen.leaves(|tag| is_carry_between::<39>(seen.target, tag))
     }),
     ("drops an entry, a carry into bit 8 before the target", |seen| {
         seen.drops(|till| is_carry_between::<8>(till, seen.target))
@@ -152,8 +164,14 @@ const OVER_A_CARRY: [(&str, Turn); 12] = [
     ("drops an entry, a carry into bit 16 before the target", |seen| {
         seen.drops(|till| is_carry_between::<16>(till, seen.target))
     }),
-    ("drops an entry, a carry into bit 23 before the target", |seen| {
-        seen.drops(|till| is_carry_between::<23>(till, seen.target))
+    ("drops an entry, a carry into bit 24 before the target", |seen| {
+        seen.drops(|till| is_carry_between::<24>(till, seen.target))
+    }),
+    ("drops an entry, a carry into bit 32 before the target", |seen| {
+        seen.drops(|till| is_carry_between::<32>(till, seen.target))
+    }),
+    ("drops an entry, a carry into bit 39 before the target", |seen| {
+        seen.drops(|till| is_carry_between::<39>(till, seen.target))
     }),
     ("keeps an entry, a carry into bit 8 behind the target", |seen| {
         seen.keeps(|till| is_carry_between::<8>(seen.target, till))
@@ -161,8 +179,14 @@ const OVER_A_CARRY: [(&str, Turn); 12] = [
     ("keeps an entry, a carry into bit 16 behind the target", |seen| {
         seen.keeps(|till| is_carry_between::<16>(seen.target, till))
     }),
-    ("keeps an entry, a carry into bit 23 behind the target", |seen| {
-        seen.keeps(|till| is_carry_between::<23>(seen.target, till))
+    ("keeps an entry, a carry into bit 24 behind the target", |seen| {
+        seen.keeps(|till| is_carry_between::<24>(seen.target, till))
+    }),
+    ("keeps an entry, a carry into bit 32 behind the target", |seen| {
+        seen.keeps(|till| is_carry_between::<32>(seen.target, till))
+    }),
+    ("keeps an entry, a carry into bit 39 behind the target", |seen| {
+        seen.keeps(|till| is_carry_between::<39>(seen.target, till))
     }),
 ];
 

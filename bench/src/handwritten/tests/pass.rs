@@ -285,7 +285,7 @@ fn fifteen_epochs_go_down_in_one_pass() {
 #[test]
 fn a_pass_goes_over_a_carry() {
     // The tags go from two below the target to one above it. Of all of them the target has the smallest low bits.
-    for target in [1 << 8, 1 << 16, 1 << 23] {
+    for target in [1 << 8, 1 << 16, 1 << 24, 1 << 32, 1 << 39] {
         let mut loom = four_epochs_behind(target - 3);
         assert_eq!(loom.begin(target), answer(0, 0, 0));
         assert_eq!(loom.visits(4), [10, 1, 1, 0], "{target}");

@@ -99,13 +99,18 @@ fn a_log_that_is_not_empty_is_held() {
     }
 }
 
-/// The length's low 16 bits are 0.
+/// The length has every bit of its field, or the highest alone.
 #[test]
-fn a_full_log_of_65536_entries_is_held() {
-    let mut loom = Loom::new(2, 65_536, 4);
+fn a_log_of_4095_entries_is_held() {
+    let mut loom = Loom::new(2, 4_095, 4);
     assert_eq!(number(&loom.board, 44, 3), 17);
-    loom.board[CONTROL_PLACE] = 65_536;
-    assert_eq!(number(&loom.board, 44, 1), 18);
+    for length in [2_048, 4_095] {
+        loom.board[CONTROL_PLACE] = length;
+        assert_eq!(number(&loom.board, 44, 1), 18);
+    }
+    // The start's highest bit is just above.
+    loom.board[CONTROL_PLACE] = 2_048 << 12;
+    assert_eq!(records(&loom.board).len(), 3);
 }
 
 #[test]
@@ -131,12 +136,14 @@ fn a_board_that_is_none() {
         board_with_shape(shape_word(0, 5), words - 2),
         board_with_shape(shape_word(2, 0), 4),
         board_with_shape(shape_word(65_537, 1), 4 + 65_537),
-        board_with_shape(shape_word(1, 65_537), 3 + 2 * 65_537),
+        board_with_shape(shape_word(1, 4_096), 3 + 2 * 4_096),
+        board_with_shape(shape_word(1, 65_536), 3 + 2 * 65_536),
         board_under(LAST_EPOCH, 0, 0),
         board_under(0, 5, 0),
         board_under(0, 0, 6),
     ];
-    none.extend((40..64).map(|bit| board_with_shape(shape_word(2, 5) | 1 << bit, words)));
+    // The version is 1: no other, and not 0, as it was.
+    none.extend((40..64).map(|bit| board_with_shape(shape_word(2, 5) ^ 1 << bit, words)));
     for board in none {
         for record in 0..4 {
             assert_eq!(number(&board, 44, record), 1);

@@ -6,8 +6,8 @@ use crate::call::Call;
 use crate::handwritten::layout::{buffer_place, filter_place, SlotWord, CONTROL_PLACE};
 use crate::handwritten::Registers;
 
-/// What no epoch is, whatever its lower bits are.
-const UPPER_BITS: [u64; 4] = [1 << 24, 1 << 32, 1 << 63, u64::MAX << 24];
+/// Bits of no epoch that waits here, and from 40 on of no epoch at all.
+const UPPER_BITS: [u64; 6] = [1 << 24, 1 << 32, 1 << 39, 1 << 40, 1 << 63, u64::MAX << 40];
 
 /// Epoch P is persisted and epoch s runs; nothing is stored.
 fn with_epochs(persisted: u64, epoch: u64) -> Loom {

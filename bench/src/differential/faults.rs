@@ -1,14 +1,19 @@
 //! Why a board is none: each reason of refusal 1.
 
-use crate::differential::sides::Lent;
-use crate::handwritten::layout::{Shape, COUNT_BITS, LAST_EPOCH, MOST_ENTRIES, MOST_LINES};
+use super::sides::Lent;
+use crate::handwritten::layout::{ones, Shape, COUNT_BITS, LAST_EPOCH, MOST_ENTRIES, MOST_LINES};
 
-type Fault = fn(&Lent) -> bool;
+pub type Fault = fn(&Lent) -> bool;
 
-pub const FAULTS: [(&str, Fault); 12] = [
+pub const OLD_VERSION: Fault = |lent| lent.has_head() && lent.version() == 0;
+pub const ANOTHER_VERSION: Fault = |lent| lent.has_head() && ![0, Shape::VERSION].contains(&lent.version());
+pub const LAST_EPOCH_PERSISTED: Fault = |lent| lent.has_head() && lent.control().persisted == LAST_EPOCH;
+
+pub const FAULTS: [(&str, Fault); 13] = [
     ("no word", |lent| lent.board.is_empty()),
     ("one word", |lent| lent.board.len() == 1),
-    ("bits before N", |lent| lent.has_head() && lent.shape() != shape(lent)),
+    ("the old version", OLD_VERSION),
+    ("another version", ANOTHER_VERSION),
     ("no line", |lent| lent.has_head() && shape(lent).lines == 0),
     ("too many lines", |lent| {
         lent.has_head() && shape(lent).lines > MOST_LINES
@@ -23,9 +28,7 @@ pub const FAULTS: [(&str, Fault); 12] = [
     ("words too many", |lent| {
         lent.has_head() && lent.board.len() > shape(lent).board_words()
     }),
-    ("the last epoch", |lent| {
-        lent.has_head() && lent.control().persisted == LAST_EPOCH
-    }),
+    ("the last epoch", LAST_EPOCH_PERSISTED),
     // Where there is no entry, no start is right.
     ("a log's start", |lent| {
         lent.has_head() && (1..=start(lent)).contains(&shape(lent).entries)
@@ -35,11 +38,11 @@ pub const FAULTS: [(&str, Fault); 12] = [
     }),
 ];
 
-/// N and L alone, without the bits before them.
+/// N and L alone, whatever the version.
 fn shape(lent: &Lent) -> Shape {
     let Shape { lines, entries } = lent.shape();
     Shape {
-        lines: lines & ((1 << COUNT_BITS) - 1),
+        lines: lines & ones(COUNT_BITS),
         entries,
     }
 }
