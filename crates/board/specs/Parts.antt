@@ -14,6 +14,11 @@ unfolding shifted
 length-shifted a [] = refl
 length-shifted a (s ∷ ss) = ap suc (length-shifted a ss)
 
+pub shifted-append : (a : ℕ) (xs ys : List Store) → shifted a (xs ++ ys) ≡ shifted a xs ++ shifted a ys
+unfolding shifted
+shifted-append a [] ys = refl
+shifted-append a (x ∷ xs) ys = rw (shifted-append a xs ys)
+
 take-shifted : (k a : ℕ) (ss : List Store) → take k (shifted a ss) ≡ shifted a (take k ss)
 unfolding shifted
 take-shifted zero a ss = refl

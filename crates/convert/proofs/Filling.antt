@@ -12,7 +12,7 @@ use lib.Seq.{length-take-le, take-at, drop-at}
 use Rattle.base.specs.Parts.{rest-lent, rest-back}
 use Rattle.board.specs.Stores.{Store, one, applied, each, shifted}
 use Rattle.board.specs.Laws.{length-applied, applied-append}
-use Rattle.board.specs.Parts.{applied-shifted}
+use Rattle.board.specs.Parts.{shifted-append, applied-shifted}
 use Rattle.ranges.specs.Ranges.{covers}
 use Rattle.layout.specs.declared.Control.{Control}
 use Rattle.layout.specs.Memory.{logAt, linesAt, boardWords, shapeFor}
@@ -85,11 +85,6 @@ module _ (old before : List ℕ) (u : LogState) where
         rw all at (s .so-far)
 
 -- the same stores to the lines by themselves, and to the lines of a board
-shifted-append : (a : ℕ) (xs ys : List Store) → shifted a (xs ++ ys) ≡ shifted a xs ++ shifted a ys
-unfolding shifted
-shifted-append a [] ys = refl
-shifted-append a (x ∷ xs) ys = rw (shifted-append a xs ys)
-
 module _ (log : Log) (a : ℕ) where
   stores-shifted : (i : ℕ) → restoreStores log a i ≡ shifted a (restoreStores log 0 i)
   unfolding restoreStores shifted

@@ -9,6 +9,7 @@ use lib.ListN.{length, getD, set, take, length-set, length-append}
 use lib.Seq.{getD-set-same, getD-set-other, take-append-le}
 use Rattle.board.specs.Stores.{Store, one, applied, each, shifted}
 use Rattle.board.specs.Laws.{applied-append, length-applied}
+use Rattle.board.specs.Parts.{shifted-append}
 use Rattle.layout.specs.Memory.{controlAt, logAt, linesAt}
 use Rattle.layout.specs.Words.{encodeControl, decodeEntry}
 use Rattle.undo.specs.declared.LogState.{LogState}
@@ -18,7 +19,6 @@ use Rattle.base.specs.Every.{Every, every-append, every-take}
 use Rattle.history.specs.Machine.{Entry, Durable, Volatile, flushed}
 use Rattle.base.specs.Cases.{below-or-not}
 use Rattle.base.specs.Listed.{listed, listed-same, listed-append}
-use Rattle.durable.specs.Stores.{shifted-append}
 use Rattle.durable.specs.View.{undoWith, entryOf, entryAt, entryWith, logOf, bufferedAt, bufferOf, Reads}
 use Rattle.durable.specs.Log.{WordOf, Free, word-before, words-apart, entry-same}
 use Rattle.durable.specs.Reads.{reads-bounded, reads-as, reads-with, reads-log}

@@ -1,11 +1,11 @@
--- Lists of stores: what they leave alone, and those that are made of other lists. Assumes nothing.
+-- Lists of stores: what they leave alone, and those that are made of entries. Assumes nothing.
 use Prim.Native.Nat.{ℕ, zero, suc}
 use mathlib.Core.Path.{_≡_, refl, _∙_}
 use mathlib.Core.Logic.{_≢_}
-use mathlib.Core.List.{List, [], _∷_, _++_, map}
+use mathlib.Core.List.{List, [], _∷_, map}
 use lib.ListN.{getD, set, take}
 use lib.Seq.{getD-set-other}
-use Rattle.board.specs.Stores.{Store, applied, shifted}
+use Rattle.board.specs.Stores.{Store, applied}
 use Rattle.base.specs.Every.{Every}
 
 -- a word that no store goes to stays
@@ -15,11 +15,6 @@ unfolding applied
 applied-away [] memory p away = refl
 applied-away (s ∷ ss) memory p away =
     applied-away ss (set memory (s .at) (s .word)) p (away .1) ∙ getD-set-other memory (s .at) p (s .word) 0 (away .0)
-
-pub shifted-append : (a : ℕ) (xs ys : List Store) → shifted a (xs ++ ys) ≡ shifted a xs ++ shifted a ys
-unfolding shifted
-shifted-append a [] ys = refl
-shifted-append a (x ∷ xs) ys = rw (shifted-append a xs ys)
 
 pub take-map : {A B : Type 0} (f : A → B) (k : ℕ) (xs : List A) → take k (map f xs) ≡ map f (take k xs)
 take-map f zero xs = refl
