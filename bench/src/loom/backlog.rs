@@ -1,7 +1,7 @@
 //! As many epochs of the loom's work as may wait and the log has room for, persisted one by one, each by a pass of its own, and all of
 //! them in one pass: what either takes, from the same state.
 
-use super::controller::{Controller, Figures, Plan, EPOCHS_BEFORE, SEED};
+use super::controller::{Controller, Figures, Plan, SEED};
 use crate::call::Call;
 use crate::handwritten::layout::{MOST_LINES, MOST_WAITING};
 use crate::interface::OK;
@@ -60,11 +60,7 @@ fn with_backlog(plan: Plan) -> Result<Controller, String> {
     let random = &mut Random::new(SEED);
     let lines = plan.order.lines(random, MOST_LINES);
     let work = plan.work(&lines);
-    let mut controller = Controller::start(plan)?;
-    for _ in 0..EPOCHS_BEFORE {
-        controller.epoch(&work.epoch(random))?;
-    }
-    controller.figures = Figures::default();
+    let mut controller = Controller::in_midst(plan, work, random)?;
     while controller.waiting() < MOST_WAITING {
         let mut with_one_more = controller.clone();
         with_one_more.epoch(&work.without_scans().epoch(random))?;

@@ -13,7 +13,7 @@ use crate::write_out::WriteOut;
 pub const SEED: u64 = 2_600_400;
 
 /// Epochs before anything is counted, so that cache and log are as in the midst of work.
-pub const EPOCHS_BEFORE: usize = 5;
+const EPOCHS_BEFORE: usize = 5;
 pub const EPOCHS_COUNTED: usize = 100;
 
 #[derive(Clone, Copy, Debug)]
@@ -79,11 +79,8 @@ pub fn work_through(plan: Plan) -> Result<Figures, String> {
     let random = &mut Random::new(SEED);
     let lines = plan.order.lines(random, MOST_LINES);
     let work = plan.work(&lines);
-    let mut controller = Controller::start(plan)?;
-    for epoch in 0..EPOCHS_BEFORE + EPOCHS_COUNTED {
-        if epoch == EPOCHS_BEFORE {
-            controller.figures = Figures::default();
-        }
+    let mut controller = Controller::in_midst(plan, work, random)?;
+    for _ in 0..EPOCHS_COUNTED {
         controller.epoch(&work.epoch(random))?;
     }
     Ok(controller.figures)
@@ -107,6 +104,16 @@ impl Controller {
         };
         controller.make(sizes.format())?;
         controller.counted(Call::POWER_UP)?;
+        Ok(controller)
+    }
+
+    /// In the midst of the plan's work, with nothing counted yet.
+    pub fn in_midst(plan: Plan, work: Work, random: &mut Random) -> Result<Self, String> {
+        let mut controller = Controller::start(plan)?;
+        for _ in 0..EPOCHS_BEFORE {
+            controller.epoch(&work.epoch(random))?;
+        }
+        controller.figures = Figures::default();
         Ok(controller)
     }
 

@@ -1,7 +1,7 @@
 //! How many epochs in a row a controller may be too busy to scan, with a log that has as many entries as a board can have: none of its
 //! stores is refused for room then, during these epochs and while it catches up. And what the next epoch without scan calls costs.
 
-use super::controller::{Controller, Figures, Plan, EPOCHS_BEFORE, SEED};
+use super::controller::{Controller, Figures, Plan, SEED};
 use crate::handwritten::layout::{MOST_LINES, MOST_WAITING};
 use crate::random::Random;
 
@@ -41,11 +41,7 @@ fn work_through_pause(plan: Plan, pause: u64) -> Result<Figures, String> {
     let random = &mut Random::new(SEED);
     let lines = plan.order.lines(random, MOST_LINES);
     let work = plan.work(&lines);
-    let mut controller = Controller::start(plan)?;
-    for _ in 0..EPOCHS_BEFORE {
-        controller.epoch(&work.epoch(random))?;
-    }
-    controller.figures = Figures::default();
+    let mut controller = Controller::in_midst(plan, work, random)?;
     for _ in 0..pause {
         controller.epoch(&work.without_scans().epoch(random))?;
     }
