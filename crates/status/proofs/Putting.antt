@@ -32,12 +32,8 @@ module _ (n : ℕ) (s : Span) (p : Spans n s) where
     part_is : take (s.end - s.start) (drop s.start all) ≡ name_of n
     part_is = rw same p.is
 
-    pub put_made : (text' : List ℕ) (r : ℕ) → s.end - s.start ≤ length text
-        → r ≡ length (take (s.end - s.start) (drop s.start all))
-        → text' ≡ take (length (take (s.end - s.start) (drop s.start all))) (take (s.end - s.start) (drop s.start all))
-        ++ drop (length (take (s.end - s.start) (drop s.start all))) text
-        → PutsName n text text' r
-    put_made text' r h e f =
-        let put : text' ≡ name_of n ++ drop (length (name_of n)) text
-        = rw part_is at f ∙ ap (λ (l : List ℕ). l ++ drop (length (name_of n)) text) (take-length (name_of n)) in
-        record { letters = rw part_is at e; short = rw (e, part_is) (name_short n); left = put ∙ sym (with_name_holds (name_of n) text (omega (arith, h, span_length))) }
+    pub put_made : (part : List ℕ) → s.end - s.start ≤ length text → part ≡ take (s.end - s.start) (drop s.start all)
+        → PutsName n text (part ++ drop (s.end - s.start) text) (s.end - s.start)
+    put_made part h e =
+        let put : part ++ drop (s.end - s.start) text ≡ name_of n ++ drop (length (name_of n)) text = rw (e, part_is, span_length) in
+        record { letters = sym span_length; short = span_short; left = put ∙ sym (with_name_holds (name_of n) text (omega (arith, h, span_length))) }

@@ -57,5 +57,6 @@ pub fn put_name(text: &mut [u8], number: u64) -> usize
         return count;
     }
     let letters = letters();
-    bytes::copy(&letters[start..end], text)
+    text[..count].copy_from_slice(&letters[start..end]);
+    count
 }
