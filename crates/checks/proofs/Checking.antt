@@ -82,8 +82,11 @@ module _ (board work : List ℕ) (v : View) (s : Shaped board work v) (u : LogSt
   entries_words = rw same (omega (arith, s.good.board_words_holds))
 
   module _ (found : ℕ) (first : found ≡ first_improper (log_in board u) v.shape.lines) where
+    found_is : found ≡ first_improper (log_in board (undo_of v all_zero)) v.shape.lines
+    found_is = rw same at first
+
     pub entries_refused : found < v.control.length → Refused status.Entry found ≡ tested (entry_rows board v) v
-    entries_refused h = rw (← same, ← first, lt-ltb found v.control.length h)
+    entries_refused h = rw (← found_is, lt-ltb found v.control.length h)
 
     pub entries_passed : v.control.length ≤ found → Passed v ≡ tested (entry_rows board v) v
-    entries_passed h = rw (← same, ← first, le-ltb found v.control.length h)
+    entries_passed h = rw (← found_is, le-ltb found v.control.length h)

@@ -1,0 +1,5 @@
+use Rattle.checks.proofs.Testing.{read_view}
+use Rattle.checks.proofs.View.read.Goals as goal
+
+pub returns : goal.returns
+returns c = search (read_view)
