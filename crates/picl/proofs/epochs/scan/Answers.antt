@@ -1,0 +1,12 @@
+use Rattle.checks.specs.Laws.{then_refused}
+use Rattle.checks.specs.Refusals.{scan_checked}
+use Rattle.checks.specs.Stages.{told_refused, told_passed}
+use Rattle.picl.proofs.Calling.{judged_refused}
+use Rattle.picl.proofs.epochs.scan.Goals as goal
+
+pub scan_running-requires : goal.scan_running-requires
+scan_running-requires c = search (told_passed)
+
+pub returns-in-Refused : goal.returns-in-Refused
+unfolding scan_checked
+returns-in-Refused c = search (judged_refused, then_refused, told_refused)

@@ -1,0 +1,12 @@
+use Rattle.checks.specs.Laws.{then_refused}
+use Rattle.checks.specs.Refusals.{line_checked}
+use Rattle.checks.specs.Stages.{told_refused, told_passed}
+use Rattle.picl.proofs.Calling.{judged_refused}
+use Rattle.picl.proofs.evictions.evict.Goals as goal
+
+pub evict_named-requires : goal.evict_named-requires
+evict_named-requires c = search (told_passed)
+
+pub returns-in-Refused : goal.returns-in-Refused
+unfolding line_checked
+returns-in-Refused c = search (judged_refused, then_refused, told_refused)

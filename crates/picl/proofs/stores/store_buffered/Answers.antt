@@ -1,0 +1,18 @@
+use Rattle.checks.specs.Stages.{told_refused, line_ready, line_below, room_staged, room_passed}
+use Rattle.picl.proofs.Calling.{judged_refused, judged_passed, store_told}
+use Rattle.picl.proofs.stores.store_buffered.Goals as goal
+
+pub check_room-checked-requires : goal.check_room-checked-requires
+check_room-checked-requires c = record {
+  rows_ready = search (line_ready);
+  slot_lt_slots = search (line_below);
+}
+
+pub store_passed-requires : goal.store_passed-requires
+store_passed-requires c = search (store_told, room_passed)
+
+pub returns-in-Refused : goal.returns-in-Refused
+returns-in-Refused c = search (judged_refused, told_refused, room_staged)
+
+pub returns-in-Passed : goal.returns-in-Passed
+returns-in-Passed c = search (judged_passed, room_passed)
