@@ -27,5 +27,5 @@ pub fn put_record(place: &mut [u8], made: Written)
         return;
     }
     let record = made.bytes;
-    bytes::copy(&record, place);
+    place[..record.len()].copy_from_slice(&record);
 }

@@ -180,7 +180,7 @@ module _ (text : List ℕ) (long : length text ≡ text_bytes address_bytes) whe
           let v : values ≡ map meant dx = reads.values (sym reads.all ∙ not-false t fits) ∙ ap (map meant) behind_type in
           b.bytes
           ∙ rw v (ap paired (last_digits dx dx_digits)
-          ∙ rw map-append (paired_append (map meant (data_part address_bytes text)) (map meant (last_part address_bytes text)) address_bytes
+          ∙ rw (map-append meant) (paired_append (map meant (data_part address_bytes text)) (map meant (last_part address_bytes text)) address_bytes
           (length-map (data_part address_bytes text) meant ∙ data_many text address_bytes many)))
 
       total_is : total ≡ sum_of (content_read address_bytes bank_type text) % 2 ^ byte_bits

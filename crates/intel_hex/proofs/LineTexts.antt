@@ -184,7 +184,7 @@ module _ (text : List ℕ) (h : has_lines (length text) ≡ true) where
       values_are =
           v
           ∙ ap (map meant) (g ∙ gathered_is)
-          ∙ rw (map-append, ← append_assoc (address_part text) (last_part count text) (zeros 10), map-append)
+          ∙ rw (map-append meant, ← append_assoc (address_part text) (last_part count text) (zeros 10), map-append meant)
 
       in_front_many : length (map meant front) ≡ 2 * line_digits
       in_front_many = length-map front meant ∙ front_many
@@ -196,7 +196,7 @@ module _ (text : List ℕ) (h : has_lines (length text) ≡ true) where
             b.bytes
             ∙ rw (values_are, take_at (map meant front) (map meant (address_part text ++ last_part count text) ++ map meant (zeros 10)) (2 * line_digits) in_front_many)
             (ap paired (last_digits front (front_digits))
-            ∙ rw map-append (paired_append (map meant (data_part count text)) (map meant fill) count (length-map (data_part count text) meant ∙ data_many text count many)))
+            ∙ rw (map-append meant) (paired_append (map meant (data_part count text)) (map meant fill) count (length-map (data_part count text) meant ∙ data_many text count many)))
           where
             front_digits : all_digits (data_part count text ++ fill) ≡ true
             front_digits = all_append (data_part count text) fill ∙ and_left in_front in_place both
@@ -218,7 +218,7 @@ module _ (text : List ℕ) (h : has_lines (length text) ≡ true) where
             b.bytes
             ∙ rw (values_are, drop_at (map meant front) (map meant ax ++ map meant (zeros 10)) (2 * line_digits) in_front_many, take_at (map meant ax) (map meant (zeros 10)) 6 long)
             (ap paired (last_digits ax ax_digits)
-            ∙ rw map-append (paired_append (map meant (address_part text)) (map meant (last_part count text)) address_bytes (length-map (address_part text) meant ∙ address_many text count many)))
+            ∙ rw (map-append meant) (paired_append (map meant (address_part text)) (map meant (last_part count text)) address_bytes (length-map (address_part text) meant ∙ address_many text count many)))
 
         pub place_total : place_sum ≡ (sum_of a + sum_of x) % 2 ^ byte_bits
         place_total = b.total ∙ rw (place_is, sum_append)

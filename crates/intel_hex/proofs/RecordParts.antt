@@ -26,19 +26,14 @@ sets_front : (written text : List ℕ) → length written ≤ length text → se
 sets_front written text h = let z : 0 + length written ≡ length written = omega arith in rw z at (sets-eq written text 0 (omega (arith, h)))
 
 -- all of a list, copied
-pub copied : (from text text' written : List ℕ) (r : ℕ) → from ≡ written → r ≡ length from → text' ≡ take (length from) from ++ drop (length from) text
+pub copied : (from text text' written : List ℕ) (r : ℕ) → from ≡ written → r ≡ length written → text' ≡ from ++ drop (length from) text
     → Puts written text text' r
-copied from text text' written r same many left =
-    record {
-      many = rw same at many;
-      left = rw same at left ∙ ap (λ (l : List ℕ). l ++ drop (length written) text) (take-length written);
-    }
+copied from text text' written r same many left = record { many = many; left = rw same at left }
 
 -- the same of a word's bytes
-pub word_copied : (from into into' : List ℕ) (word : ℕ) → from ≡ bytes_of word → into' ≡ take (length from) from ++ drop (length from) into
+pub word_copied : (from into into' : List ℕ) (word : ℕ) → from ≡ bytes_of word → into' ≡ from ++ drop (length from) into
     → into' ≡ bytes_of word ++ drop bytes_of_word into
-word_copied from into into' word same left =
-    rw same at left ∙ ap (λ (l : List ℕ). l ++ drop (length (bytes_of word)) into) (take-length (bytes_of word)) ∙ rw (word_many word)
+word_copied from into into' word same left = rw same at left ∙ rw (word_many word)
 
 -- ── what stands before the data ──
 

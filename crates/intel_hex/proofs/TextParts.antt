@@ -182,11 +182,11 @@ module _ (text : List ℕ) (count : ℕ) (many : length text ≡ bare_text + byt
       text_folded =
           ap (map capital) parts_framed
           ∙ rw (
-            map-append,
-            map-append,
-            map-append,
-            map-append,
-            map-append,
+            map-append capital,
+            map-append capital,
+            map-append capital,
+            map-append capital,
+            map-append capital,
             capital_digits (count ∷ []) (one_byte count p.count_byte),
             capital_digits (kind ∷ []) (one_byte kind p.kind_byte),
             digits_back (address_part text) address_bytes address_many p.address,
@@ -274,7 +274,7 @@ module _ (text : List ℕ) (count : ℕ) (many : length text ≡ bare_text + byt
         ++ (map capital (data_part count text) ++ (map capital (last_part count text) ++ (capital (get_or text last 0) ∷ []))))))
         ≡ colon_mark ∷ (digits_of (count ∷ []) ++ (digits_of address ++ (digits_of (kind ∷ []) ++ (digits_of held ++ (digits_of rest ++ (line_feed ∷ []))))))
     both_texts =
-        sym (ap (map capital) parts ∙ rw (map-append, map-append, map-append, map-append, map-append))
+        sym (ap (map capital) parts ∙ rw (map-append capital, map-append capital, map-append capital, map-append capital, map-append capital))
         ∙ r.text_is
         ∙ ap text_of content_parts
         ∙ content_digits count kind address held rest

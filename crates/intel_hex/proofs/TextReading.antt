@@ -96,13 +96,12 @@ module _ (text : List ℕ) (r : Bool) where
 -- ── the digits of lines, gathered ──
 
 pub with_done : (digits more part : List ℕ) (at n : ℕ) → length digits ≡ all_read → n ≡ length more → at + length more ≤ all_read
-    → part ≡ take n more ++ drop n (take (all_read - at) (drop at digits))
+    → part ≡ more ++ drop n (take (all_read - at) (drop at digits))
     → take at digits ++ (part ++ drop (all_read - at) (drop at digits)) ≡ sets digits at more
 with_done digits more part at n all m fits e =
     let lent : take (all_read - at) (drop at digits) ≡ drop at digits = rw (← all) (rest_lent at digits) in
     let past : drop n (drop at digits) ≡ drop (at + length more) digits = drop-drop n at digits ∙ ap (λ (k : ℕ). drop (at + k) digits) m in
-    let whole : take n more ≡ more = ap (λ (k : ℕ). take k more) m ∙ take-length more in
-    let is : part ≡ more ++ drop (at + length more) digits = e ∙ rw (lent, whole, past) in
+    let is : part ≡ more ++ drop (at + length more) digits = e ∙ rw (lent, past) in
     let back : part ++ drop (all_read - at) (drop at digits) ≡ part = rw (← all) (rest_back at digits part) in
     ap (λ (p : List ℕ). take at digits ++ p) (back ∙ is)
     ∙ sym (sets-eq more digits at (omega (arith, all, fits)) ∙ append_assoc (take at digits) more (drop (at + length more) digits))

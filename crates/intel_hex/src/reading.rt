@@ -82,7 +82,7 @@ fn with_digits(digits: [u8; ALL_DIGITS], at: usize, more: &[u8]) -> [u8; ALL_DIG
     ensures { result ≡ sets digits at more.now }
 {
     let mut all = digits;
-    bytes::copy(more, &mut all[at..]);
+    record::copy(more, &mut all[at..]);
     all
 }
 

@@ -63,7 +63,7 @@ fn put_word(into: &mut [u8], word: u64)
     ensures { into.new ≡ bytes_of word ++ drop bytes_of_word into.old }
 {
     let word = layout::bytes_of(word);
-    bytes::copy(&word, into);
+    record::copy(&word, into);
 }
 
 // Gathers the bytes of a line, and of the next one where there is one. Answers how many they are.
@@ -108,5 +108,6 @@ pub fn put_end(text: &mut [u8]) -> usize
     ensures { Puts end_text text.old text.new result }
 {
     let end = record::end_text();
-    bytes::copy(&end, text)
+    record::copy(&end, text);
+    end.len()
 }
