@@ -3,7 +3,7 @@
 -- writes (`never_written`).
 use Rattle.std.specs.Prelude.{ℕ, zero, suc, ◌+◌, ◌^◌, ◌<◌, ◌≤◌, Bool, ◌&&◌, List, [], ◌∷◌, ◌++◌, leb, take, drop}
 use Rattle.std.proofs.Math.Path.{◌≡◌, refl, sym}
-use Rattle.std.proofs.Common.{ap, ap₂, ◌∙◌, arith, zero-add, suc-add, length-append, length-take, length-drop, drop_of_length-le, take-add, take_all, take-take, length-take-le}
+use Rattle.std.proofs.Common.{ap, ap₂, ◌∙◌, arith, zero-add, suc-add, length-append, length-drop, drop_of_length-le, take-add, take_all, take-take, length-take-le}
 use Rattle.std.proofs.Math.Bool.{true, false, cond}
 use borrow.Author.Tests.{leb-true, ltb-true, ltb-false, eqb-true, le-ltb, lt-ltb, lt-leb, ne_eqb}
 use Rattle.std.proofs.Math.Dec.{ltb, eqb}
