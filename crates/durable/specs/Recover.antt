@@ -18,7 +18,8 @@ use Rattle.undo.specs.Recovery.{Log, restore_stores, restore_turn, restore_all}
 use Rattle.undo.specs.Log.{log_in, emptied, recover_stores}
 use Rattle.base.specs.Every.{Every, every_map, every_take}
 use Rattle.history.specs.Machine.{Entry, Durable, cleared}
-use Rattle.history.specs.Restore.{due, patched, patched_by, restored_all, restored_part, due_every}
+use Rattle.history.specs.Restore.{due, patched, patched_by, restored_all, restored_part}
+use Rattle.history.proofs.Restore.{due_every}
 use Rattle.base.specs.Listed.{listed, listed_every}
 use Rattle.durable.specs.Stores.{take_map}
 use Rattle.durable.specs.View.{range_if, entry_of, entries_of, Reads}
