@@ -12,7 +12,8 @@ use Rattle.board.specs.Stores.{applied}
 use Rattle.undo.specs.Laws.{proper_named}
 use Rattle.undo.specs.Recovery.{Log, proper_at, restore_all}
 use Rattle.history.specs.Machine.{Entry, recall}
-use Rattle.history.specs.Restore.{due, patched, patched_due, due_every}
+use Rattle.history.specs.Restore.{due, patched}
+use Rattle.history.proofs.Restore.{patched_due, due_every}
 use Rattle.durable.specs.View.{entry_of, entries_of}
 use Rattle.durable.specs.Recover.{line_store, restore_all_due}
 

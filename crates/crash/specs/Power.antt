@@ -32,7 +32,7 @@ use Rattle.picl.specs.Answers.{Outcome, Verdict, answer_of}
 use Rattle.picl.specs.Calls.{judged, power_up_outcome, power_up_verdict}
 use Rattle.history.specs.Machine.{Durable}
 use Rattle.reference.specs.Machine.{Reference, restarts, does}
-use Rattle.history.specs.Restore.{power_up_lines}
+use Rattle.history.proofs.Restore.{power_up_lines}
 use Rattle.bounds.specs.Costs.{recover_most}
 use Rattle.durable.specs.Proper.{reads_passes, reads_proper}
 use Rattle.durable.specs.View.{Sized, undo_with}

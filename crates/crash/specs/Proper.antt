@@ -25,7 +25,7 @@ use Rattle.checks.specs.Refusals.{Row, then, line_rows, room_rows, memories_chec
 use Rattle.checks.specs.Registers.{committed, begun}
 use Rattle.checks.specs.View.{view_of, bounds_of, good_shape, good_slots, good_work, proper_epoch, proper_counts, proper_pass, proper_registers, waits, miscounted, good_buffer, good_filter}
 use Rattle.reference.specs.Machine.{Reference}
-use Rattle.history.specs.Lines.{entries_proper}
+use Rattle.history.proofs.Lines.{entries_proper}
 use Rattle.volatile.specs.Buffer.{entries_buffer_proper}
 use Rattle.volatile.specs.Dirty.{dirty_most, none_dirty, all_dirty}
 use Rattle.volatile.specs.Filter.{Exact, exact_marked}

@@ -1,3 +1,2 @@
 // Demand 3: every list of calls and every cut. The statement is specs/Statement.antt, the theorem specs/Theorem.antt.
 #![tactic(auto)]
-

@@ -10,7 +10,7 @@ use Rattle.undo.specs.declared.LogState.{LogState}
 use Rattle.undo.specs.Log as undo
 use Rattle.undo.specs.Log.{place_of, entry_in, old_in, expired, dropped, advance_stores}
 use Rattle.history.specs.Machine.{Durable, ended, drop_ended, advanced}
-use Rattle.history.specs.Recall.{ended_le}
+use Rattle.history.proofs.Recall.{ended_le}
 use Rattle.base.specs.Listed.{listed, length_listed, listed_same, listed_drop}
 use Rattle.durable.specs.View.{undo_with, entry_of, entry_at, log_of, Reads}
 use Rattle.durable.specs.Reads.{reads_bounded, reads_as, reads_with, reads_log}

@@ -16,7 +16,7 @@ use Rattle.undo.specs.Log.{log_in}
 use Rattle.base.specs.Every.{Every, every_map}
 use Rattle.history.specs.Machine.{Entry, Durable}
 use Rattle.history.specs.Invariant.{ProperEntry, ProperLog}
-use Rattle.history.specs.Proper.{entry_facts, proper_every}
+use Rattle.history.proofs.Proper.{entry_facts, proper_every}
 use Rattle.base.specs.Listed.{listed}
 use Rattle.durable.specs.View.{entry_of, entries_of, Reads}
 use Rattle.durable.specs.Reads.{reads_persisted, reads_log}

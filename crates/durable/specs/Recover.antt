@@ -17,8 +17,9 @@ use Rattle.undo.specs.declared.LogState.{LogState}
 use Rattle.undo.specs.Recovery.{Log, restore_stores, restore_turn, restore_all}
 use Rattle.undo.specs.Log.{log_in, emptied, recover_stores}
 use Rattle.base.specs.Every.{Every, every_map, every_take}
-use Rattle.history.specs.Machine.{Entry, Durable, cleared}
-use Rattle.history.specs.Restore.{due, patched, patched_by, restored_all, restored_part, due_every}
+use Rattle.history.specs.Machine.{Entry, Durable, cleared, written}
+use Rattle.history.specs.Restore.{due, patched, patched_by, restored_all, restored_part}
+use Rattle.history.proofs.Restore.{due_every}
 use Rattle.base.specs.Listed.{listed, listed_every}
 use Rattle.durable.specs.Stores.{take_map}
 use Rattle.durable.specs.View.{range_if, entry_of, entries_of, Reads}
@@ -79,7 +80,9 @@ pub lines_read : {N L : ℕ} {board : List ℕ} {c : Control} {d : Durable} → 
     → (xs : List Entry) → Every (λ x. x.range.address < N) xs → Reads N L (applied board (map (line_store (lines_at L)) xs)) c (patched_by xs d)
 unfolding applied patched
 lines_read r [] named = r
-lines_read r (x ∷ xs) named = lines_read (line_reads r x.range.address x.old named.0) xs named.1
+lines_read {N} {L} {board} {c} {d} r (x ∷ xs) named =
+    lines_read {N = N} {L = L} {board = applied board (one (lines_at L + x.range.address) x.old)} {c = c} {d = written d x.range.address x.old}
+    (line_reads r x.range.address x.old named.0) xs named.1
 
 -- ---- recovery
 

@@ -1,3 +1,2 @@
 // No code: this crate is the abstract cache log and its crash invariant, in specs/.
 #![tactic(auto)]
-

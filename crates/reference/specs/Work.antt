@@ -60,11 +60,11 @@ scan_agrees {g} {h} value s = go (eqb value 0)
 plain_agrees : {g h : Reference} → Agree g h → (xs : List Event) → NoPowerUp xs → Agree (does_all g xs) (does_all h (plain_of xs))
 unfolding does_all plain_of
 plain_agrees s [] u = s
-plain_agrees s (stored a v ∷ xs) u = plain_agrees (stores_agree a v s) xs u
-plain_agrees s (committed ∷ xs) u = plain_agrees (commits_agree s) xs u
-plain_agrees s (scanned value ∷ xs) u = plain_agrees (scan_agrees value s) xs u
+plain_agrees {g} {h} s (stored a v ∷ xs) u = plain_agrees {g = stores g a v} {h = stores h a v} (stores_agree a v s) xs u
+plain_agrees {g} {h} s (committed ∷ xs) u = plain_agrees {g = commits g} {h = commits h} (commits_agree s) xs u
+plain_agrees {g} {h} s (scanned value ∷ xs) u = plain_agrees {g = does g (scanned value)} {h = h} (scan_agrees value s) xs u
 plain_agrees s (powered_up ∷ xs) u = absurd u
-plain_agrees s (nothing ∷ xs) u = plain_agrees s xs u
+plain_agrees {g} {h} s (nothing ∷ xs) u = plain_agrees {g = g} {h = h} s xs u
 
 -- two lists with the same stores and commits, given to machines that agree, leave machines that agree
 pub same_plain : {g h : Reference} → Agree g h → (xs ys : List Event) → NoPowerUp xs → NoPowerUp ys → plain_of xs ≡ plain_of ys

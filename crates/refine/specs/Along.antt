@@ -5,7 +5,7 @@ use Rattle.std.proofs.lemmas.List.{take-append-le}
 use Rattle.board.specs.Laws.{applied_append, take_append}
 use Rattle.board.specs.Stores.{Store, one, applied}
 use Rattle.reference.specs.Machine.{Reference}
-use Rattle.history.specs.Keeps.{safe_for}
+use Rattle.history.proofs.Keeps.{safe_for}
 use Rattle.base.specs.Cases.{below_or_not}
 use Rattle.refine.specs.State.{Off}
 

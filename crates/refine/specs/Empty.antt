@@ -17,7 +17,7 @@ use Rattle.history.specs.Machine.{Line, absent, clean, dirty, Volatile, written}
 use Rattle.base.specs.Cases.{update}
 use Rattle.reference.specs.Machine.{Reference}
 use Rattle.history.specs.Invariant.{Live}
-use Rattle.history.specs.Keeps.{discard_live}
+use Rattle.history.proofs.Keeps.{discard_live}
 use Rattle.base.specs.Cases.{here_or_there, update_same, update_other}
 use Rattle.volatile.specs.Cache.{cache_of}
 use Rattle.volatile.specs.Proper.{AtHome, is_clean, is_dirty, ProperSlot, is_empty, is_full, clean_holds, dirty_holds}

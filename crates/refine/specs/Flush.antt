@@ -13,7 +13,7 @@ use Rattle.steps.specs.Effects.{Effect, nothing, flushing, flushing_if}
 use Rattle.history.specs.Machine.{Volatile, flushed}
 use Rattle.reference.specs.Machine.{Reference}
 use Rattle.history.specs.Invariant.{Live}
-use Rattle.history.specs.Keeps.{flush_safe, flush_live}
+use Rattle.history.proofs.Keeps.{flush_safe, flush_live}
 use Rattle.durable.specs.Flush.{flush_cut, flush_reads}
 use Rattle.volatile.specs.Filter.{flushed_exact}
 use Rattle.volatile.specs.Slotted.{with_slotted}

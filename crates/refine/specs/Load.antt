@@ -13,8 +13,8 @@ use Rattle.steps.specs.Effects.{emptying, line_in, bringing, loading}
 use Rattle.slots.specs.Slots.{holds}
 use Rattle.history.specs.Machine.{absent, Durable}
 use Rattle.reference.specs.Machine.{Reference}
-use Rattle.history.specs.Keeps.{fill_live}
-use Rattle.history.specs.Lines.{held_as}
+use Rattle.history.proofs.Keeps.{fill_live}
+use Rattle.history.proofs.Lines.{held_as}
 use Rattle.volatile.specs.Cache.{cache_of, Alone, cache_at}
 use Rattle.volatile.specs.Held.{empty_held}
 use Rattle.volatile.specs.Proper.{AtHome, FullSlot, is_clean, is_dirty}

@@ -10,8 +10,9 @@ use Rattle.slots.specs.declared.Bounds.{Bounds}
 use Rattle.reference.specs.Machine.{Reference, restarts, commits}
 use Rattle.history.specs.Machine.{cleared}
 use Rattle.base.specs.Every.{Every}
-use Rattle.history.specs.Keeps.{commit_safe, commit_live}
-use Rattle.history.specs.Restore.{restored_all, restored_part, part_safe, power_up_safe, power_up_live}
+use Rattle.history.proofs.Keeps.{commit_safe, commit_live}
+use Rattle.history.specs.Restore.{restored_all, restored_part}
+use Rattle.history.proofs.Restore.{part_safe, power_up_safe, power_up_live}
 use Rattle.durable.specs.Proper.{proper_restorable}
 use Rattle.durable.specs.Reads.{reads_bounded, reads_persisted}
 use Rattle.durable.specs.Recover.{Restorable, recover_cut, recover_reads}

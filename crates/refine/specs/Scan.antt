@@ -19,7 +19,7 @@ use Rattle.steps.specs.Effects.{nothing, flushing_if, writing_out, cleaning, vis
 use Rattle.slots.specs.Slots.{dirty_slot}
 use Rattle.history.specs.Machine.{clean, advanced}
 use Rattle.reference.specs.Machine.{Reference, persists}
-use Rattle.history.specs.Keeps.{advance_safe, advance_live}
+use Rattle.history.proofs.Keeps.{advance_safe, advance_live}
 use Rattle.durable.specs.Advance.{advance_reads}
 use Rattle.layout.specs.declared.Slot.{Slot}
 use Rattle.base.specs.Tests.{and_left}

@@ -19,7 +19,7 @@ use Rattle.slots.specs.Slots.{holds, clean_slot, dirty_slot, dirtied}
 use Rattle.history.specs.Machine.{dirty, Volatile, marked}
 use Rattle.reference.specs.Machine.{Reference, stores}
 use Rattle.history.specs.Invariant.{Live}
-use Rattle.history.specs.Keeps.{store_safe, store_clean_live, store_committed_live, store_transient_live}
+use Rattle.history.proofs.Keeps.{store_safe, store_clean_live, store_committed_live, store_transient_live}
 use Rattle.durable.specs.Reads.{reads_persisted}
 use Rattle.volatile.specs.Filter.{logged_exact}
 use Rattle.volatile.specs.Proper.{AtHome, FullSlot, is_clean, is_dirty, clean_holds, dirty_holds}

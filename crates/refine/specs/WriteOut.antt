@@ -17,7 +17,7 @@ use Rattle.slots.specs.Slots.{dirty_slot}
 use Rattle.history.specs.Machine.{Line, clean, dirty, Durable, Volatile, Silent, written, holding, recall}
 use Rattle.reference.specs.Machine.{Reference}
 use Rattle.history.specs.Invariant.{Safe, Live}
-use Rattle.history.specs.Keeps.{write_out_safe, write_out_live}
+use Rattle.history.proofs.Keeps.{write_out_safe, write_out_live}
 use Rattle.durable.specs.View.{Reads}
 use Rattle.durable.specs.Seen.{line_reads}
 use Rattle.base.specs.Listed.{listed}

@@ -18,7 +18,7 @@ use Rattle.undo.specs.Marks.{marking_length, marking_before}
 use Rattle.base.specs.Every.{Every, every_split, every_map}
 use Rattle.history.specs.Invariant.{ProperEntry}
 use Rattle.history.specs.Machine.{Entry}
-use Rattle.history.specs.Proper.{entry_facts}
+use Rattle.history.proofs.Proper.{entry_facts}
 use Rattle.base.specs.Listed.{listed, listed_same, listed_append, every_listed, listed_every}
 use Rattle.durable.specs.Recover.{some_formed}
 use Rattle.durable.specs.View.{range_if, entry_with, buffered_at, buffer_of}

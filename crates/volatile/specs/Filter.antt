@@ -18,7 +18,7 @@ use Rattle.undo.specs.Filter.{first_bit, second_bit, is_bit_of, bit_place, is_se
 use Rattle.undo.specs.Log.{buffered_in, is_bit_buffered, buffered_marked, buffer_marked, pushed, flushed_buffer}
 use Rattle.undo.specs.Marks.{first_below, second_below, own_first, own_second, marking_bit, set_before, zero_bit}
 use Rattle.history.specs.Machine.{Silent}
-use Rattle.history.specs.Recall.{silent_away}
+use Rattle.history.proofs.Recall.{silent_away}
 use Rattle.durable.specs.View.{buffered_at, buffer_of}
 use Rattle.slots.specs.declared.Bounds.{Bounds}
 use Rattle.steps.specs.Effects.{logged}

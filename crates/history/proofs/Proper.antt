@@ -9,7 +9,7 @@ use Rattle.base.specs.Every.{Every}
 use Rattle.ranges.specs.Ranges.{ProperFacts, proper_facts, proper_rebound}
 use Rattle.history.specs.Machine.{Entry, recall, Silent, ended, drop_ended}
 use Rattle.history.specs.Invariant.{ProperEntry, ProperLog}
-use Rattle.history.specs.Recall.{covers_at_ended}
+use Rattle.history.proofs.Recall.{covers_at_ended}
 
 -- what the test of its range says
 pub entry_facts : {N W low high : ℕ} {x : Entry} → ProperEntry N W low high x → ProperFacts N low high x.range

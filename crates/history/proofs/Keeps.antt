@@ -12,9 +12,9 @@ use Rattle.history.specs.Machine.{holding, undo, marked, flushed, unbuffered, wr
 use Rattle.history.specs.Machine.{cleared, restarted, Logged, Scanned, recovered, Restored}
 use Rattle.history.specs.Invariant.{ProperEntry, ProperLog, Safe, History, Fits, Held, Live, entries}
 use Rattle.base.specs.Cases.{here_or_there, below_or_not, update_same, update_other}
-use Rattle.history.specs.Recall.{recall_append, recall_new, recall_new_away, recall_drop_ended}
-use Rattle.history.specs.Proper.{entry_wider, proper_wider, proper_new, proper_drop_ended, proper_silent}
-use Rattle.history.specs.Lines.{held_update, fits_later, held_as, undone_memory, undo_proper}
+use Rattle.history.proofs.Recall.{recall_append, recall_new, recall_new_away, recall_drop_ended}
+use Rattle.history.proofs.Proper.{entry_wider, proper_wider, proper_new, proper_drop_ended, proper_silent}
+use Rattle.history.proofs.Lines.{held_update, fits_later, held_as, undone_memory, undo_proper}
 
 -- ---- what a cut leaves, by itself
 

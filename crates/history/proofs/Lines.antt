@@ -8,7 +8,7 @@ use Rattle.base.specs.Cases.{update}
 use Rattle.reference.specs.Machine.{Reference}
 use Rattle.history.specs.Invariant.{ProperEntry, Fits, Held, Live, entries}
 use Rattle.base.specs.Cases.{here_or_there, update_same, update_other}
-use Rattle.history.specs.Proper.{proper_every}
+use Rattle.history.proofs.Proper.{proper_every}
 
 -- ---- recovery of a line
 

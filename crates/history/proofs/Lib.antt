@@ -1,0 +1,5 @@
+pub mod Recall
+pub mod Proper
+pub mod Lines
+pub mod Keeps
+pub mod Restore
