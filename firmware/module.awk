@@ -2,8 +2,8 @@
 # compiler keeps the order of these stores and makes each of them whole; and what binds the module to the toolchain's own processor
 # is taken out (data layout, the processor's name) or replaced (the triple, which -v triple=.. gives).
 #
-# It fails, and says why, unless the module has one board::put, whose parameters are result, part, place, word and meter, and in which
-# exactly one store goes to memory that is not the function's own; it must be the store of that word.
+# It fails, and says why, unless the module has one board::put, whose parameters are the part of the board and its length, place, word and
+# meter, and in which exactly one store goes to memory that is not the function's own; it must be the store of that word.
 
 function refuse(why) {
     print "firmware/build: " why > "/dev/stderr"
@@ -17,16 +17,15 @@ function read_parameters(line,    list, count, at) {
     sub(/\).*/, "", line)
     count = split(line, list, ", ")
     if (count != 5)
-        refuse("board::put has " count " parameters in the module, and not result, part, place, word and meter")
+        refuse("board::put has " count " parameters in the module, and not part, length, place, word and meter")
     for (at in list) {
         types[at] = list[at]
         sub(/ .*/, "", types[at])
         sub(/.* /, "", list[at])
         names[at] = list[at]
     }
-    if (types[3] != "i64" || types[4] != "i64")
-        refuse("place and word of board::put are no 64-bit words in the module")
-    own[names[1]]
+    if (types[1] != "ptr" || types[3] != "i64" || types[4] != "i64")
+        refuse("part, place and word of board::put are no address and 64-bit words in the module")
 }
 
 # What a store writes, and where: "store TYPE VALUE, ptr PLACE, .."
@@ -48,13 +47,27 @@ function read_store(line,    words) {
     read_parameters($0)
 }
 
-inside && / = alloca / { own[$1] }
+inside && / = alloca / {
+    own[$1]
+    if ($4 ~ /^\[/)
+        room[$1] = substr($4, 2) + 0
+}
 
-inside && /^ *(tail )?call / && !/ @llvm\.memmove\./ { refuse("board::put calls a function in the module: " $0) }
+# A place so many bytes behind the first of the function's own memory, and in it.
+inside && / = getelementptr / {
+    behind = $NF
+    base = $(NF - 2)
+    sub(/,$/, "", base)
+    if (base in room && behind ~ /^[0-9]+$/ && behind + 0 < room[base])
+        own[$1]
+}
 
-inside && / @llvm\.memmove\./ {
+# What fills or moves bytes of the function's own memory.
+inside && /^[^"]*call / && !/ @llvm\.mem(move|cpy|set)\./ { refuse("board::put calls a function in the module: " $0) }
+
+inside && / @llvm\.mem(move|cpy|set)\./ {
     place = $0
-    sub(/.*@llvm\.memmove[^(]*\(ptr /, "", place)
+    sub(/.*@llvm\.mem[^(]*\(ptr /, "", place)
     sub(/,.*/, "", place)
     if (!(place in own))
         refuse("board::put moves bytes to memory that is not its own: " $0)

@@ -8,7 +8,7 @@
  * It has no state of its own and allocates nothing: the caller lends it all memory, for the time of a call. Every
  * function answers every input: whatever words the memories hold, whatever the registers and arguments are, the answer
  * and all lent memory afterwards are fixed by what went in, and proved to be what the definitions in
- * crates/picl/specs/Calls.antt, crates/hex/specs, crates/convert/specs and crates/capi/specs/Crossing.antt give.
+ * crates/picl/specs/Calls.antt, crates/intel_hex/specs, crates/convert/specs and crates/capi/specs/Crossing.antt give.
  *
  * Most programs call it through picl_handle.h, where one struct holds all that is lent to a call. What is said here holds there.
  *

@@ -63,8 +63,7 @@ module _ (slots address : ℕ) (p : ℕ → Bool) where
 smallest_all : (work : List ℕ) (p : ℕ → Bool) (k : ℕ) (ks : List ℕ) → all_of p (k ∷ ks) ≡ true → p (smallest_tag work (k ∷ ks)) ≡ true
 smallest_all work p k [] h = all_head p k [] h
 smallest_all work p k (j ∷ ks) h =
-    let rest = smallest_tag work (j ∷ ks) in
-    either (λ i. p i ≡ true) (leb (slot_in work k).tag (slot_in work rest).tag) (all_head p k (j ∷ ks) h) (smallest_all work p j ks (all_tail p k (j ∷ ks) h))
+    either (λ i. p i ≡ true) _ (all_head p k (j ∷ ks) h) (smallest_all work p j ks (all_tail p k (j ∷ ks) h))
 
 taken_all : (work : List ℕ) (p : ℕ → Bool) (k : ℕ) (ks : List ℕ) → all_of p (k ∷ ks) ≡ true → p (victim_of work (k ∷ ks)) ≡ true
 unfolding victim_of
