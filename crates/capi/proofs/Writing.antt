@@ -20,11 +20,9 @@ module _ (place : List ℕ) (w : Written) (t : Bool) (is : t ≡ is_ok w.status)
   unfolding record_put
   put_refused n = rw (← is, not-true t n)
 
-  pub put_done : (place' : List ℕ) → not t ≡ false → length w.bytes ≡ record_bytes
-      → place' ≡ take (length w.bytes) w.bytes ++ drop (length w.bytes) place → place' ≡ record_put place w
+  pub put_done : (part : List ℕ) → not t ≡ false → part ≡ w.bytes → part ++ drop record_bytes place ≡ record_put place w
   unfolding record_put
-  put_done place' h whole p =
-      rw (← is, not-false t h) (p ∙ ap₂ ◌++◌ (take_all (length w.bytes) w.bytes (omega arith)) (ap (λ (n : ℕ). drop n place) whole))
+  put_done part h same = rw (← is, not-false t h, same)
 
 module _ (place answer : List ℕ) (t : Bool) (is : t ≡ has_record_places place answer) (kind address value : ℕ) where
   pub write_short : not t ≡ true → reported too_short place answer ≡ record_crossing place answer kind address value

@@ -1,0 +1,18 @@
+use Rattle.capi.proofs.Laws.{both_tested, array_tested, crossing_short, crossing_made}
+use Rattle.capi.proofs.Lines.{evict_leaves}
+use Rattle.capi.proofs.picl_evict.Goals as goal
+
+pub returns-then-not-has_places : goal.returns-then-not-has_places
+returns-then-not-has_places c = search (crossing_short)
+
+pub evict-given-requires : goal.evict-given-requires
+evict-given-requires c = search (array_tested)
+
+pub give_line-requires : goal.give_line-requires
+give_line-requires c = record {
+  answer_value = search (both_tested);
+  leaves_pass = search (evict_leaves);
+}
+
+pub returns : goal.returns
+returns c = search (crossing_made)

@@ -1,0 +1,11 @@
+use Rattle.capi.proofs.Laws.{answer_tested, reporting_short, asked_made}
+use Rattle.capi.proofs.picl_filter_bits.Goals as goal
+
+pub returns-then-not-has_answer : goal.returns-then-not-has_answer
+returns-then-not-has_answer c = search (reporting_short)
+
+pub report-requires : goal.report-requires
+report-requires c = search (answer_tested)
+
+pub returns : goal.returns
+returns c = search (asked_made)
