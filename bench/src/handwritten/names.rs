@@ -1,9 +1,9 @@
 //! The names of the paper's numbers, and a name put into a text.
 
-use crate::interface::{Answer, ENTRY, FILTER, LOG_HELD, OK, OUTSIDE, PAST, RECORD, SHAPE, SHORT, TARGET, TRACE};
+use crate::interface::{Answer, ENTRY, FILTER, LOG_HELD, OK, PAST, SHAPE, SHORT, TARGET, TRACE};
 
 /// The numbers that have a name, in their order.
-pub const NAMES: [(u64, &str); 21] = [
+pub const NAMES: [(u64, &str); 19] = [
     (OK, "ok"),
     (SHAPE, "shape"),
     (2, "work"),
@@ -23,8 +23,6 @@ pub const NAMES: [(u64, &str); 21] = [
     (SHORT, "short"),
     (PAST, "past"),
     (LOG_HELD, "logheld"),
-    (RECORD, "record"),
-    (OUTSIDE, "outside"),
 ];
 
 /// The name of a number; a number without one has the empty name.

@@ -26,8 +26,6 @@ names =
     ∷ "short"
     ∷ "past"
     ∷ "logheld"
-    ∷ "record"
-    ∷ "outside"
     ∷ []
 
 abbrev pub row_bytes : ℕ

@@ -4,15 +4,15 @@ ghost use Rattle.status.specs.Names.{names, PutsName};
 ghost use Rattle.status.specs.Letters.{letters, starts, Spans};
 
 // The numbers below have a name each.
-const NAMES: usize = 21;
+const NAMES: usize = 19;
 
-const LETTERS: usize = 105;
+const LETTERS: usize = 92;
 
 // The names in the order of their numbers, as many bytes as they have letters.
 fn letters() -> [u8; LETTERS]
     ensures { result ≡ letters }
 {
-    *b"okshapeworkentryregsaddressslotbufferroomwaitinglastnonecuttracefiltertargetshortpastlogheldrecordoutside"
+    *b"okshapeworkentryregsaddressslotbufferroomwaitinglastnonecuttracefiltertargetshortpastlogheld"
 }
 
 // Where each name starts among the letters, and where the last one ends.
@@ -20,7 +20,7 @@ fn starts() -> [u8; NAMES + 1]
     ensures { result ≡ starts }
 {
     [
-        0, 2, 7, 11, 16, 20, 27, 31, 37, 41, 48, 52, 56, 59, 64, 70, 76, 81, 85, 92, 98, 105,
+        0, 2, 7, 11, 16, 20, 27, 31, 37, 41, 48, 52, 56, 59, 64, 70, 76, 81, 85, 92,
     ]
 }
 

@@ -194,10 +194,8 @@ pub record Worked : Type 0 where
   pub named_16 : (name_of 16 ≡ bytes "short") × (number_of status.Short ≡ 16)
   pub named_17 : (name_of 17 ≡ bytes "past") × (number_of status.Past ≡ 17)
   pub named_18 : (name_of 18 ≡ bytes "logheld") × (number_of status.LogHeld ≡ 18)
-  pub named_19 : (name_of 19 ≡ bytes "record") × (number_of status.Record ≡ 19)
-  pub named_20 : (name_of 20 ≡ bytes "outside") × (number_of status.Outside ≡ 20)
   -- any other, the first behind the last, the number of an array too short, and the largest
-  pub unnamed : (name_of 21 ≡ []) × (name_of 255 ≡ []) × (name_of (2 ^ 64 - 1) ≡ [])
+  pub unnamed : (name_of 19 ≡ []) × (name_of 255 ≡ []) × (name_of (2 ^ 64 - 1) ≡ [])
   -- a text of four bytes, of three and of two for the three letters of `cut`; none are needed for no name, and eight, room for any, stay as they are
   pub text_behind : with_name (name_of 12) (1 ∷ 2 ∷ 3 ∷ 4 ∷ []) ≡ bytes "cut" ++ (4 ∷ [])
   pub text_filled : with_name (name_of 12) (1 ∷ 2 ∷ 3 ∷ []) ≡ bytes "cut"
@@ -360,8 +358,6 @@ worked =
       named_16 = (refl, refl);
       named_17 = (refl, refl);
       named_18 = (refl, refl);
-      named_19 = (refl, refl);
-      named_20 = (refl, refl);
       unnamed = (refl, refl, refl);
       text_behind = refl;
       text_filled = refl;
