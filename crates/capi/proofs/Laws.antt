@@ -51,11 +51,9 @@ answer_only answer e = leb-true answer_words (length answer) e
 
 module _ (least : ℕ) (lent answer : List ℕ) where
   pub array_lent : has_both least lent answer ≡ true → least ≤ length lent
-  unfolding has_both
   array_lent e = leb-true least (length lent) (and_left (leb least (length lent)) (has_answer answer) e)
 
   pub answer_lent : has_both least lent answer ≡ true → answer_words ≤ length answer
-  unfolding has_both
   answer_lent e = answer_only answer (and_right (leb least (length lent)) (has_answer answer) e)
 
   -- the same after the test that the calls make
@@ -67,7 +65,6 @@ module _ (least : ℕ) (lent answer : List ℕ) where
     array_tested = array_lent both_tested
 
     pub answer_behind : has_answer answer ≡ true
-    unfolding has_both
     answer_behind = and_right (leb least (length lent)) (has_answer answer) both_tested
 
 pub answer_tested : (answer : List ℕ) (t : Bool) → t ≡ has_answer answer → not t ≡ false → has_answer answer ≡ true

@@ -47,15 +47,15 @@ unfoldable pub has_answer : (answer : List ℕ) → Bool
 has_answer answer = leb answer_words (length answer)
 
 -- so many places in another array, and the answer
-unfoldable pub has_both : (least : ℕ) → (lent answer : List ℕ) → Bool
+abbrev pub has_both : (least : ℕ) → (lent answer : List ℕ) → Bool
 has_both least lent answer = leb least (length lent) && has_answer answer
 
 abbrev pub has_places : (registers answer : List ℕ) → Bool
-has_places registers answer = has_both register_words registers answer
+has_places registers answer = leb register_words (length registers) && has_answer answer
 
 -- the bytes of a record, and the answer
 abbrev pub has_record_places : (bytes answer : List ℕ) → Bool
-has_record_places bytes answer = has_both record_bytes bytes answer
+has_record_places bytes answer = leb record_bytes (length bytes) && has_answer answer
 
 abbrev pub has_reader_places : (reader answer : List ℕ) → Bool
 has_reader_places reader answer = has_both reader_words reader answer

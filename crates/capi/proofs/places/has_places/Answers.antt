@@ -3,9 +3,9 @@ use Rattle.capi.specs.Places.{has_answer, has_both}
 use Rattle.capi.proofs.places.has_places.Goals as goal
 
 pub returns-then-registers-lt-REGISTER_WORDS : goal.returns-then-registers-lt-REGISTER_WORDS
-unfolding has_both has_answer
+unfolding has_answer
 returns-then-registers-lt-REGISTER_WORDS c = search tests
 
 pub returns : goal.returns
-unfolding has_both has_answer
+unfolding has_answer
 returns c = search tests
