@@ -1,5 +1,5 @@
 -- The texts of banks: what the tests of the code tell of them.
-use Rattle.std.proofs.Common.{◌≡◌, ℕ, zero, ◌+◌, ◌*◌, ◌%◌, ◌^◌, ◌<◌, Bool, true, false, not, ◌&&◌, ◌||◌, eqb, List, [], ◌∷◌, ◌++◌, map, length, get_or, take, drop, sym, refl, ap, ◌∙◌, arith, get_or-drop, get_or-take, drop-drop, ext_get_or, take-add, eqb-true}
+use Rattle.std.proofs.Common.{◌≡◌, ℕ, ◌+◌, ◌*◌, ◌%◌, ◌^◌, ◌<◌, Bool, true, false, not, ◌&&◌, ◌||◌, eqb, List, [], ◌∷◌, ◌++◌, map, length, get_or, take, drop, sym, refl, ap, ◌∙◌, arith, get_or-drop, get_or-take, drop-drop, ext_get_or, take-add, eqb-true}
 use mathlib.Core.Bool.{false≢true}
 use mathlib.Core.List.{map-append}
 use borrow.Author.Tests.{not-true, not-false}
@@ -9,8 +9,10 @@ use Rattle.base.specs.Tests.{and_left, and_right}
 use Rattle.layout.specs.Bytes.{byte_bits, bytes_of_word, word_of}
 use Rattle.layout.specs.Fields.{pack, width}
 use Rattle.intel_hex.specs.declared.reading.Opener.{Opener}
-use Rattle.intel_hex.specs.Records.{digit, byte_digits, digits_of, sum_of, address_bytes, bank_type, data_type, record_bytes, end_type}
-use Rattle.intel_hex.specs.Reading.{place_in, value_of, paired, content_of, address_in, type_in}
+use Rattle.intel_hex.specs.Records.{digit, byte_digits, digits_of, sum_of, address_bytes, bank_type, data_type, record_bytes}
+use Rattle.intel_hex.specs.Laws.{end_type}
+use Rattle.intel_hex.specs.Reading.{place_in, address_in, type_in}
+use Rattle.intel_hex.specs.Contents.{value_of, paired, content_of}
 use Rattle.intel_hex.specs.Import.{capital, in_capitals, is_record, is_offered, well_formed}
 use Rattle.intel_hex.specs.Laws.{bare_text}
 use Rattle.intel_hex.specs.RecordTexts.{record_told}

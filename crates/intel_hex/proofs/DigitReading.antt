@@ -11,7 +11,8 @@ use Rattle.base.specs.Walk.{first_from, first, first_all}
 use Rattle.layout.specs.Bytes.{byte_bits}
 use Rattle.intel_hex.specs.declared.digits.Meaning.{Meaning}
 use Rattle.intel_hex.specs.Records.{digit_bits, byte_digits, sum_of}
-use Rattle.intel_hex.specs.Reading.{place_in, value_of, paired}
+use Rattle.intel_hex.specs.Reading.{place_in}
+use Rattle.intel_hex.specs.Contents.{value_of, paired}
 use Rattle.intel_hex.specs.Import.{capital}
 use Rattle.intel_hex.specs.Promises.{figures, meant, is_digit, all_digits, last_digit, Means, ReadsValues, ReadsBytes}
 use Rattle.intel_hex.proofs.ByteDigits.{sum_append}

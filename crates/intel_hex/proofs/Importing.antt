@@ -21,8 +21,10 @@ use Rattle.picl.specs.Calls.{report}
 use Rattle.intel_hex.specs.declared.Reader.{Reader}
 use Rattle.intel_hex.specs.declared.Taken.{Taken}
 use Rattle.intel_hex.specs.declared.reading.Opener.{Opener}
-use Rattle.intel_hex.specs.Records.{byte_digits, address_bytes, record_text, bank_bytes, bank_type, data_type, record_bytes, end_type, end_text}
-use Rattle.intel_hex.specs.Reading.{content_of, count_in, address_in, type_in, held_in, held_from, record_holds, upper_behind, record_content, record_type, record_count, record_address}
+use Rattle.intel_hex.specs.Records.{byte_digits, address_bytes, record_text, bank_bytes, bank_type, data_type, record_bytes, end_text}
+use Rattle.intel_hex.specs.Laws.{end_type}
+use Rattle.intel_hex.specs.Reading.{count_in, address_in, type_in, held_in, held_from, upper_behind, record_type, record_count, record_address}
+use Rattle.intel_hex.specs.Contents.{content_of, record_holds, record_content}
 use Rattle.intel_hex.specs.Export.{most_text}
 use Rattle.intel_hex.specs.Import.{capital, in_capitals, are_bytes, same, is_record, is_offered, well_formed, is_past, is_outside, import_checked, import_report, import_reader, import_stores, import_board, line_store, Imports}
 use Rattle.intel_hex.specs.Laws.{bare_text, text_many, end_is}

@@ -8,8 +8,10 @@ use lib.Seq.{sets}
 use Rattle.base.specs.Every.{Every}
 use Rattle.base.specs.Tests.{and_left, and_right}
 use Rattle.layout.specs.Bytes.{byte_bits, bytes_of_word, word_of}
-use Rattle.intel_hex.specs.Records.{digit, digit_bits, byte_digits, digits_of, sum_of, address_bytes, bank_type, data_type, record_bytes, end_type}
-use Rattle.intel_hex.specs.Reading.{place_in, value_of, paired, content_of, address_in, type_in}
+use Rattle.intel_hex.specs.Records.{digit, digit_bits, byte_digits, digits_of, sum_of, address_bytes, bank_type, data_type, record_bytes}
+use Rattle.intel_hex.specs.Laws.{end_type}
+use Rattle.intel_hex.specs.Reading.{place_in, address_in, type_in}
+use Rattle.intel_hex.specs.Contents.{value_of, paired, content_of}
 use Rattle.intel_hex.specs.Export.{most_text}
 use Rattle.intel_hex.specs.Import.{capital, in_capitals, is_record, is_offered, well_formed}
 use Rattle.intel_hex.specs.Laws.{bare_text}

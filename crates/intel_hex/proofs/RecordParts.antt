@@ -1,6 +1,6 @@
 -- A record is put part by part: its data, what stands before them, what stands behind.
 use Rattle.std.proofs.Common.{◌≡◌, ℕ, suc, ◌+◌, ◌-◌, ◌*◌, ◌/◌, ◌%◌, ◌^◌, ◌<◌, ◌≤◌, ◌≢◌, List, [], ◌∷◌, ◌++◌, length, get_or, take, drop, set, sym, refl, ap, ◌∙◌, append_assoc, arith, length-append, length-set, length-take-le}
-use lib.Seq.{sets, sets-eq, length-sets, set_comm, take-length}
+use lib.Seq.{sets, sets-eq, length-sets, set_comm}
 use Rattle.layout.specs.Bytes.{byte_bits, bytes_of_word, bytes_of, word_of}
 use Rattle.layout.specs.Fields.{pack, unpack, width}
 use Rattle.status.specs.Names.{bytes}

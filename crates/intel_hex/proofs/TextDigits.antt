@@ -6,8 +6,10 @@ use Rattle.base.specs.Every.{Every}
 use Rattle.base.specs.Tests.{and_left, and_right}
 use Rattle.base.specs.Walk.{first_from, first, first_all}
 use Rattle.layout.specs.Bytes.{byte_bits, AreBytes, bytes_cons}
-use Rattle.intel_hex.specs.Records.{digits, digit, digit_bits, byte_digits, digits_of}
-use Rattle.intel_hex.specs.Reading.{place_in, value_of, paired, digit_read}
+use Rattle.intel_hex.specs.Records.{digit, digit_bits, byte_digits, digits_of}
+use Rattle.intel_hex.specs.Contents.{digits}
+use Rattle.intel_hex.specs.Reading.{place_in}
+use Rattle.intel_hex.specs.Contents.{value_of, paired, digit_read}
 use Rattle.intel_hex.specs.Import.{small_digits, capital}
 use Rattle.intel_hex.specs.Promises.{meant, is_digit, all_digits, last_digit}
 

@@ -4,9 +4,9 @@ use mathlib.Core.List.{map-append}
 use lib.ListN.{length-map}
 use Rattle.base.specs.Every.{Every}
 use Rattle.layout.specs.Bytes.{byte_bits, word_of, AreBytes, bytes_cons, bytes_append, bytes_take, bytes_drop}
-use Rattle.status.specs.Names.{bytes}
 use Rattle.intel_hex.specs.Records.{byte_digits, digits_of, line_feed, text_of, sum_of, address_bytes}
-use Rattle.intel_hex.specs.Reading.{place_in, paired, content_of, type_at, held_at, count_in, address_in, type_in, held_in}
+use Rattle.intel_hex.specs.Reading.{place_in, type_at, held_at, count_in, address_in, type_in, held_in}
+use Rattle.intel_hex.specs.Contents.{paired, content_of}
 use Rattle.intel_hex.specs.Laws.{bare_bytes, bare_text, digits_many, text_many}
 use Rattle.intel_hex.specs.RecordTexts.{IsRecord, told_record, content_is}
 use Rattle.intel_hex.specs.Import.{capital, in_capitals, is_record}

@@ -3,7 +3,7 @@ use Rattle.std.proofs.Common.{◌≡◌, ℕ, ◌+◌, ◌-◌, ◌*◌, ◌<◌
 use mathlib.Core.Bool.{false≢true}
 use borrow.Author.Tests.{eqb-false, not-true, not-false}
 use lib.ListN.{length-map}
-use lib.Seq.{sets, sets-eq, take-length}
+use lib.Seq.{sets, sets-eq}
 use Rattle.base.specs.Cases.{here_or_there}
 use Rattle.base.specs.Parts.{rest_lent, rest_back}
 use Rattle.layout.specs.Bytes.{bytes_of_word}

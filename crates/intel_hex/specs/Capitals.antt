@@ -10,7 +10,8 @@ use Rattle.base.specs.Every.{Every}
 use Rattle.status.specs.Names.{bytes}
 use Rattle.checks.specs.Laws.{differ}
 use Rattle.intel_hex.specs.declared.Reader.{Reader}
-use Rattle.intel_hex.specs.Records.{digits, digit, digit_bits, digits_of, line_feed, text_of, checked, record_text, records_of}
+use Rattle.intel_hex.specs.Records.{digit, digit_bits, digits_of, line_feed, text_of, checked, record_text, records_of}
+use Rattle.intel_hex.specs.Contents.{digits}
 use Rattle.intel_hex.specs.Reading.{place_in, before_check}
 use Rattle.intel_hex.specs.Laws.{every_record}
 use Rattle.intel_hex.specs.Import.{small_digits, capital, in_capitals, import_checked, import_report, import_reader, import_stores, import_board}

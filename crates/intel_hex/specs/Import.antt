@@ -14,8 +14,11 @@ use Rattle.picl.specs.declared.Report.{Report}
 use Rattle.picl.specs.Calls.{report}
 use Rattle.intel_hex.specs.declared.Reader.{Reader}
 use Rattle.intel_hex.specs.declared.Taken.{Taken}
-use Rattle.intel_hex.specs.Records.{digits, address_bytes, record_text, bank_bytes, bank_type, data_type, record_bytes, end_type}
-use Rattle.intel_hex.specs.Reading.{place_in, content_of, count_in, address_in, type_in, held_in, Held, record_holds, upper_behind, first_upper}
+use Rattle.intel_hex.specs.Records.{address_bytes, record_text, bank_bytes, bank_type, data_type, record_bytes}
+use Rattle.intel_hex.specs.Contents.{digits}
+use Rattle.intel_hex.specs.Laws.{end_type}
+use Rattle.intel_hex.specs.Reading.{place_in, count_in, address_in, type_in, held_in, Held, upper_behind, first_upper}
+use Rattle.intel_hex.specs.Contents.{content_of, record_holds}
 
 -- ---- a call's text
 

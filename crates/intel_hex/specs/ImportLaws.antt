@@ -28,8 +28,10 @@ use Rattle.checks.specs.Laws.{held_as, then_both, passed_row, board_opened}
 use Rattle.picl.specs.declared.Report.{Report}
 use Rattle.picl.specs.Calls.{report}
 use Rattle.intel_hex.specs.declared.Reader.{Reader}
-use Rattle.intel_hex.specs.Records.{bank_type, end_type}
-use Rattle.intel_hex.specs.Reading.{content_of, type_in, held_in, Held, record_holds, upper_behind}
+use Rattle.intel_hex.specs.Records.{bank_type}
+use Rattle.intel_hex.specs.Laws.{end_type}
+use Rattle.intel_hex.specs.Reading.{type_in, held_in, Held, upper_behind}
+use Rattle.intel_hex.specs.Contents.{content_of, record_holds}
 use Rattle.intel_hex.specs.Import.{in_capitals, well_formed, is_outside, import_rows, import_checked, reader_for, line_store, stores_for, report_for}
 use Rattle.intel_hex.specs.Import.{import_report, import_reader, import_stores, import_board, import_cut, Importing, behind_text, imported}
 

@@ -20,14 +20,18 @@ use Rattle.checks.specs.Promises.{Opened}
 use Rattle.checks.specs.Laws.{then_both, passed_row, board_opened}
 use Rattle.picl.specs.Calls.{report}
 use Rattle.intel_hex.specs.Records.{digit, byte_digits, digits_of, line_feed, text_of, sum_of, check_of, checked, address_bytes, two_bytes, record_text}
-use Rattle.intel_hex.specs.Records.{bank_bytes, bank_type, bank_text, opening, data_type, record_bytes, data_text, end_type, end_text, records_from, records_of, joined, file_of}
+use Rattle.intel_hex.specs.Records.{bank_bytes, bank_type, bank_text, opening, data_type, record_bytes, data_text, end_text, records_from, records_of, joined, file_of}
 use Rattle.intel_hex.specs.Export.{lines_on, record_at, most_text, export_rows, export_checked, text_for, export_report, export_text}
 use Rattle.intel_hex.specs.Reading.{content_of, held_at, held_from, held_by, first_upper, before_check, content_for, AreWords, lines_read}
 use Rattle.intel_hex.specs.Reading.{two_bytes_holds, word_bytes, pair_bytes, two_many, word_many, pair_many, record_content}
 
 -- ---- every record is of one form
 
--- the last record is the one that has no data and its type
+-- the last record's type
+abbrev pub end_type : ℕ
+end_type = 1
+
+-- "the file closes with `:00000001FF`": the record that has no data and this type
 pub end_is : end_text ≡ record_text 0 end_type []
 unfolding end_text record_text text_of checked check_of sum_of digits_of digit two_bytes unpack width
 end_is = refl

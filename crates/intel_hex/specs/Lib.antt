@@ -4,6 +4,7 @@ pub mod Places
 pub mod Promises
 pub mod Reading
 pub mod Laws
+pub mod Contents
 pub mod Import
 pub mod RecordTexts
 pub mod ImportLaws

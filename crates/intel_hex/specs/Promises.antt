@@ -17,7 +17,8 @@ use Rattle.intel_hex.specs.declared.Taken.{Taken}
 use Rattle.intel_hex.specs.declared.digits.Meaning.{Meaning}
 use Rattle.intel_hex.specs.declared.reading.Opener.{Opener}
 use Rattle.intel_hex.specs.Records.{digit_bits, byte_digits, digits_of, line_feed, sum_of, address_bytes, two_bytes, bank_bytes, bank_type, data_type, record_bytes}
-use Rattle.intel_hex.specs.Reading.{value_of, paired, content_of, count_in, address_in, type_in, held_in}
+use Rattle.intel_hex.specs.Reading.{count_in, address_in, type_in, held_in}
+use Rattle.intel_hex.specs.Contents.{value_of, paired, content_of}
 use Rattle.intel_hex.specs.Import.{capital, in_capitals, well_formed}
 use Rattle.intel_hex.specs.Places.{pair_bytes, last_of}
 use Rattle.intel_hex.specs.Export.{most_text}

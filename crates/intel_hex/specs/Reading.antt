@@ -1,39 +1,40 @@
 -- Intel HEX read back: the bytes of a record's text, and which words the records of a file hold, and where. The laws: what `Records` writes is read
 -- back as it was, from a digit (`digit_read`) to the lines of a file (`lines_read`).
-use Rattle.std.specs.Prelude.{◌≡◌, ℕ, zero, suc, ◌+◌, ◌-◌, ◌*◌, ◌/◌, ◌%◌, ◌^◌, ◌<◌, ◌≤◌, Bool, true, false, cond, ◌≢◌, List, [], ◌∷◌, ◌++◌, map, length, take, drop, ◌==◌, slice_index, slice_index_or}
+use Rattle.std.specs.Prelude.{◌≡◌, ℕ, zero, suc, ◌+◌, ◌-◌, ◌*◌, ◌/◌, ◌%◌, ◌^◌, ◌<◌, ◌≤◌, min, Bool, true, false, cond, ◌≢◌, List, [], ◌∷◌, ◌++◌, length, take, drop, ◌==◌, slice_index, slice_index_or}
 use Rattle.std.proofs.Math.Path.{refl}
 use Rattle.std.proofs.Common.{ap, ap₂, ◌∙◌, arith, mod-lt, eqb-true, pow_pos}
 use Rattle.std.proofs.lemmas.Bool.{eqb-false}
 use Rattle.std.proofs.Math.Seq.{take-append_seam}
-use Rattle.base.specs.Listed.{listed}
 use Rattle.base.specs.Walk.{first_from, first, first_all}
 use Rattle.layout.specs.Limits.{word_bits, most_lines}
 use Rattle.layout.specs.Bytes.{byte_bits, bytes_of_word, byte_widths, bytes_of, word_of, AreBytes, bytes_cons, bytes_append, unpacked_bytes, word_of_bytes}
-use Rattle.layout.specs.ByteWords.{word_in, words_of, words_cons}
 use Rattle.layout.specs.Fields.{width, unpack, pack_unpack}
-use Rattle.intel_hex.specs.Records.{digits, digit, digit_bits, digits_of, line_feed, text_of, sum_of, check_of, checked, address_bytes, two_bytes, record_text}
+use Rattle.status.specs.Names.{bytes}
+use Rattle.intel_hex.specs.Records.{digit, digit_bits, digits_of, line_feed, text_of, sum_of, check_of, checked, address_bytes, two_bytes, record_text}
 use Rattle.intel_hex.specs.Records.{bank_bytes, bank_type, bank_text, opening, data_type, record_bytes, data_text, end_text, records_from, records_of}
 
 -- ---- digits
+
+abbrev pub upper_digits : List ℕ
+upper_digits = bytes "0123456789ABCDEF"
+
+abbrev pub lower_digits : List ℕ
+lower_digits = bytes "0123456789abcdef"
 
 -- the first place of a number in a list, or the list's length
 unfoldable pub place_in : List ℕ → ℕ → ℕ
 place_in [] d = 0
 place_in (x ∷ xs) d = cond (d == x) 0 (suc (place_in xs d))
 
--- the number that a digit stands for; of what is no digit 16, which no digit stands for
+-- the number that a digit stands for, "in either case of digits"; of what is no digit 16, which no digit stands for
 unfoldable pub value_of : ℕ → ℕ
-value_of d = place_in digits d
+value_of d = min (place_in upper_digits d) (place_in lower_digits d)
 
--- numbers in pairs, as bytes; what stands alone behind the last pair, as a line feed does, is left out
-unfoldable pub paired : List ℕ → List ℕ
-paired [] = []
-paired (v ∷ []) = []
-paired (v ∷ w ∷ vs) = (v * 2 ^ digit_bits + w) ∷ paired vs
-
--- the bytes that pairs of digits stand for
-abbrev pub bytes_in : List ℕ → List ℕ
-bytes_in ds = paired (map value_of ds)
+-- the bytes that pairs of digits stand for; what stands alone behind the last pair, as a line feed does, is left out
+unfoldable pub bytes_in : List ℕ → List ℕ
+bytes_in [] = []
+bytes_in (d ∷ []) = []
+bytes_in (d ∷ e ∷ ds) = (value_of d * 2 ^ digit_bits + value_of e) ∷ bytes_in ds
 
 -- ---- a record
 
@@ -79,11 +80,16 @@ unfoldable pub held_from : (address : ℕ) (words : List ℕ) → List Held
 held_from address [] = []
 held_from address (w ∷ ws) = record { address = address; word = w } ∷ held_from (address + bytes_of_word) ws
 
+-- so many words, of their bytes
+unfoldable pub words_of : (many : ℕ) (held : List ℕ) → List ℕ
+words_of zero held = []
+words_of (suc n) held = word_of (take bytes_of_word held) ∷ words_of n (drop bytes_of_word held)
+
 -- what a record holds, by its bytes and the upper address: words if it is of type 00, and else nothing
 unfoldable pub record_holds : (upper : ℕ) (content : List ℕ) → List Held
 record_holds upper content =
     cond (type_in content == data_type)
-    (held_from (bank_bytes * upper + address_in content) (words_of (held_in content)))
+    (held_from (bank_bytes * upper + address_in content) (words_of (count_in content / bytes_of_word) (held_in content)))
     []
 
 -- the upper address behind it: a record of type 04 sets it
@@ -103,20 +109,25 @@ first_upper = 0
 
 -- ---- digits
 
--- each stands for its place, by one test of them all
-abbrev read_at : ℕ → Bool
-read_at n = value_of (digit n) == n
+-- the digits of a case: each stands for its place, by one test of them all
+abbrev read_at : (digits : List ℕ) (n : ℕ) → Bool
+read_at digits n = value_of (slice_index digits n) == n
 
-all_read : 2 ^ digit_bits ≤ first read_at (2 ^ digit_bits)
-unfolding digit value_of place_in first_from
-all_read = omega arith
+all_read : (digits : List ℕ) → 2 ^ digit_bits ≤ first (read_at digits) (2 ^ digit_bits) → (n : ℕ) → n < 2 ^ digit_bits
+    → value_of (slice_index digits n) ≡ n
+all_read digits all n h = eqb-true (value_of (slice_index digits n)) n (first_all (read_at digits) (2 ^ digit_bits) all n h)
 
 pub digit_read : (n : ℕ) → n < 2 ^ digit_bits → value_of (digit n) ≡ n
-digit_read n h = eqb-true (value_of (digit n)) n (first_all read_at (2 ^ digit_bits) all_read n h)
+unfolding digit value_of place_in first_from
+digit_read n h = all_read upper_digits (omega arith) n h
+
+pub lower_read : (n : ℕ) → n < 2 ^ digit_bits → value_of (slice_index lower_digits n) ≡ n
+unfolding value_of place_in first_from
+lower_read n h = all_read lower_digits (omega arith) n h
 
 -- bytes come back from their digits, with any one number behind them
 pub digits_read : (bs : List ℕ) (last : ℕ) → AreBytes bs → bytes_in (digits_of bs ++ (last ∷ [])) ≡ bs
-unfolding paired digits_of
+unfolding bytes_in digits_of
 digits_read [] last h = refl
 digits_read (b ∷ bs) last h =
     let byte : b < 2 ^ byte_bits = h 0 in
@@ -174,18 +185,15 @@ abbrev pub content_for : (address type : ℕ) (held : List ℕ) → List ℕ
 content_for address type held = checked (before_check address type held)
 
 module _ (address type : ℕ) (held : List ℕ) where
-  module _ (small : type < 2 ^ byte_bits) (fine : AreBytes held) (few : length held < 2 ^ byte_bits) where
-    pub content_bytes : AreBytes (content_for address type held)
-    unfolding checked
-    content_bytes =
-        let rest = bytes_append (two_bytes address) (type ∷ held) (two_bytes_holds address) (bytes_cons type held small fine) in
-        let last = bytes_cons (check_of (before_check address type held)) [] (check_byte (before_check address type held)) (λ i. omega arith) in
-        bytes_append (before_check address type held) (check_of (before_check address type held) ∷ [])
-        (bytes_cons (length held) (two_bytes address ++ (type ∷ held)) few rest) last
-
-    pub record_content : content_of (record_text address type held) ≡ content_for address type held
-    unfolding record_text
-    record_content = content_read (content_for address type held) content_bytes
+  pub record_content : type < 2 ^ byte_bits → AreBytes held → length held < 2 ^ byte_bits
+      → content_of (record_text address type held) ≡ content_for address type held
+  unfolding record_text checked
+  record_content small fine few =
+      let rest = bytes_append (two_bytes address) (type ∷ held) (two_bytes_holds address) (bytes_cons type held small fine) in
+      let last = bytes_cons (check_of (before_check address type held)) [] (check_byte (before_check address type held)) (λ i. omega arith) in
+      content_read (content_for address type held)
+      (bytes_append (before_check address type held) (check_of (before_check address type held) ∷ [])
+      (bytes_cons (length held) (two_bytes address ++ (type ∷ held)) few rest) last)
 
   pub record_count : count_in (content_for address type held) ≡ length held
   unfolding count_in checked
@@ -212,13 +220,13 @@ module _ (upper : ℕ) (texts : List (List ℕ)) where
       rw (record_content 0 bank_type (two_bytes bank) (omega arith) (two_bytes_holds bank) few, record_type, record_held, two_read)
 
   pub data_read : (address : ℕ) (held : List ℕ) → AreBytes held → length held < 2 ^ byte_bits → held_by upper (data_text address held ∷ texts)
-      ≡ held_from (bank_bytes * upper + address % bank_bytes) (words_of held) ++ held_by upper texts
+      ≡ held_from (bank_bytes * upper + address % bank_bytes) (words_of (length held / bytes_of_word) held) ++ held_by upper texts
   unfolding held_by record_holds upper_behind data_text
   data_read address held fine few =
-      rw (record_content address data_type held (omega arith) fine few, record_type, record_address, record_held)
+      rw (record_content address data_type held (omega arith) fine few, record_type, record_count, record_address, record_held)
 
   pub end_read : held_by upper (end_text ∷ texts) ≡ held_by upper texts
-  unfolding held_by record_holds upper_behind end_text content_of paired value_of place_in type_in
+  unfolding held_by record_holds upper_behind end_text content_of bytes_in value_of place_in type_in
   end_read = refl
 
 -- ---- a file
@@ -251,7 +259,7 @@ opening_read upper address texts below carried = go (address % bank_bytes == 0) 
 
 pub opened_read : (upper address : ℕ) (texts : List (List ℕ)) → address < address_space → Carried upper address → (held : List ℕ) → AreBytes held
     → length held < 2 ^ byte_bits → held_by upper (opening address ++ (data_text address held ∷ texts))
-    ≡ held_from address (words_of held) ++ held_by (address / bank_bytes) texts
+    ≡ held_from address (words_of (length held / bytes_of_word) held) ++ held_by (address / bank_bytes) texts
 opened_read upper address texts below carried held fine few =
     let whole : bank_bytes * (address / bank_bytes) + address % bank_bytes ≡ address = omega arith in
     opening_read upper address (data_text address held ∷ texts) below carried ∙ data_read (address / bank_bytes) texts address held fine few ∙ rw whole
@@ -261,12 +269,14 @@ unfolding held_by
 file_end upper = end_read upper []
 
 -- one line's bytes are its word, and two lines' their words
-pub one_word : (x : ℕ) → x < 2 ^ word_bits → words_of (bytes_of x) ≡ x ∷ []
-unfolding words_of listed word_in bytes_of unpack
+one_word : (x : ℕ) → x < 2 ^ word_bits → words_of (length (bytes_of x) / bytes_of_word) (bytes_of x) ≡ x ∷ []
+unfolding words_of bytes_of unpack
 one_word x h = rw (word_of_bytes x h)
 
-pub two_words : (x y : ℕ) → x < 2 ^ word_bits → y < 2 ^ word_bits → words_of (bytes_of x ++ bytes_of y) ≡ x ∷ y ∷ []
-two_words x y h k = words_cons (bytes_of x) (bytes_of y) (word_many x) ∙ ap₂ ◌∷◌ (word_of_bytes x h) (one_word y k)
+two_words : (x y : ℕ) → x < 2 ^ word_bits → y < 2 ^ word_bits
+    → words_of (length (bytes_of x ++ bytes_of y) / bytes_of_word) (bytes_of x ++ bytes_of y) ≡ x ∷ y ∷ []
+unfolding words_of bytes_of unpack
+two_words x y h k = rw (word_of_bytes x h, word_of_bytes y k)
 
 -- lines from an address on, where a record of two lines may begin
 pub lines_from : (upper address : ℕ) (lines : List ℕ) → AreWords lines → address % record_bytes ≡ 0

@@ -25,11 +25,15 @@ use Rattle.picl.specs.declared.Report.{Report}
 use Rattle.picl.specs.Calls.{report}
 use Rattle.intel_hex.specs.declared.Reader.{Reader}
 use Rattle.intel_hex.specs.Records.{two_bytes, record_text, bank_bytes, bank_type, bank_text, opening}
-use Rattle.intel_hex.specs.Records.{data_type, record_bytes, data_text, end_type, end_text, records_from, records_of}
+use Rattle.intel_hex.specs.Records.{data_type, record_bytes, data_text, end_text, records_from, records_of}
+use Rattle.intel_hex.specs.Laws.{end_type}
 use Rattle.intel_hex.specs.Export.{lines_on, most_text}
-use Rattle.intel_hex.specs.Reading.{content_of, Held, held_from, record_holds, upper_behind, held_by, first_upper}
-use Rattle.intel_hex.specs.Reading.{AreWords, Carried, carried_on, address_space, content_for, lines_read}
-use Rattle.intel_hex.specs.Reading.{record_content, record_count, record_address, record_type, record_held, two_bytes_holds}
+use Rattle.intel_hex.specs.Reading.{Held, held_from, upper_behind, first_upper}
+use Rattle.intel_hex.specs.Contents.{content_of, record_holds, held_by}
+use Rattle.intel_hex.specs.Reading.{AreWords, Carried, carried_on, address_space, content_for}
+use Rattle.intel_hex.specs.Contents.{lines_read}
+use Rattle.intel_hex.specs.Reading.{record_count, record_address, record_type, record_held, two_bytes_holds}
+use Rattle.intel_hex.specs.Contents.{record_content}
 use Rattle.intel_hex.specs.Reading.{two_many, two_read, word_bytes, word_many, pair_bytes, pair_many}
 use Rattle.intel_hex.specs.Laws.{end_is, lines_many, records_on, exported_by, exported_all}
 use Rattle.intel_hex.specs.RecordTexts.{written_record}

@@ -10,8 +10,10 @@ use Rattle.base.specs.Tests.{and_left, and_right}
 use Rattle.layout.specs.Bytes.{byte_bits, byte_widths, word_of, AreBytes, bytes_cons, bytes_take, bytes_drop, bytes_fit}
 use Rattle.layout.specs.Fields.{unpack, unpack_pack}
 use Rattle.intel_hex.specs.Records.{text_of, sum_of, check_of, checked, address_bytes, two_bytes, record_text}
-use Rattle.intel_hex.specs.Reading.{content_of, type_at, held_at, count_in, address_in, type_in}
-use Rattle.intel_hex.specs.Reading.{held_in, before_check, content_for, content_read, content_bytes, record_content}
+use Rattle.intel_hex.specs.Reading.{type_at, held_at, count_in, address_in, type_in}
+use Rattle.intel_hex.specs.Contents.{content_of}
+use Rattle.intel_hex.specs.Reading.{held_in, before_check, content_for}
+use Rattle.intel_hex.specs.Contents.{content_read, content_bytes, record_content}
 use Rattle.intel_hex.specs.Laws.{bare_bytes, sum_more, checked_sum}
 use Rattle.intel_hex.specs.Import.{are_bytes, same, is_record}
 

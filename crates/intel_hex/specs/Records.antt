@@ -6,13 +6,9 @@ use Rattle.status.specs.Names.{bytes}
 
 -- ---- a record
 
--- "Digits are upper case"
-abbrev pub digits : List ℕ
-digits = bytes "0123456789ABCDEF"
-
--- the digit of a number below 16
+-- "Digits are upper case": the digit of a number below 16
 unfoldable pub digit : ℕ → ℕ
-digit n = slice_index digits n
+digit n = slice_index (bytes "0123456789ABCDEF") n
 
 abbrev pub digit_bits : ℕ
 digit_bits = 4
@@ -83,10 +79,7 @@ record_bytes = record_lines * bytes_of_word
 unfoldable pub data_text : (address : ℕ) (held : List ℕ) → List ℕ
 data_text address held = record_text address data_type held
 
--- "the file closes with `:00000001FF`", which is of this type
-abbrev pub end_type : ℕ
-end_type = 1
-
+-- "the file closes with `:00000001FF`"
 unfoldable pub end_text : List ℕ
 end_text = bytes ":00000001FF" ++ (line_feed ∷ [])
 

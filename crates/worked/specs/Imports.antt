@@ -19,7 +19,8 @@ use Rattle.checks.specs.Refusals.{board_checked}
 use Rattle.picl.specs.Calls.{report}
 use Rattle.intel_hex.specs.declared.Reader.{Reader}
 use Rattle.intel_hex.specs.Records.{digit, digits_of, text_of, sum_of, check_of, checked, two_bytes, record_text}
-use Rattle.intel_hex.specs.Reading.{place_in, value_of, paired, content_of, count_in, address_in, type_in, held_in, held_from, record_holds, upper_behind}
+use Rattle.intel_hex.specs.Reading.{place_in, count_in, address_in, type_in, held_in, held_from, upper_behind}
+use Rattle.intel_hex.specs.Contents.{value_of, paired, content_of, record_holds}
 use Rattle.intel_hex.specs.Import.{capital, are_bytes, same, is_record, is_offered, well_formed, is_outside, import_checked, first_reader}
 use Rattle.intel_hex.specs.Import.{import_report, import_reader, import_stores, import_board, imported}
 use Rattle.worked.specs.Bench.{control}

@@ -1,5 +1,5 @@
 use Rattle.std.proofs.Common.{◌-◌, map, length}
-use Rattle.intel_hex.specs.Reading.{paired}
+use Rattle.intel_hex.specs.Contents.{paired}
 use Rattle.intel_hex.specs.Promises.{last_digit}
 use Rattle.intel_hex.proofs.DigitReading.{Summed}
 use Rattle.intel_hex.proofs.digits.read_bytes.Given as goal
