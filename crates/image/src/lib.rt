@@ -3,8 +3,17 @@
 
 ghost use Rattle.std.specs.Prelude.{◌+◌, ◌*◌, ◌≤◌, length, ◌≡◌};
 ghost use Rattle.layout.specs.Bytes.{bytes_of_word, bytes_of};
+ghost use Rattle.layout.specs.ByteWords.{words_of};
 ghost use Rattle.text.specs.Printing.{Prints};
 ghost use Rattle.image.specs.Image.{image_of};
+
+// The words of an image, to a memory of as many.
+pub fn read(words: &mut [u64], image: &[u8])
+    requires { length image.now ≡ bytes_of_word * length words.old }
+    ensures { words.new ≡ words_of image.now }
+{
+    layout::read_words(words, image)
+}
 
 fn put_word(out: &mut [u8], at: usize, word: u64) -> usize
     requires { at + bytes_of_word ≤ length out.old }
