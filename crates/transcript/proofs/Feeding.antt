@@ -6,7 +6,7 @@ use Rattle.base.specs.Walk.{Walked, walk_start, walk_end, walk_found, walk_next}
 use Rattle.text.specs.Printing.{same_behind}
 use Rattle.transcript.specs.declared.Session.{Session}
 use Rattle.transcript.specs.Printing.{longest}
-use Rattle.transcript.specs.Session.{Machine, machine_of, session_of, Turn, resting, roomy, feed_turn, fed_byte, fed, victim_of, Ready, Turns, Feeds}
+use Rattle.transcript.specs.Session.{machine_of, session_of, Turn, resting, roomy, feed_turn, fed_byte, fed, victim_of, Ready, Turns, Feeds}
 use Rattle.transcript.specs.Laws.{still, ready_roomy}
 
 -- ── whether the buffer has room ──

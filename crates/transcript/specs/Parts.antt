@@ -5,9 +5,7 @@ use Rattle.std.proofs.Common.{◌∙◌, arith}
 use Rattle.std.proofs.lemmas.Bool.{false≢true}
 use mathlib.Core.List.{foldl, flatten, append_assoc, append-nil}
 use Rattle.text.specs.Text.{line_feed}
-use Rattle.script.specs.declared.Command.{Command}
-use Rattle.script.specs.declared.Command.TheVariants as command
-use Rattle.script.specs.Syntax.{is_empty, command_of}
+use Rattle.script.specs.Syntax.{is_empty}
 use Rattle.script.specs.Steps.{reader_of, step_of, letter_by, command_by}
 use Rattle.script.specs.Laws.{reads, reader_more, letter_or_bad}
 use Rattle.replay.specs.Bench.{Effect, performed}

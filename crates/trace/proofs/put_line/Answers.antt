@@ -1,0 +1,5 @@
+use Rattle.trace.specs.Line.{line_printed}
+use Rattle.trace.proofs.put_line.Goals as goal
+
+pub returns : goal.returns
+returns c = search (line_printed)
