@@ -33,7 +33,7 @@ use Rattle.history.specs.Machine.{recall}
 use Rattle.durable.specs.View.{entries_of}
 use Rattle.crash.specs.Statement.{AfterEveryList, persisted_on, line_on}
 use Rattle.crash.specs.Beyond.{Whole, Rests}
-use Rattle.crash.specs.Theorem.{whole_at_rest}
+use Rattle.crash.proofs.Theorem.{whole_at_rest}
 use Rattle.converted.specs.Statement.{old_undo_in, stopped, due, power_up_stores, old_power_up, has_place, behind, beside_power_up, Continues}
 use Rattle.converted.specs.Lines.{recovered_line}
 

@@ -1,5 +1,5 @@
 -- Demand 3. To be believed: Statement, and Beyond for what is proved beyond the demand. The theorems are `demand_3` and
--- `whole` in Theorem; Witness has runs that meet the premises. Imports says the same of a board that was loaded.
+-- `whole` in proofs/Theorem; Witness has runs that meet the premises. Imports says the same of a board that was loaded.
 pub mod Statement
 pub mod Beyond
 pub mod Witness
@@ -11,10 +11,7 @@ pub mod Calls
 pub mod Steps
 pub mod Power
 pub mod Exports
-pub mod Runs
-pub mod Progress
 pub mod Proper
 pub mod Format
-pub mod Theorem
 pub mod Reports
 pub mod Imports

@@ -1,5 +1,5 @@
 -- A power-up keeps the invariant of a run from any state, and never answers 1 or 3: each entry of the log that it finds is proper.
-use Rattle.std.specs.Prelude.{ℕ, ◌+◌, ◌≤◌, ◌<◌, Bool, not, cond, List, eqb, take, replicate}
+use Rattle.std.specs.Prelude.{ℕ, ◌+◌, ◌≤◌, ◌<◌, Bool, not, cond, List, eqb, replicate}
 use Rattle.std.proofs.Math.Path.{◌≡◌, refl, ap}
 use Rattle.std.proofs.Common.{sym, ◌∙◌, subst, arith}
 use Rattle.std.proofs.Math.Bool.{true, false}
@@ -33,11 +33,11 @@ use Rattle.picl.specs.Calls.{judged, power_up_outcome, power_up_verdict}
 use Rattle.history.specs.Machine.{Durable}
 use Rattle.reference.specs.Machine.{Reference, restarts, does}
 use Rattle.history.proofs.Restore.{power_up_lines}
-use Rattle.bounds.specs.Costs.{recover_most}
+use Rattle.bounds.proofs.Costs.{recover_most}
 use Rattle.durable.specs.Proper.{reads_passes, reads_proper}
 use Rattle.durable.specs.View.{Sized, undo_with}
 use Rattle.volatile.specs.Dirty.{dirty_none}
-use Rattle.refine.specs.State.{Off, Ok}
+use Rattle.refine.specs.State.{Off}
 use Rattle.refine.specs.Restart.{recovery_along, recovery_reads, restart_ok}
 use Rattle.crash.specs.Statement.{power_up, Machine, Result, answered, made, fed, log_on, Spans}
 use Rattle.crash.specs.Fares.{NoneDirty, cut_none, not_cut_ok}

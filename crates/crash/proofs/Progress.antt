@@ -17,7 +17,7 @@ use Rattle.crash.specs.State.{sweep_of, Holds, is_up, is_down}
 use Rattle.crash.specs.Reached.{Reached, reached, aim_outside, aim_inside, Onward, onward_none, onward_then, onward_rises, onward_done}
 use Rattle.crash.specs.Steps.{call_kept, begin_aims}
 use Rattle.crash.specs.Exports.{export_unseen, export_same}
-use Rattle.crash.specs.Runs.{after_holds, run_holds}
+use Rattle.crash.proofs.Runs.{after_holds, run_holds}
 
 abbrev reached_by : Both → Reached
 reached_by s = reached s.machine.registers s.reference

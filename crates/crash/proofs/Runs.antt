@@ -1,7 +1,7 @@
 -- Every list of calls that starts with a power-up has the invariant, from any board that recovers.
 use Rattle.std.specs.Prelude.{ℕ, ◌<◌, List, []}
 use Rattle.std.proofs.Math.Path.{refl}
-use Rattle.std.proofs.Common.{sym, subst, arith}
+use Rattle.std.proofs.Common.{sym, subst}
 use Rattle.layout.specs.Limits.{most_ahead}
 use Rattle.layout.specs.Memory.{control_in}
 use Rattle.checks.specs.Laws.{board_opened}

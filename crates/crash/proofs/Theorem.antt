@@ -14,8 +14,8 @@ use Rattle.crash.specs.Steps.{load_value, tally_value, call_kept}
 use Rattle.crash.specs.Power.{power_up_kept, log_proper_of, log_spans_of, power_up_lines_of, power_up_shape, power_up_entry, power_up_ok}
 use Rattle.crash.specs.Exports.{empty_log_lines, exporting_whole, export_answered, exported_record, export_accepted}
 use Rattle.crash.specs.Format.{format_off}
-use Rattle.crash.specs.Runs.{after_holds, run_holds, rests_off, list_holds}
-use Rattle.crash.specs.Progress.{persisted_rises, oldest_persisted, target_persisted}
+use Rattle.crash.proofs.Runs.{after_holds, run_holds, rests_off, list_holds}
+use Rattle.crash.proofs.Progress.{persisted_rises, oldest_persisted, target_persisted}
 use Rattle.crash.specs.Proper.{running_up, worked, call_answered, begin_accepted, room_full, filter_exact, spans_buffered}
 
 -- ---- what the invariant says

@@ -1,0 +1,4 @@
+pub mod Runs
+pub mod Progress
+pub mod Theorem
+pub mod Imports
