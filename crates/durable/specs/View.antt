@@ -1,6 +1,6 @@
 -- The board's words as recovery reads them: the durable state of the abstract cache log, and the sizes that the words keep.
 -- `Reads` is what the laws of this crate are about: what a board reads as before and after a list of stores.
-use Rattle.std.specs.Prelude.{ℕ, ◌+◌, ◌*◌, ◌≤◌, ◌<◌, ◌≡◌, Bool, cond, List, length, get_or}
+use Rattle.std.specs.Prelude.{ℕ, ◌+◌, ◌*◌, ◌≡◌, Bool, cond, List, length, get_or}
 use Rattle.layout.specs.declared.Control.{Control}
 use Rattle.layout.specs.declared.Entry as packed
 use Rattle.layout.specs.Memory.{lines_at, board_words, shape_for, control_in, shape_in}

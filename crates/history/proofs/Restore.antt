@@ -1,5 +1,5 @@
 -- All of power-up's stores make recovery, and after any number of them recovery still gives the same lines. Assumes nothing.
-use Rattle.std.specs.Prelude.{◌≡◌, refl, List, [], ◌∷◌, ◌++◌, Bool, true, false, cond, ℕ, ◌<◌, take}
+use Rattle.std.specs.Prelude.{◌≡◌, refl, List, [], ◌∷◌, ◌++◌, Bool, true, false, ℕ, ◌<◌, take}
 use Rattle.std.proofs.Common.{sym, ap, ◌∙◌}
 use Rattle.ranges.specs.Ranges.{covers}
 use Rattle.history.specs.Machine.{Entry, covers_at, recall, Told, Durable, written, cleared, restarted, recovered, Restored}

@@ -1,7 +1,7 @@
 -- The abstract cache log: what a cut leaves, what a cut loses, and the actions, each beside what the reference machine does.
 -- Memory, cache and copies are functions of the address: no slot, ring, length or packed word stands here.
 -- Quoted text is document 01's; "PiCL" names the paper of Nguyen and Wentzlaff. Assumes nothing.
-use Rattle.std.specs.Prelude.{◌≡◌, List, [], ◌∷◌, ◌++◌, Bool, cond, ◌&&◌, ℕ, suc, ◌+◌, ◌<◌, leb, eqb, drop}
+use Rattle.std.specs.Prelude.{◌≡◌, List, [], ◌∷◌, ◌++◌, Bool, cond, ◌&&◌, ℕ, suc, ◌<◌, leb, eqb, drop}
 use Rattle.base.specs.Cases.{update}
 use Rattle.ranges.specs.Ranges.{Range, covers}
 

@@ -13,7 +13,7 @@ use Rattle.undo.specs.Filter.{hits}
 use Rattle.slots.specs.declared.Bounds.{Bounds}
 use Rattle.steps.specs.Effects.{nothing, flushing_if, writing_out, writing_back, emptying}
 use Rattle.slots.specs.Slots.{clean_slot, dirty_slot}
-use Rattle.history.specs.Machine.{Line, absent, clean, dirty, Volatile, written}
+use Rattle.history.specs.Machine.{Line, absent, clean, Volatile, written}
 use Rattle.base.specs.Cases.{update}
 use Rattle.reference.specs.Machine.{Reference}
 use Rattle.history.specs.Invariant.{Live}
