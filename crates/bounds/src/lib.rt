@@ -1,2 +1,2 @@
-// How many board stores a call can owe: it stands in specs/.
+// How many board stores a call can owe: the definitions stand in specs/, the laws in proofs/.
 #![tactic(auto)]
