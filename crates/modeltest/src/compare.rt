@@ -1,11 +1,11 @@
 // A call made on both sides, what differs, and what has been seen.
-use crate::print;
 use crate::random::sum;
+use crate::register_words::REGISTERS;
 use crate::rows::*;
 use crate::sides::*;
 
 // Of how many differences each is printed; all are counted.
-const SHOWN: u64 = 5;
+pub const SHOWN: usize = 5;
 
 pub const OK: u64 = 0;
 
@@ -26,6 +26,7 @@ pub enum Part {
     DirtySlots,
     Persisted,
     Line,
+    SecondMemory,
 }
 
 // Two numbers that ought to be the same: what the library has, and what the model or the reference machine
@@ -38,8 +39,33 @@ pub struct Difference {
     pub wanted: u64,
 }
 
+// The arguments of a call that are printed: its own, how many words it is lent, and the registers that it is given.
+#[derive(Clone, Copy)]
+pub struct Arguments {
+    pub call: Call,
+    pub board_words: u64,
+    pub work_words: u64,
+    pub registers: [u64; REGISTERS],
+}
+
+// Where a difference was found: in a call from a state, or in a call of a kind, on a board of so many words.
+#[derive(Clone, Copy)]
+pub enum Place {
+    From(Arguments),
+    On(u64, u64),
+}
+
+// A difference that is printed, and the number of calls before it.
+#[derive(Clone, Copy)]
+pub struct Note {
+    pub calls: u64,
+    pub place: Place,
+    pub what: Difference,
+}
+
 // What the test has seen: calls, those of them on boards that the converter made, differences, the most stores
-// of a call that is no power-up, and of each row its numbers, each a bit of one word.
+// of a call that is no power-up, of each row its numbers, each a bit of one word, and what is printed of the first
+// differences.
 #[derive(Clone, Copy)]
 pub struct Score {
     pub calls: u64,
@@ -47,6 +73,7 @@ pub struct Score {
     pub differences: u64,
     pub most_stores: u64,
     pub rows: [u64; ROWS as usize],
+    pub notes: [Option<Note>; SHOWN],
 }
 
 #[derive(Clone, Copy)]
@@ -56,13 +83,6 @@ pub struct Step {
     pub score: Score,
 }
 
-// The answers of both sides.
-#[derive(Clone, Copy)]
-pub struct Answers {
-    pub found: Outcome,
-    pub wanted: Outcome,
-}
-
 pub fn new_score() -> Score {
     Score {
         calls: 0,
@@ -70,6 +90,7 @@ pub fn new_score() -> Score {
         differences: 0,
         most_stores: 0,
         rows: [0; ROWS as usize],
+        notes: [None; SHOWN],
     }
 }
 
@@ -155,15 +176,27 @@ fn between_replies(x: Reply, y: Reply) -> Difference {
     let work = x.work;
     let model_board = y.board;
     let model_work = y.work;
-    let first = between_boards(found, wanted, &board, &model_board);
+    let first = between_outcomes(found, wanted);
     if !is_same(first) {
         return first;
+    }
+    let second = between_words(Part::Board, &board, &model_board);
+    if !is_same(second) {
+        return second;
     }
     between_words(Part::Work, &work, &model_work)
 }
 
-fn with_difference(score: Score) -> Score {
+fn with_difference(score: Score, place: Place, what: Difference) -> Score {
     let mut next = score;
+    if score.differences < SHOWN as u64 {
+        let note = Note {
+            calls: score.calls,
+            place,
+            what,
+        };
+        next.notes[score.differences as usize] = Some(note);
+    }
     next.differences = sum(score.differences, 1);
     next
 }
@@ -173,10 +206,14 @@ pub fn noted(score: Score, s: State, c: Call, d: Difference) -> Score {
     if is_same(d) {
         return score;
     }
-    if score.differences < SHOWN {
-        print::difference_line(score.calls, s, c, d);
-    }
-    with_difference(score)
+    let registers = s.registers;
+    let arguments = Arguments {
+        call: c,
+        board_words: s.board_words,
+        work_words: s.work_words,
+        registers,
+    };
+    with_difference(score, Place::From(arguments), d)
 }
 
 // The same of a call whose board is not a state's: of how many words it is lent.
@@ -184,10 +221,7 @@ pub fn noted_on(score: Score, kind: u64, board_words: u64, d: Difference) -> Sco
     if is_same(d) {
         return score;
     }
-    if score.differences < SHOWN {
-        print::board_line(score.calls, kind, board_words, d);
-    }
-    with_difference(score)
+    with_difference(score, Place::On(kind, board_words), d)
 }
 
 // One answer more.
@@ -223,29 +257,4 @@ pub fn compared(s: State, c: Call, score: Score) -> Step {
         outcome,
         score: counted(judged, c.kind, outcome),
     }
-}
-
-pub fn between_boards(x: Outcome, y: Outcome, board: &[u64], model_board: &[u64]) -> Difference {
-    let first = between_outcomes(x, y);
-    if !is_same(first) {
-        return first;
-    }
-    between_words(Part::Board, board, model_board)
-}
-
-// The answers and the boards of both sides compared, behind a call of a kind. Its number is for a row.
-pub fn judged(
-    board: &[u64],
-    model_board: &[u64],
-    a: Answers,
-    kind: u64,
-    row: u64,
-    score: Score,
-) -> Score {
-    let outcome = a.found;
-    let wanted = a.wanted;
-    let d = between_boards(outcome, wanted, board, model_board);
-    let noted = noted_on(score, kind, board.len() as u64, d);
-    let after = counted(noted, kind, outcome);
-    seen(after, row, outcome.number)
 }

@@ -48,6 +48,14 @@ pub fn noted_conversion(score: Score, c: Conversion, d: Difference) -> Score {
     noted_on(score, CONVERT, c.board_words, d)
 }
 
+pub fn between_memories(x: Outcome, y: Outcome, board: &[u64], model_board: &[u64]) -> Difference {
+    let first = between_outcomes(x, y);
+    if !is_same(first) {
+        return first;
+    }
+    between_words(Part::SecondMemory, board, model_board)
+}
+
 // One conversion, made on both sides and compared.
 pub fn converted(c: Conversion, score: Score) -> ConversionStep {
     let old = c.old;
@@ -55,7 +63,7 @@ pub fn converted(c: Conversion, score: Score) -> ConversionStep {
     let mut model_board = c.board;
     let outcome = library_part(&old, &mut board, c.old_words, c.board_words);
     let wanted = model_part(&old, &mut model_board, c.old_words, c.board_words);
-    let found = between_boards(outcome, wanted, &board, &model_board);
+    let found = between_memories(outcome, wanted, &board, &model_board);
     let judged = noted_conversion(score, c, found);
     ConversionStep {
         board,

@@ -4,7 +4,6 @@
 use crate::compare::*;
 use crate::damage::{damaged, filled};
 use crate::faults::{BY_CALL, BY_CUT};
-use crate::hex_files::*;
 use crate::lists::*;
 use crate::old_lists::*;
 use crate::old_packing::{OLD_EPOCHS, is_old};
@@ -250,12 +249,11 @@ fn probes(l: List, s: State, seed: u64, score: Score) -> Score {
     next
 }
 
-// The probes, a span of an entry, an Intel HEX record, and a conversion.
+// The probes, a span of an entry, and a conversion.
 fn beside(l: List, s: State, wanted: Reference, seed: u64, score: Score) -> Score {
     let with_probes = probes(l, s, seed, score);
     let with_span = with_any_span(s, seed, with_probes);
-    let with_record = any_record(s, seed, with_span);
-    any_conversion(s, wanted, seed, with_record)
+    any_conversion(s, wanted, seed, with_span)
 }
 
 // A turn of a list: calls are made from states that are its own but for some damage; then its next call is
@@ -310,45 +308,11 @@ fn moved(h: History, seed: u64) -> History {
     watched(on_board(with_score(h, after), new_board), plain(POWER_UP))
 }
 
-fn with_lines(reference: Reference, board: &[u64], first_line: u64, persisted: u64) -> Reference {
-    let first = at_most(first_line, board.len());
-    reference.restarted(&board[first..], persisted)
-}
-
-// The reference machine, started again on a board.
-fn restarted(reference: Reference, board: [u64; BOARD_ROOM]) -> Reference {
-    let first_line = board_words(0, entries_of(board[SHAPE]));
-    let persisted = persisted_of(board[CONTROL]);
-    with_lines(reference, &board, first_line, persisted)
-}
-
-// A list goes on with its board loaded from a file, which has to be powered up.
-fn loaded(h: History, seed: u64) -> History {
-    let l = h.list;
-    let reference = h.reference;
-    let score = h.score;
-    let mut state = h.state;
-    if length_of(state.board[CONTROL]) != 0 {
-        return h;
-    }
-    let loading = loaded_board(state, seed, score);
-    let board = loading.board;
-    let after = loading.score;
-    state.board = board;
-    state.work_words = work_words(l.slots);
-    let mut next = with_score(with_state(h, state), after);
-    next.reference = restarted(reference, board);
-    watched(next, plain(POWER_UP))
-}
-
-// One list in three is converted, and one in three loaded, now and then.
+// One list in three is converted, now and then.
 fn moved_or_not(h: History, seed: u64) -> History {
     let l = h.list;
     if once_in(l.seed, MOVES, 3) && once_in(seed, IS_MOVED, 50) {
         return moved(h, seed);
-    }
-    if once_in(l.seed, LOADS, 3) && once_in(seed, IS_LOADED, 25) {
-        return loaded(h, seed);
     }
     h
 }

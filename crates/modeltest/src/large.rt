@@ -1,10 +1,6 @@
 // Boards of the largest N and L, in both layouts, and of one more. They are lent to both sides, not copied.
 use crate::compare::*;
 use crate::conversions::*;
-use crate::hex_files::*;
-use crate::hex_forms::*;
-use crate::hex_sides::*;
-use crate::hex_texts::BANK_LINES;
 use crate::old_packing::*;
 use crate::packing::*;
 use crate::random::*;
@@ -86,11 +82,35 @@ fn fill_both(board: &mut [u64], model_board: &mut [u64], seed: u64) {
     fill(model_board, seed);
 }
 
+// The answers of both sides.
+#[derive(Clone, Copy)]
+struct Answers {
+    found: Outcome,
+    wanted: Outcome,
+}
+
 fn both_converted(old: &[u64], board: &mut [u64], model_board: &mut [u64], words: u64) -> Answers {
     Answers {
         found: library_part(old, board, words, words),
         wanted: model_part(old, model_board, words, words),
     }
+}
+
+// The answers and the boards of both sides compared, behind a call of a kind. Its number is for a row.
+fn judged(
+    board: &[u64],
+    model_board: &[u64],
+    a: Answers,
+    kind: u64,
+    row: u64,
+    score: Score,
+) -> Score {
+    let outcome = a.found;
+    let wanted = a.wanted;
+    let d = between_memories(outcome, wanted, board, model_board);
+    let noted = noted_on(score, kind, board.len() as u64, d);
+    let after = counted(noted, kind, outcome);
+    seen(after, row, outcome.number)
 }
 
 // A size, converted.
@@ -203,56 +223,6 @@ fn sizes(old: &mut [u64], board: &mut [u64], model_board: &mut [u64], score: Sco
     next
 }
 
-fn formatted(board: &mut [u64], model_board: &mut [u64], lines: u64, score: Score) -> Score {
-    let c = format_of(lines, USED_LINES);
-    let words = board_words(lines, USED_LINES);
-    called(board, model_board, words, c, FORMAT, score)
-}
-
-// Records of all forms, for a board of the most lines, which has eight banks.
-const LARGE_RECORDS: u64 = FORMS * 100;
-
-fn large_records(board: &mut [u64], model_board: &mut [u64], score: Score) -> Score {
-    let words = board_words(MOST_LINES, USED_LINES);
-    let mut next = formatted(board, model_board, MOST_LINES, score);
-    for n in 0..LARGE_RECORDS {
-        let form = n % FORMS;
-        let r = reading_of(form, MOST_LINES, hashed(n));
-        let answers = both_taken(board, model_board, words, r);
-        next = judged(
-            board,
-            model_board,
-            answers,
-            HEX_IN,
-            sum(FORMS_ROW, form),
-            next,
-        );
-    }
-    next
-}
-
-// A file of two banks, the second with an odd number of lines.
-const FILE_LINES: u64 = BANK_LINES + 3;
-
-fn write_source(source: &mut [u64]) {
-    fill(source, FILE_LINES);
-    put(source, SHAPE as u64, shape_word(FILE_LINES, USED_LINES));
-}
-
-fn large_file(source: &[u64], board: &mut [u64], model_board: &mut [u64], score: Score) -> Score {
-    let words = board_words(FILE_LINES, USED_LINES);
-    let ready = formatted(board, model_board, FILE_LINES, score);
-    let read = read_file(
-        board,
-        model_board,
-        source,
-        words,
-        file_records(FILE_LINES),
-        ready,
-    );
-    noted_on(read, HEX_IN, words, between_files(board, source, words))
-}
-
 pub fn large_boards(score: Score) -> Score {
     let mut old = [0; LARGE_ROOM];
     let mut board = [0; LARGE_ROOM];
@@ -260,8 +230,5 @@ pub fn large_boards(score: Score) -> Score {
     let with_sizes = sizes(&mut old, &mut board, &mut model_board, score);
     let newest = entry_word(0, PERSISTED_EPOCH + 1, 1);
     let with_full = full(&mut board, &mut model_board, newest, with_sizes);
-    let with_both = full(&mut board, &mut model_board, 0, with_full);
-    let with_records = large_records(&mut board, &mut model_board, with_both);
-    write_source(&mut old);
-    large_file(&old, &mut board, &mut model_board, with_records)
+    full(&mut board, &mut model_board, 0, with_full)
 }

@@ -11,7 +11,7 @@ use crate::sides::*;
 use model::Reference;
 
 // The last of a board's words against so many lines.
-pub fn between_last(board: &[u64], words: u64, lines: &[u64], count: u64) -> Difference {
+fn between_last(board: &[u64], words: u64, lines: &[u64], count: u64) -> Difference {
     let end = at_most(words, board.len());
     let start = end - at_most(count, end);
     between_words(Part::Line, &board[start..end], lines)

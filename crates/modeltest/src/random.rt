@@ -72,29 +72,12 @@ pub const FAULT: u64 = 51;
 
 pub const IS_CONVERTED: u64 = 52;
 
-// .. of spans, ..
+// .. and of spans.
 pub const IS_SPAN: u64 = 53;
 
 pub const SPAN: u64 = 54;
 
 pub const IS_BUFFERED: u64 = 55;
-
-// .. and of Intel HEX records.
-pub const LOADS: u64 = 56;
-
-pub const IS_LOADED: u64 = 57;
-
-pub const IS_WHOLE: u64 = 58;
-
-pub const FORM: u64 = 59;
-
-pub const GOOD_FORM: u64 = 60;
-
-pub const BANK: u64 = 61;
-
-pub const SECOND_VALUE: u64 = 62;
-
-pub const BOARD_CHOICE: u64 = 63;
 
 pub fn sum(a: u64, b: u64) -> u64 {
     std::num::wrapping_add_u64(a, b)

@@ -1,7 +1,6 @@
 // The rows of what the test has seen: a call's answers, and what an entry's span, an old board or an epoch has
 // led to. A row is a set of numbers, which the report prints.
 use crate::faults::FAULTS;
-use crate::hex_forms::FORMS;
 use crate::large::SIZES;
 use crate::sides::KINDS;
 use crate::spans::SPANS;
@@ -29,20 +28,10 @@ pub const OLD_SIZES_ROW: u64 = FAULTS_ROW + FAULTS;
 // .. for each large size, of what format answers, ..
 pub const FORMAT_SIZES_ROW: u64 = OLD_SIZES_ROW + SIZES;
 
-// .. for the longest log, of what power-up answers, ..
+// .. and for the longest log, of what power-up answers.
 pub const FULL_LOG_ROW: u64 = FORMAT_SIZES_ROW + SIZES;
 
-// .. and for each form of an Intel HEX record, of what its reader answers; for a good one with any letter in any
-// place; for any form where the log is not empty; for the records of a file.
-pub const FORMS_ROW: u64 = FULL_LOG_ROW + 1;
-
-pub const ANY_LETTER_ROW: u64 = FORMS_ROW + FORMS;
-
-pub const LOG_HELD_ROW: u64 = ANY_LETTER_ROW + 1;
-
-pub const FILE_ROW: u64 = LOG_HELD_ROW + 1;
-
-pub const ROWS: u64 = FILE_ROW + 1;
+pub const ROWS: u64 = FULL_LOG_ROW + 1;
 
 pub const MARKS: u64 = 6;
 

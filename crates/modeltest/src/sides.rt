@@ -25,15 +25,12 @@ pub const TALLY: u64 = 8;
 
 pub const FILTER_BITS: u64 = 9;
 
-// Those above are made from a board and a work memory; the converter has a board and a second memory, the reader of
-// Intel HEX a board and a text.
+// Those above are made from a board and a work memory; the converter has a board and a second memory.
 pub const CALL_KINDS: u64 = 10;
 
 pub const CONVERT: u64 = 10;
 
-pub const HEX_IN: u64 = 11;
-
-pub const KINDS: u64 = 12;
+pub const KINDS: u64 = 11;
 
 pub const ALL: u32 = 4294967295;
 
@@ -58,7 +55,7 @@ pub struct State {
 }
 
 // What a call answers. Format, tally and the status question return no registers: theirs are those
-// given. The reader of Intel HEX has its own state in their place.
+// given.
 #[derive(Clone, Copy)]
 pub struct Outcome {
     pub number: u64,
