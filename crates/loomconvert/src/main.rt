@@ -13,8 +13,12 @@ ghost use Rattle.loomconvert.specs.Promises.{BoardReady, ImageReady, OutputReady
 
 use benchboard::BOARD_WORDS;
 use layout::{BYTES_OF_WORD, LOG_AT, SHAPE_AT};
-use libc::{STDIN_FILENO, STDOUT_FILENO};
 use status::Status;
+use std::io;
+use std::io::Read;
+
+// A buffer for what is read, and one for what is written. The largest image has fewer bytes.
+const BUFFER_BYTES: usize = 65536;
 
 // The bytes of the largest image.
 const MOST_BYTES: usize = BYTES_OF_WORD * BOARD_WORDS;
@@ -88,36 +92,40 @@ fn put_output(out: &mut [u8], input: &[u8], old: &mut [u64], board: &mut [u64]) 
 
 // How many bytes the input has; as many as the buffer where it has no fewer, and where a read fails. No image has so
 // many.
-fn read_all(input: &mut [u8]) -> usize
+fn read_all(source: &mut impl Read, input: &mut [u8]) -> usize
     ensures { result ≤ length input.new }
 {
     let mut count: usize = 0;
     while count < input.len() {
-        let got = libc::read(STDIN_FILENO, &mut input[count..]);
-        if got < 0 {
-            return input.len();
+        match source.read(&mut input[count..]) {
+            Err(_) => return input.len(),
+            Ok(0) => break,
+            Ok(more) => count += more,
         }
-        let more = io::count(got, &input[count..]);
-        if more == 0 {
-            break;
-        }
-        count += more;
     }
     count
 }
 
-fn run(input: &mut [u8], out: &mut [u8], old: &mut [u64], board: &mut [u64])
+fn run(
+    rt: &impl Print,
+    source: &mut impl Read,
+    input: &mut [u8],
+    out: &mut [u8],
+    old: &mut [u64],
+    board: &mut [u64],
+) -> io::Result<()>
     requires { OutputReady out.old old.old board.old }
 {
-    let count = read_all(input);
+    let count = read_all(source, input);
     let length = put_output(out, &input[0..count], old, board);
-    io::write_all(STDOUT_FILENO, &out[0..length]);
+    rt.write_all(&out[0..length])
 }
 
-fn main() {
-    let mut input = io::large_buffer();
-    let mut out = io::large_buffer();
+fn main(rt: HostRuntime) -> io::Result<()> {
+    let mut input = [0u8; BUFFER_BYTES];
+    let mut out = [0u8; BUFFER_BYTES];
     let mut old = [0u64; BOARD_WORDS];
     let mut board = [0u64; BOARD_WORDS];
-    run(&mut input, &mut out, &mut old, &mut board);
+    let mut source = rt.stdin();
+    run(&rt, &mut source, &mut input, &mut out, &mut old, &mut board)
 }

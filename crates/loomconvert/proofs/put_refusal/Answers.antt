@@ -1,0 +1,5 @@
+use Rattle.loomconvert.proofs.Writing.{refusal_put}
+use Rattle.loomconvert.proofs.put_refusal.Goals as goal
+
+pub returns : goal.returns
+returns c = search (refusal_put)
