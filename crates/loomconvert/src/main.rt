@@ -71,7 +71,7 @@ fn put_image(out: &mut [u8], input: &[u8], old: &mut [u64], board: &mut [u64]) -
     requires { ImageReady out.old input.now old.old board.old }
     ensures { Prints most_output out.old 0 (words_text (words_of input.now)) out.new result }
 {
-    layout::read_words(old, input);
+    image::read(old, input);
     put_words(out, old, board)
 }
 
