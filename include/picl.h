@@ -499,8 +499,8 @@ uint64_t picl_trace_write(uint8_t *PICL_RESTRICT bytes, size_t byte_count, uint6
 
 /* The name of a number that a call has returned, for a display: its letters at the start of the text, and how many they are as
  * value. It is no string: no zero byte is put behind it, and the bytes there are not touched. PICL_NAME_BYTES are enough for
- * every name; a text with too few for this one is PICL_TOO_SHORT. A number that has no name, as PICL_TOO_SHORT itself, has
- * no letters: value 0. Stores are 0. */
+ * every name; a text with too few for this one is PICL_TOO_SHORT. A number that has no name, as PICL_RECORD, PICL_OUTSIDE and
+ * PICL_TOO_SHORT itself, has no letters: value 0. Stores are 0. */
 uint64_t picl_name(uint8_t *PICL_RESTRICT text, size_t text_bytes, uint64_t number, uint64_t *PICL_RESTRICT answer,
                    size_t answer_words);
 

@@ -1,7 +1,7 @@
 //! Files of Intel HEX, whoever has written them, read record by record by both sides.
 
 use crate::handwritten::layout::Shape;
-use crate::handwritten::names::name_of;
+use crate::handwritten::names::called;
 use crate::handwritten::HandWritten;
 use crate::interface::{CacheLog, FIRST_READER, OK};
 use crate::library::Library;
@@ -26,7 +26,7 @@ pub fn read_file(file: &str, lines: u64, written: &str) -> Result<(), String> {
     }
     let bytes: Vec<u8> = taken.lines.iter().flat_map(|line| line.to_be_bytes()).collect();
     write(Path::new(written), &bytes)?;
-    println!("{} {}", taken.records, name_of(taken.number));
+    println!("{} {}", taken.records, called(taken.number));
     Ok(())
 }
 

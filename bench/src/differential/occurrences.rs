@@ -9,22 +9,22 @@ use super::{
 };
 use crate::call::{Call, Kind};
 use crate::handwritten::layout::Control;
-use crate::handwritten::names::{name_of, NAMES};
+use crate::handwritten::names::{called, NAMELESS, NAMES};
 use crate::interface::{FILTER, LOG_HELD, OK, OUTSIDE, PAST, RECORD, SHORT, TARGET};
 use crate::library::TOO_SHORT;
 use crate::record::Record;
 
 /// The column behind those of the paper's numbers: arrays that have too few words or bytes.
 const TOO_FEW: (u64, &str) = (TOO_SHORT, "few");
-const COLUMNS: usize = NAMES.len() + 1;
+const COLUMNS: usize = NAMES.len() + NAMELESS.len() + 1;
 
 /// The numbers in the order of the columns, with their names.
 fn columns() -> impl Iterator<Item = (u64, &'static str)> {
-    NAMES.into_iter().chain([TOO_FEW])
+    NAMES.into_iter().chain(NAMELESS).chain([TOO_FEW])
 }
 
 pub fn number_name(number: u64) -> &'static str {
-    match name_of(number) {
+    match called(number) {
         "" if number == TOO_SHORT => TOO_FEW.1,
         "" => "(no such number)",
         name => name,

@@ -1,6 +1,6 @@
 //! The names of the paper's numbers, and a name put into a text.
 
-use crate::interface::{Answer, ENTRY, FILTER, LOG_HELD, OK, PAST, SHAPE, SHORT, TARGET, TRACE};
+use crate::interface::{Answer, ENTRY, FILTER, LOG_HELD, OK, OUTSIDE, PAST, RECORD, SHAPE, SHORT, TARGET, TRACE};
 
 /// The numbers that have a name, in their order.
 pub const NAMES: [(u64, &str); 19] = [
@@ -24,6 +24,17 @@ pub const NAMES: [(u64, &str); 19] = [
     (PAST, "past"),
     (LOG_HELD, "logheld"),
 ];
+
+/// What the numbers behind these are called here: the library has no names for them yet.
+pub const NAMELESS: [(u64, &str); 2] = [(RECORD, "record"), (OUTSIDE, "outside")];
+
+/// What a number is called here; nothing where it is none that a call answers.
+pub fn called(number: u64) -> &'static str {
+    NAMELESS
+        .iter()
+        .find(|&&(known, _)| known == number)
+        .map_or_else(|| name_of(number), |&(_, name)| name)
+}
 
 /// The name of a number; a number without one has the empty name.
 pub fn name_of(number: u64) -> &'static str {
