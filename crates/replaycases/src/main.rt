@@ -2,14 +2,21 @@
 // with its file of expected output, byte for byte.
 #![tactic(auto)]
 
-ghost use Rattle.std.specs.Prelude.{◌+◌, ◌≤◌, length};
-ghost use Rattle.io.specs.Counts.{IsPrefixLen};
+ghost use Rattle.std.specs.Prelude.{◌≡◌, ◌+◌, ◌≤◌, length, take, IfOk};
 ghost use Rattle.benchboard.specs.Sizes.{bench_board, bench_work};
 ghost use Rattle.transcript.specs.Printing.{longest};
 
 use benchboard::{BOARD_WORDS, WORK_WORDS};
-use libc::STDOUT_FILENO;
+use std::io::Read;
+use std::rt::Files;
+use std::{fs, io, str};
 use transcript::Session;
+
+// What a file has behind so many bytes is not read, and what a script prints behind so many is not compared.
+const BUFFER_BYTES: usize = 65536;
+
+// The same of the names of the cases.
+const NAMES_BYTES: usize = 4096;
 
 const NAME_BYTES: usize = 48;
 
@@ -90,30 +97,32 @@ fn difference(scripts: &[u8], expected: &[u8], out: &mut [u8]) -> usize
 }
 
 // Prints the case's line, and answers 1 where the case passed.
-fn judge(name: &[u8], place: usize) -> u64
-    ensures { result ≤ 1 }
+fn judge(rt: &impl Print, name: &[u8], place: usize) -> io::Result<u64>
+    ensures { IfOk result (λ passed. passed ≤ 1) }
 {
-    io::write_all(STDOUT_FILENO, name);
+    rt.write_all(name)?;
     if place == NOWHERE {
-        io::write_all(STDOUT_FILENO, b" ok\n");
-        return 1;
+        println!(rt; " ok")?;
+        return Ok(1);
     }
-    io::write_all(STDOUT_FILENO, b" differs at byte ");
-    io::print_decimal(STDOUT_FILENO, place as u64);
-    io::write_all(STDOUT_FILENO, b"\n");
-    0
+    println!(rt; " differs at byte {place}")?;
+    Ok(0)
 }
 
-// The file of a case's name and a suffix, opened, or -1.
-fn open(name: &[u8], suffix: &[u8]) -> i32 {
+// The file of a case's name and a suffix, opened. A name that is no text names none.
+fn open<R: Files>(rt: &R, name: &[u8], suffix: &[u8]) -> io::Result<R::File> {
     let mut path = [0u8; NAME_BYTES + SUFFIX_BYTES];
     let length = file_name(name, suffix, &mut path);
-    os::open_read(&path[..length])
+    match str::from_utf8(&path[..length]) {
+        Ok(text) => fs::open(rt, text),
+        Err(_) => Err(io::Error::from(io::ErrorKind::InvalidInput)),
+    }
 }
 
 // The name and the suffix, one behind the other. Answers how many bytes they are, or 0 where they are too long.
 fn file_name(name: &[u8], suffix: &[u8], path: &mut [u8]) -> usize
-    ensures { IsPrefixLen result path.new }
+    ensures in_bounds { result ≤ length path.new }
+    ensures taken { result ≡ length (take result path.new) }
 {
     if name.len() > NAME_BYTES {
         return 0;
@@ -128,32 +137,68 @@ fn file_name(name: &[u8], suffix: &[u8], path: &mut [u8]) -> usize
     text::put(path, end, suffix)
 }
 
-fn run_case(name: &[u8]) -> u64
-    ensures { result ≤ 1 }
+// Reads until the buffer is full, or the file is at its end, or a read fails. Answers how many bytes were read.
+fn read_full(file: &mut impl Read, text: &mut [u8]) -> usize
+    ensures in_bounds { result ≤ length text.new }
+    ensures taken { result ≡ length (take result text.new) }
 {
-    let from = open(name, b".script");
-    let wanted = open(name, b".expected");
-    if from < 0 {
-        os::fail(name);
-        return 0;
+    let mut count: usize = 0;
+    while count < text.len() {
+        let more = file.read(&mut text[count..]).unwrap_or(0);
+        if more == 0 {
+            break;
+        }
+        count += more;
     }
-    if wanted < 0 {
-        os::fail(name);
-        return 0;
-    }
-    let mut script = io::large_buffer();
-    let mut expected = io::large_buffer();
-    let mut out = io::large_buffer();
-    let script_bytes = io::read_full(from, &mut script);
-    let expected_bytes = io::read_full(wanted, &mut expected);
-    libc::close(from);
-    libc::close(wanted);
+    count
+}
+
+fn run_files(
+    rt: &impl Print,
+    name: &[u8],
+    from: &mut impl Read,
+    wanted: &mut impl Read,
+) -> io::Result<u64>
+    ensures { IfOk result (λ passed. passed ≤ 1) }
+{
+    let mut script = [0u8; BUFFER_BYTES];
+    let mut expected = [0u8; BUFFER_BYTES];
+    let mut out = [0u8; BUFFER_BYTES];
+    let script_bytes = read_full(from, &mut script);
+    let expected_bytes = read_full(wanted, &mut expected);
     let place = difference(
         &script[..script_bytes],
         &expected[..expected_bytes],
         &mut out,
     );
-    judge(name, place)
+    judge(rt, name, place)
+}
+
+// A case whose files do not open has failed.
+fn fail(rt: &impl Eprint, name: &[u8], error: io::Error) -> io::Result<u64>
+    ensures { IfOk result (λ passed. passed ≤ 1) }
+{
+    let text = str::from_utf8(name).unwrap_or("?");
+    eprintln!(rt; "{text}: {error}")?;
+    Ok(0)
+}
+
+fn run_case<R: Files + Print + Eprint>(rt: &R, name: &[u8]) -> io::Result<u64>
+    ensures { IfOk result (λ passed. passed ≤ 1) }
+{
+    match open(rt, name, b".script") {
+        Err(error) => fail(rt, name, error),
+        Ok(file) => {
+            let mut from = file;
+            match open(rt, name, b".expected") {
+                Err(error) => fail(rt, name, error),
+                Ok(file) => {
+                    let mut wanted = file;
+                    run_files(rt, name, &mut from, &mut wanted)
+                }
+            }
+        }
+    }
 }
 
 // The end of the part of a text that begins at a place: the byte that ends parts, or the end of the text.
@@ -174,26 +219,22 @@ fn part_end(text: &[u8], from: usize, last: u8) -> usize
     end
 }
 
-fn run_all(names: &[u8]) {
+fn run_all<R: Files + Print + Eprint>(rt: &R, names: &[u8]) -> io::Result<()> {
     let mut at = 0;
     let mut cases: u64 = 0;
     let mut passed: u64 = 0;
     while at < names.len() {
         let end = part_end(names, at, b'\n');
-        passed += run_case(&names[at..end]);
+        passed += run_case(rt, &names[at..end])?;
         cases += 1;
         at = end + 1;
     }
-    io::print_decimal(STDOUT_FILENO, cases);
-    io::write_all(STDOUT_FILENO, b" cases, ");
-    io::print_decimal(STDOUT_FILENO, passed);
-    io::write_all(STDOUT_FILENO, b" ok\n");
+    println!(rt; "{cases} cases, {passed} ok")
 }
 
-fn main() {
-    let mut names = io::buffer();
-    let fd = os::open_read(b"cases");
-    let count = io::read_full(fd, &mut names);
-    libc::close(fd);
-    run_all(&names[..count]);
+fn main(rt: HostRuntime) -> io::Result<()> {
+    let mut names = [0u8; NAMES_BYTES];
+    let mut file = fs::open(&rt, "cases")?;
+    let count = read_full(&mut file, &mut names);
+    run_all(&rt, &names[..count])
 }
