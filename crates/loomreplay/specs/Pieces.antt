@@ -20,3 +20,8 @@ pieced s t input board work out board' work' out' f ready h p same_board same_wo
       some = taken_some s input board work out board' work' out' f p ready h;
       most = taken_most s input board work out board' work' out' f p;
     }
+
+-- What is left where a write fails: memories on which a replay could go on.
+pub record Left (board work out : List ℕ) : Type 0 where
+  pub session : Session
+  pub ready : Ready session board work out

@@ -2,90 +2,119 @@
 // and so may its lines: input and output go through buffers of a fixed size.
 #![tactic(auto)]
 
-ghost use Rattle.std.specs.Prelude.{◌≡◌, ◌<◌, ◌≤◌, length};
+ghost use Rattle.std.specs.Prelude.{◌≡◌, ◌<◌, ◌≤◌, length, IfOk, OnErr};
 ghost use Rattle.benchboard.specs.Sizes.{bench_board, bench_work};
-ghost use Rattle.loomreplay.specs.Pieces.{Pieced};
+ghost use Rattle.loomreplay.specs.Pieces.{Pieced, Left};
 ghost use Rattle.transcript.specs.Printing.{longest};
 ghost use Rattle.transcript.specs.Session.{Ready, emptied_session};
 
 use benchboard::{BOARD_WORDS, WORK_WORDS};
-use libc::{STDIN_FILENO, STDOUT_FILENO};
+use std::io;
+use std::io::Read;
 use transcript::{Fed, Session};
 
+// A read goes through a buffer of so many bytes, and so does what is printed.
+const BUFFER_BYTES: usize = 65536;
+
 // Writes out what has been printed.
-fn write_out(session: Session, out: &[u8]) -> Session
+fn write_out(rt: &impl Print, session: Session, out: &[u8]) -> io::Result<Session>
     requires { session.used ≤ length out.now }
-    ensures { result ≡ emptied_session session }
+    ensures { IfOk result (λ after. after ≡ emptied_session session) }
 {
     let used = session.used;
-    io::write_all(STDOUT_FILENO, &out[0..used]);
-    session.emptied()
+    rt.write_all(&out[0..used])?;
+    Ok(session.emptied())
 }
 
-// As much of the input as there is room for, which is some of it.
+// As much of the input as there is room for, which is some of it. Where what is printed can't be written, that is lost, and
+// the memories are left as the replay has them behind the piece: so it is in all that follows.
 fn replay_piece(
+    rt: &impl Print,
     session: Session,
     input: &[u8],
     board: &mut [u64],
     work: &mut [u64],
     out: &mut [u8],
-) -> Fed
+) -> io::Result<Fed>
     requires ready { Ready session board.old work.old out.old }
     requires input_nonzero { 0 < length input.now }
-    ensures { Pieced input.now board.new work.new out.new result }
+    ensures pieced { IfOk result (λ fed. Pieced input.now board.new work.new out.new fed) }
+    ensures left { OnErr result (Left board.new work.new out.new) }
 {
     let fed = transcript::feed_bytes(session, input, board, work, out);
     let after = fed.session;
-    Fed {
-        session: write_out(after, out),
+    Ok(Fed {
+        session: write_out(rt, after, out)?,
         taken: fed.taken,
-    }
+    })
 }
 
 fn replay_bytes(
+    rt: &impl Print,
     session: Session,
     input: &[u8],
     board: &mut [u64],
     work: &mut [u64],
     out: &mut [u8],
-) -> Session
+) -> io::Result<Session>
     requires { Ready session board.old work.old out.old }
-    ensures { Ready result board.new work.new out.new }
+    ensures ready { IfOk result (λ after. Ready after board.new work.new out.new) }
+    ensures left { OnErr result (Left board.new work.new out.new) }
 {
     let mut s = session;
     let mut at = 0;
     while at < input.len() {
-        let fed = replay_piece(s, &input[at..], board, work, out);
+        let fed = replay_piece(rt, s, &input[at..], board, work, out)?;
         s = fed.session;
         at += fed.taken;
     }
-    s
+    Ok(s)
 }
 
-fn replay_end(session: Session, board: &mut [u64], work: &mut [u64], out: &mut [u8]) -> Session
+fn replay_end(
+    rt: &impl Print,
+    session: Session,
+    board: &mut [u64],
+    work: &mut [u64],
+    out: &mut [u8],
+) -> io::Result<Session>
     requires { Ready session board.old work.old out.old }
-    ensures { Ready result board.new work.new out.new }
+    ensures ready { IfOk result (λ after. Ready after board.new work.new out.new) }
+    ensures left { OnErr result (Left board.new work.new out.new) }
 {
     let finished = transcript::finish(session, board, work, out);
-    write_out(finished, out)
+    write_out(rt, finished, out)
 }
 
-// Reads once. Where nothing comes the script is at its end.
-fn replay_some(session: Session, board: &mut [u64], work: &mut [u64], out: &mut [u8]) -> Session
+// Reads once. Where nothing comes, or the read fails, the script is at its end.
+fn replay_some(
+    rt: &impl Print,
+    source: &mut impl Read,
+    session: Session,
+    board: &mut [u64],
+    work: &mut [u64],
+    out: &mut [u8],
+) -> io::Result<Session>
     requires { Ready session board.old work.old out.old }
-    ensures { Ready result board.new work.new out.new }
+    ensures ready { IfOk result (λ after. Ready after board.new work.new out.new) }
+    ensures left { OnErr result (Left board.new work.new out.new) }
 {
-    let mut input = io::large_buffer();
-    let got = libc::read(STDIN_FILENO, &mut input);
-    let count = io::count(got, &input);
+    let mut input = [0u8; BUFFER_BYTES];
+    let count = source.read(&mut input).unwrap_or(0);
     if count == 0 {
-        return replay_end(session, board, work, out);
+        return replay_end(rt, session, board, work, out);
     }
-    replay_bytes(session, &input[..count], board, work, out)
+    replay_bytes(rt, session, &input[..count], board, work, out)
 }
 
 // A proved loop has to end, and nothing says that a script does. So the loop counts its turns down from a number that no run uses up.
-fn replay_all(board: &mut [u64], work: &mut [u64], out: &mut [u8])
+fn replay_all(
+    rt: &impl Print,
+    source: &mut impl Read,
+    board: &mut [u64],
+    work: &mut [u64],
+    out: &mut [u8],
+) -> io::Result<()>
     requires bench_board_in_bounds { bench_board ≤ length board.old }
     requires bench_work_in_bounds { bench_work ≤ length work.old }
     requires longest_in_bounds { longest ≤ length out.old }
@@ -96,14 +125,16 @@ fn replay_all(board: &mut [u64], work: &mut [u64], out: &mut [u8])
         if session.over {
             break;
         }
-        session = replay_some(session, board, work, out);
+        session = replay_some(rt, source, session, board, work, out)?;
         turns -= 1;
     }
+    Ok(())
 }
 
-fn main() {
+fn main(rt: HostRuntime) -> io::Result<()> {
     let mut board = [0u64; BOARD_WORDS];
     let mut work = [0u64; WORK_WORDS];
-    let mut out = io::large_buffer();
-    replay_all(&mut board, &mut work, &mut out);
+    let mut out = [0u8; BUFFER_BYTES];
+    let mut source = rt.stdin();
+    replay_all(&rt, &mut source, &mut board, &mut work, &mut out)
 }

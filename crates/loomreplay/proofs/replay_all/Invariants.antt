@@ -1,0 +1,10 @@
+use mathlib.Core.Path.{◌≡◌}
+use lib.ListN.{length}
+use Rattle.transcript.specs.Session.{Ready}
+use Rattle.loomreplay.proofs.replay_all.Given as goal
+
+abbrev pub invariant-loop-turns : goal.invariant-loop-turns
+invariant-loop-turns g l = (length l.board ≡ length l.initial.board) × (length l.work ≡ length l.initial.work) × (length l.out ≡ length l.initial.out) × Ready l.session l.board l.work l.out
+
+abbrev pub decreases-loop-turns : goal.decreases-loop-turns
+decreases-loop-turns g l = l.turns
