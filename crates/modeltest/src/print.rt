@@ -78,7 +78,7 @@ fn what_differs(rt: &impl Print, d: Difference) -> io::Result<()> {
 }
 
 // The number of calls before this one; the call, its arguments and the registers; what differs.
-fn difference_line(rt: &impl Print, calls: u64, a: Arguments, d: Difference) -> io::Result<()> {
+pub fn difference_line(rt: &impl Print, calls: u64, a: Arguments, d: Difference) -> io::Result<()> {
     let call = a.call;
     named(rt, b"", calls)?;
     text(rt, b": ")?;
@@ -88,7 +88,7 @@ fn difference_line(rt: &impl Print, calls: u64, a: Arguments, d: Difference) -> 
 }
 
 // The same, with no more of the arguments than the words of the board.
-fn board_line(
+pub fn board_line(
     rt: &impl Print,
     calls: u64,
     kind: u64,
