@@ -2,8 +2,9 @@
 // with its file of expected output, byte for byte.
 #![tactic(auto)]
 
-ghost use Rattle.std.specs.Prelude.{◌≡◌, ◌+◌, ◌≤◌, length, take, IfOk};
+ghost use Rattle.std.specs.Prelude.{◌≡◌, ◌+◌, ◌≤◌, length, IfOk};
 ghost use Rattle.benchboard.specs.Sizes.{bench_board, bench_work};
+ghost use Rattle.io.specs.Counts.{IsPrefixLen};
 ghost use Rattle.transcript.specs.Printing.{longest};
 
 use benchboard::{BOARD_WORDS, WORK_WORDS};
@@ -121,8 +122,7 @@ fn open<R: Files>(rt: &R, name: &[u8], suffix: &[u8]) -> io::Result<R::File> {
 
 // The name and the suffix, one behind the other. Answers how many bytes they are, or 0 where they are too long.
 fn file_name(name: &[u8], suffix: &[u8], path: &mut [u8]) -> usize
-    ensures in_bounds { result ≤ length path.new }
-    ensures taken { result ≡ length (take result path.new) }
+    ensures { IsPrefixLen result path.new }
 {
     if name.len() > NAME_BYTES {
         return 0;
@@ -139,8 +139,7 @@ fn file_name(name: &[u8], suffix: &[u8], path: &mut [u8]) -> usize
 
 // Reads until the buffer is full, or the file is at its end, or a read fails. Answers how many bytes were read.
 fn read_full(file: &mut impl Read, text: &mut [u8]) -> usize
-    ensures in_bounds { result ≤ length text.new }
-    ensures taken { result ≡ length (take result text.new) }
+    ensures { IsPrefixLen result text.new }
 {
     let mut count: usize = 0;
     while count < text.len() {

@@ -5,7 +5,7 @@ use Rattle.std.proofs.Math.Path.{ap}
 use Rattle.std.proofs.lemmas.Bool.{lt-leb}
 use Rattle.std.proofs.Math.Nat.{pow-le-pow_right}
 use Rattle.base.specs.Walk.{first_from}
-use Rattle.text.specs.Digits.{last_digits, IsDigitCount}
+use Rattle.io.specs.Digits.{last_digits, IsDigitCount}
 use Rattle.text.specs.Text.{most_digits, decimal_places, decimal_of}
 use Rattle.text.specs.Printing.{Prints, prints_as}
 

@@ -1,4 +1,3 @@
-pub mod Digits
 pub mod Text
 pub mod Printing
 pub mod Examples

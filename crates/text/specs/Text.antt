@@ -4,7 +4,7 @@ use Rattle.base.specs.Walk.{first_from}
 use Rattle.status.specs.declared.Status.{Status}
 use Rattle.status.specs.Names.{name_of}
 use Rattle.status.specs.Numbers.{number_of}
-use Rattle.text.specs.Digits.{last_digits}
+use Rattle.io.specs.Digits.{last_digits}
 
 abbrev pub space_byte : ℕ
 space_byte = 32

@@ -2,9 +2,8 @@
 // what it has put.
 #![tactic(auto)]
 
-ghost use Rattle.std.specs.Prelude.{◌≡◌, ◌+◌, ◌*◌, ◌≤◌, ◌<◌, [], ◌∷◌, length, take, drop};
+ghost use Rattle.std.specs.Prelude.{◌+◌, ◌*◌, ◌≤◌, ◌<◌, [], ◌∷◌, length};
 ghost use Rattle.status.specs.Names.{most_letters};
-ghost use Rattle.text.specs.Digits.{last_digits, IsDigitCount};
 ghost use Rattle.text.specs.Text.{most_digits, number_bytes, decimal_of, numbers_text, name_text};
 ghost use Rattle.text.specs.Printing.{Prints};
 
@@ -39,46 +38,8 @@ fn put_decimal(out: &mut [u8], at: usize, n: u64) -> usize
     ensures { Prints most_digits out.old at (decimal_of n) out.new result }
 {
     let mut digits = [0u8; DIGITS];
-    let count = put_digits(n, &mut digits);
+    let count = io::decimal(n, &mut digits);
     put(out, at, &digits[..count])
-}
-
-// Puts the decimal digits of a number to the start of a buffer, and answers how many they are.
-fn put_digits(n: u64, out: &mut [u8; DIGITS]) -> usize
-    ensures in_bounds { result ≤ length out.new }
-    ensures taken { result ≡ length (take result out.new) }
-    ensures count { IsDigitCount 10 1 n result }
-    ensures digits { take result out.new ≡ last_digits 10 result n }
-{
-    let count = count_digits(n);
-    put_last_digits(n, count, out);
-    count
-}
-
-fn count_digits(n: u64) -> usize
-    ensures { IsDigitCount 10 1 n result }
-{
-    let mut count: usize = 1;
-    let mut rest = n / 10;
-    while rest > 0 {
-        rest /= 10;
-        count += 1;
-    }
-    count
-}
-
-// The last digits of a number, so many, to the start of a buffer.
-fn put_last_digits(n: u64, count: usize, out: &mut [u8])
-    requires { count ≤ length out.old }
-    ensures { take count out.new ≡ last_digits 10 count n }
-{
-    let mut i = count;
-    let mut rest = n;
-    while i > 0 {
-        i -= 1;
-        out[i] = b'0' + (rest % 10) as u8;
-        rest /= 10;
-    }
 }
 
 // Each number with a space before it.
