@@ -1,6 +1,8 @@
 # An LLVM module as text, made ready for a target: the one store by which board::put puts a word on a board is marked volatile, so that a
 # compiler keeps the order of these stores and makes each of them whole; and what binds the module to the toolchain's own processor
-# is taken out (data layout, the processor's name) or replaced (the triple, which -v triple=.. gives).
+# is taken out (data layout, the processor's name) or replaced (the triple, which -v triple=.. gives). The exports' pointers are marked as
+# not null, which is their caller's duty (include/picl.h): the toolchain puts another address in the place of one that is null, which
+# costs each call some twenty instructions.
 #
 # It fails, and says why, unless the module has one board::put, whose parameters are the part of the board and its length, place, word and
 # meter, and in which exactly one store goes to memory that is not the function's own; it must be the store of that word.
@@ -40,6 +42,8 @@ function read_store(line,    words) {
 /^target datalayout = / { next }
 /^target triple = / { $0 = "target triple = \"" triple "\"" }
 /^attributes / { gsub(/ "target-(cpu|features)"="[^"]*"/, "") }
+
+/^define .*@picl_/ { exported += gsub(/ptr noundef %/, "ptr noundef nonnull %") }
 
 /^define .*@"board::put"\(/ {
     found++
@@ -94,4 +98,6 @@ END {
         refuse("the module has " found + 0 " functions board::put, and not one")
     if (marked != 1)
         refuse("board::put has " marked + 0 " stores of the word in the module, and not one")
+    if (!exported)
+        refuse("no export of the module has a pointer as a parameter")
 }
