@@ -141,7 +141,7 @@ pub fn buffer_at(words: usize) -> usize
 }
 
 // The control word: the persisted epoch, and where in the ring the log starts and how many entries it has.
-#[derive(Clone, Copy)]
+#[derive(Clone, Copy, Debug, PartialEq, Eq)]
 pub struct Control {
     pub persisted: u64,
     pub start: u64,
@@ -153,15 +153,23 @@ const CONTROL_START: u64 = PLACES;
 
 const CONTROL_PERSISTED: u64 = CONTROL_START * PLACES;
 
-impl Control {
-    pub fn decode(word: u64) -> Control
-        ensures { Decoded ControlFits (decode_control word) result }
-    {
+impl From<u64> for Control {
+    ghost from_gives = { λ word fields. Decoded ControlFits (decode_control word) fields };
+
+    fn from(word: u64) -> Control {
         Control {
             persisted: word / CONTROL_PERSISTED,
             start: word / CONTROL_START % PLACES,
             length: word % PLACES,
         }
+    }
+}
+
+impl Control {
+    pub fn decode(word: u64) -> Control
+        ensures { Decoded ControlFits (decode_control word) result }
+    {
+        Control::from(word)
     }
 
     pub fn encode(self) -> u64
@@ -173,7 +181,7 @@ impl Control {
 }
 
 // The shape word: the board format's version, the number of lines and the number of log entries that the board has place for.
-#[derive(Clone, Copy)]
+#[derive(Clone, Copy, Debug, PartialEq, Eq)]
 pub struct Shape {
     pub version: u64,
     pub lines: u64,
@@ -184,15 +192,23 @@ const SHAPE_LINES: u64 = SIZES;
 
 const SHAPE_VERSION: u64 = SHAPE_LINES * SIZES;
 
-impl Shape {
-    pub fn decode(word: u64) -> Shape
-        ensures { Decoded ShapeFits (decode_shape word) result }
-    {
+impl From<u64> for Shape {
+    ghost from_gives = { λ word fields. Decoded ShapeFits (decode_shape word) fields };
+
+    fn from(word: u64) -> Shape {
         Shape {
             version: word / SHAPE_VERSION,
             lines: word / SHAPE_LINES % SIZES,
             entries: word % SIZES,
         }
+    }
+}
+
+impl Shape {
+    pub fn decode(word: u64) -> Shape
+        ensures { Decoded ShapeFits (decode_shape word) result }
+    {
+        Shape::from(word)
     }
 
     pub fn encode(self) -> u64
@@ -212,7 +228,7 @@ impl Shape {
 
 // The first word of an undo entry: the old data was that of the line at address until epoch `till`, that one not included
 // (ValidTill), and from so many epochs before it on as the span says (ValidFrom is till - span).
-#[derive(Clone, Copy)]
+#[derive(Clone, Copy, Debug, PartialEq, Eq)]
 pub struct Entry {
     pub address: u64,
     pub till: u64,
@@ -223,15 +239,23 @@ const ENTRY_TILL: u64 = SPANS;
 
 const ENTRY_ADDRESS: u64 = ENTRY_TILL * EPOCHS;
 
-impl Entry {
-    pub fn decode(word: u64) -> Entry
-        ensures { Decoded EntryFits (decode_entry word) result }
-    {
+impl From<u64> for Entry {
+    ghost from_gives = { λ word fields. Decoded EntryFits (decode_entry word) fields };
+
+    fn from(word: u64) -> Entry {
         Entry {
             address: word / ENTRY_ADDRESS,
             till: word / ENTRY_TILL % EPOCHS,
             span: word % SPANS,
         }
+    }
+}
+
+impl Entry {
+    pub fn decode(word: u64) -> Entry
+        ensures { Decoded EntryFits (decode_entry word) result }
+    {
+        Entry::from(word)
     }
 
     pub fn encode(self) -> u64
@@ -286,7 +310,7 @@ pub fn is_formed_word(word: u64) -> bool
 
 // The slot word: whether the slot holds a line and whether that is dirty, the line's address, the epoch of its last
 // store (0 where clean), and the bits that are kept zero.
-#[derive(Clone, Copy)]
+#[derive(Clone, Copy, Debug, PartialEq, Eq)]
 pub struct Slot {
     pub valid: bool,
     pub dirty: bool,
@@ -343,10 +367,10 @@ pub fn bit(flag: bool) -> u64
     flag as u64
 }
 
-impl Slot {
-    pub fn decode(word: u64) -> Slot
-        ensures { Decoded SlotFits (decode_slot word) result }
-    {
+impl From<u64> for Slot {
+    ghost from_gives = { λ word fields. Decoded SlotFits (decode_slot word) fields };
+
+    fn from(word: u64) -> Slot {
         Slot {
             valid: word / SLOT_VALID == 1,
             dirty: word / SLOT_DIRTY % FLAGS == 1,
@@ -354,6 +378,14 @@ impl Slot {
             tag: word / SLOT_TAG % EPOCHS,
             spare: word % SPARES,
         }
+    }
+}
+
+impl Slot {
+    pub fn decode(word: u64) -> Slot
+        ensures { Decoded SlotFits (decode_slot word) result }
+    {
+        Slot::from(word)
     }
 
     pub fn encode(self) -> u64
@@ -369,7 +401,7 @@ impl Slot {
 }
 
 // The first word of a trace's record: the call's kind, the line's address, and the bits that are kept zero.
-#[derive(Clone, Copy)]
+#[derive(Clone, Copy, Debug, PartialEq, Eq)]
 pub struct Record {
     pub kind: u64,
     pub address: u64,
@@ -380,15 +412,23 @@ const RECORD_ADDRESS: u64 = RECORD_SPARES;
 
 const RECORD_KIND: u64 = RECORD_ADDRESS * ADDRESSES;
 
-impl Record {
-    pub fn decode(word: u64) -> Record
-        ensures { Decoded RecordFits (decode_record word) result }
-    {
+impl From<u64> for Record {
+    ghost from_gives = { λ word fields. Decoded RecordFits (decode_record word) fields };
+
+    fn from(word: u64) -> Record {
         Record {
             kind: word / RECORD_KIND,
             address: word / RECORD_ADDRESS % ADDRESSES,
             spare: word % RECORD_SPARES,
         }
+    }
+}
+
+impl Record {
+    pub fn decode(word: u64) -> Record
+        ensures { Decoded RecordFits (decode_record word) result }
+    {
+        Record::from(word)
     }
 
     pub fn encode(self) -> u64

@@ -5,7 +5,7 @@ use mathlib.Core.List.{List, [], ◌++◌}
 use native.Mathlib.Omega.{arith}
 use borrow.Author.Tests.{lt-leb}
 use lib.ListN.{length, take, drop, length-drop}
-use lib.Seq.{length-take-le, take-length}
+use lib.Seq.{length-take-le}
 use Rattle.status.specs.declared.names.Span.{Span}
 use Rattle.status.specs.Names.{names, most_letters, name_of, with_name, PutsName}
 use Rattle.status.specs.Letters.{letters, Spans}

@@ -9,29 +9,37 @@ ghost use Rattle.status.specs.Numbers.{number_of, is_ok, is_cut};
 pub use names::put_name;
 
 // In the order in which their numbers were given out.
-#[derive(Clone, Copy)]
+#[derive(Clone, Copy, Debug, PartialEq, Eq)]
 pub enum Status {
-    Ok,
-    Shape,
-    Work,
-    Entry,
-    Regs,
-    Address,
-    Slot,
-    Buffer,
-    Room,
-    Waiting,
-    Last,
-    None,
-    Cut,
-    Trace,
-    Filter,
-    Short,
-    Past,
-    LogHeld,
-    Target,
-    Record,
-    Outside,
+    Ok = 0,
+    Shape = 1,
+    Work = 2,
+    Entry = 3,
+    Regs = 4,
+    Address = 5,
+    Slot = 6,
+    Buffer = 7,
+    Room = 8,
+    Waiting = 9,
+    Last = 10,
+    None = 11,
+    Cut = 12,
+    Trace = 13,
+    Filter = 14,
+    Short = 16,
+    Past = 17,
+    LogHeld = 18,
+    Target = 15,
+    Record = 19,
+    Outside = 20,
+}
+
+impl From<Status> for u64 {
+    ghost from_gives = { λ status number. number ≡ number_of status };
+
+    fn from(status: Status) -> u64 {
+        status as u64
+    }
 }
 
 const OK: u64 = 0;

@@ -1,9 +1,9 @@
 use Rattle.std.proofs.Common.{refl}
 use Rattle.layout.specs.Fields.{width}
-use Rattle.layout.specs.Laws.{control_laws}
+use Rattle.layout.specs.Laws.{record_laws}
 use Rattle.layout.specs.Reading.{lower, read, decoded}
-use Rattle.layout.proofs.Control.decode.Goals as goal
+use Rattle.layout.proofs.RecordFromU64.from.Goals as goal
 
 pub returns : goal.returns
 unfolding width lower read
-returns c = decoded control_laws refl _ c.ranges.word.fits
+returns c = decoded record_laws refl _ c.ranges.word.fits
