@@ -2,8 +2,6 @@
 use Rattle.std.specs.Prelude.{ℕ, ◌+◌, ◌-◌, ◌*◌, ◌<◌, ◌≤◌, ◌≡◌, refl, List, [], ◌∷◌, ◌++◌, length, get_or, set, take, drop}
 use Rattle.std.proofs.Common.{sym, ap₂, ◌∙◌, append_assoc, append-nil, add-one, arith, length-append, length-drop, take-append-drop, take_all, take-suc, take-suc-set, take_at, drop_at, drop-drop, drop-set-lt, length-take-le}
 use Rattle.std.proofs.Math.Path.{ap}
-use Rattle.std.proofs.Math.Seq.{paste, paste-suc}
-use Rattle.std.proofs.lemmas.List.Edits.{take-paste, drop-paste}
 use Rattle.base.specs.Parts.{rest_lent, rest_back}
 use Rattle.status.specs.declared.Status.{Status}
 use Rattle.status.specs.Names.{most_letters, name_of, PutsName}
@@ -55,24 +53,21 @@ prints_byte out at b h =
       behind = drop-set-lt (at + 1) out at b (omega arith);
     }
 
--- ── a text that is copied byte by byte ──
-
-pub copy_next : (out out' text : List ℕ) (at i : ℕ) → out' ≡ paste out at text i → i < length text → at + length text ≤ length out
-    → set out' (at + i) (get_or text i 0) ≡ paste out at text (i + 1)
-copy_next out out' text at i e h g = rw (add-one, e) (paste-suc out at text i 0 (omega (arith, h, g)) h)
-
-pub copy_done : (out out' text : List ℕ) (at i : ℕ) → out' ≡ paste out at text i → length text ≤ i → i ≤ length text → at + length text ≤ length out
-    → Prints (length text) out at text out' (at + length text)
-copy_done out out' text at i e h g f =
-    let all : i ≡ length text = omega (arith, h, g) in
-    let is = rw all at e in
-    record {
+-- a text that was copied to its place in the buffer
+pub prints_copied : (out text part : List ℕ) (at : ℕ) → at + length text ≤ length out → part ≡ text
+    → Prints (length text) out at text (take at out ++ (part ++ drop (at + length text - at) (drop at out))) (at + length text)
+prints_copied out text part at h e =
+    let end : at + (at + length text - at) ≡ at + length text = omega arith in
+    let rest = drop (at + length text) out in
+    let front : length (take at out ++ text) ≡ at + length text
+    = rw length-append (ap (λ (n : ℕ). n + length text) (length-take-le at out (omega arith))) in
+    rw (e, drop-drop (at + length text - at) at out, end, ← (append_assoc (take at out) text rest))
+    (record {
       short = omega arith;
       end = refl;
-      shown = rw is (take-paste out at text (length text) (omega (arith, f)) (omega arith)
-          ∙ ap (λ (x : List ℕ). take at out ++ x) (take_all (length text) text (omega arith)));
-      behind = rw is (drop-paste out at text (length text) (omega (arith, f)) (omega arith));
-    }
+      shown = take_at (take at out ++ text) rest (at + length text) front;
+      behind = drop_at (take at out ++ text) rest (at + length text) front;
+    })
 
 -- ── numbers ──
 

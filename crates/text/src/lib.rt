@@ -25,12 +25,9 @@ pub fn put(out: &mut [u8], at: usize, text: &[u8]) -> usize
     requires { at + length text.now ≤ length out.old }
     ensures { Prints (length text.now) out.old at text.now out.new result }
 {
-    let mut i = 0;
-    while i < text.len() {
-        out[at + i] = text[i];
-        i += 1;
-    }
-    at + text.len()
+    let end = at + text.len();
+    out[at..end].copy_from_slice(text);
+    end
 }
 
 fn put_decimal(out: &mut [u8], at: usize, n: u64) -> usize
@@ -48,11 +45,9 @@ pub fn put_numbers(out: &mut [u8], at: usize, numbers: &[u64]) -> usize
     ensures { Prints (number_bytes * length numbers.now) out.old at (numbers_text numbers.now) out.new result }
 {
     let mut end = at;
-    let mut i = 0;
-    while i < numbers.len() {
+    for number in numbers {
         end = put_byte(out, end, b' ');
-        end = put_decimal(out, end, numbers[i]);
-        i += 1;
+        end = put_decimal(out, end, *number);
     }
     end
 }
