@@ -7,7 +7,7 @@ ghost use Rattle.layout.specs.ByteWords.{words_of};
 ghost use Rattle.text.specs.Printing.{Prints};
 ghost use Rattle.image.specs.Image.{image_of};
 
-// The words of an image, to a memory of as many.
+// The words of an image, to a memory of as many. It is public as it was: what an image's readers call stands beside what its writers call.
 pub fn read(words: &mut [u64], image: &[u8])
     requires { length image.now ≡ bytes_of_word * length words.old }
     ensures { words.new ≡ words_of image.now }
@@ -19,8 +19,7 @@ fn put_word(out: &mut [u8], at: usize, word: u64) -> usize
     requires { at + bytes_of_word ≤ length out.old }
     ensures { Prints bytes_of_word out.old at (bytes_of word) out.new result }
 {
-    let bytes = layout::bytes_of(word);
-    text::put(out, at, &bytes)
+    text::put(out, at, &layout::bytes_of(word))
 }
 
 // The image of the words of a memory, to the start of a buffer. Answers how many bytes it has.
@@ -29,10 +28,8 @@ pub fn write(out: &mut [u8], words: &[u64]) -> usize
     ensures { Prints (bytes_of_word * length words.now) out.old 0 (image_of words.now) out.new result }
 {
     let mut end: usize = 0;
-    let mut k: usize = 0;
-    while k < words.len() {
-        end = put_word(out, end, words[k]);
-        k += 1;
+    for word in words {
+        end = put_word(out, end, *word);
     }
     end
 }
