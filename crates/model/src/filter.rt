@@ -16,15 +16,23 @@ fn second_bit(address: u64) -> u64 {
     address % MODULUS * FACTOR % MODULUS / DIVISOR
 }
 
+// The place of the word that has a bit.
+fn bit_place(work: &[u64], bit: u64) -> u64 {
+    filter_place(work, bit / WORD_BITS)
+}
+
 // "Bit 0 is the most significant bit of the first word."
+fn bit_word(bit: u64) -> u64 {
+    LEADING_BIT >> (bit % WORD_BITS)
+}
+
 fn is_set(work: &[u64], bit: u64) -> bool {
-    let place = filter_place(slot_count(work), bit / WORD_BITS);
-    word_at(work, place) & (LEADING_BIT >> (bit % WORD_BITS)) != 0
+    word_at(work, bit_place(work, bit)) & bit_word(bit) != 0
 }
 
 fn set_bit(work: &mut [u64], bit: u64) {
-    let place = filter_place(slot_count(work), bit / WORD_BITS);
-    let word = word_at(work, place) | (LEADING_BIT >> (bit % WORD_BITS));
+    let place = bit_place(work, bit);
+    let word = word_at(work, place) | bit_word(bit);
     set_word(work, place, word);
 }
 

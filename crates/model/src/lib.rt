@@ -4,10 +4,13 @@
 // where they are asked for. The comments quote the paper.
 #![tactic(auto)]
 
+mod answers;
 mod conversion;
 mod effects;
+mod fields;
 mod filter;
 mod hex_reading;
+mod layouts;
 mod old_words;
 mod reference_machine;
 mod refusals;
@@ -15,9 +18,11 @@ mod registers;
 mod sets;
 mod words;
 
+pub use answers::{Answer, Refusal, Status};
 pub use conversion::convert;
 use effects::*;
-pub use hex_reading::{Reader, Taken, take_record};
+pub use hex_reading::{Reader, take_record};
+use layouts::*;
 pub use reference_machine::Reference;
 use refusals::*;
 pub use registers::Registers;
@@ -27,56 +32,35 @@ use words::*;
 // "Value 1 if held."
 const HELD: u64 = 1;
 
-// A call's answer: its number in the table, its value, the board stores made, the registers.
-#[derive(Clone, Copy)]
-pub struct Answer {
-    pub number: u64,
-    pub value: u64,
-    pub stores: u64,
-    pub registers: Registers,
-}
-
-// An answer that reports no store. "Numbers 1 to 11 return value 0 (3 excepted), 0 stores, registers
-// as given (power-up: all zero), both memories as given."
-pub fn answered(number: u64, value: u64, registers: Registers) -> Answer {
-    Answer {
-        number,
-        value,
-        stores: 0,
-        registers,
-    }
-}
-
 // "Format (N, L): every board word zero, but for the shape word. Not protected against a cut;
 // reports 0 stores."
 pub fn format(board: &mut [u64], lines: u64, entries: u64) -> Answer {
-    if !size_good(board, lines, entries) {
-        return answered(SHAPE, 0, Registers::zero());
+    if !size_good::<Today>(board, lines, entries) {
+        return Answer::refused(Refusal::Shape, Registers::default());
     }
-    zero_from(board, 0);
+    board.fill(0);
     set_word(board, SHAPE_PLACE, shape_word(lines, entries));
-    answered(OK, 0, Registers::zero())
+    Answer::ok(0, Registers::default())
 }
 
-// "Power-up: from the newest log entry to the oldest ..", as `log_undone` says. "Then work memory all
+// "Power-up: from the newest log entry to the oldest ..", as `Run::recover` says. "Then work memory all
 // zero, s = P + 1, b = 0, c = 0." No slot is dirty then, so their count is 0; and no pass has begun, so
 // the target is 0. Its rows are 1, 2, 3, "value is i of the first", and 12. Of the registers "Power-up
 // takes none and returns them"; refused, it returns them "all zero".
 pub fn power_up(board: &mut [u64], work: &mut [u64], allowance: u32) -> Answer {
-    let number = memory_refusal(board, work);
-    if number != OK {
-        return answered(number, 0, Registers::zero());
+    if let Err(refusal) = memories_pass(board, work) {
+        return Answer::refused(refusal, Registers::default());
     }
-    let improper = first_improper(board);
-    let header = header_of(board);
-    if improper < header.length {
-        return answered(ENTRY, improper, Registers::zero());
+    if let Some(i) = first_improper::<Today>(board) {
+        return Answer::improper(i);
     }
-    let mut registers = Registers::zero();
-    registers.epoch = sum(header.persisted, 1);
-    let run = log_undone(board, started(registers, allowance));
-    zero_from(work, 0);
-    finished(work, run)
+    let registers = Registers {
+        epoch: header_of::<Today>(board).persisted.wrapping_add(1),
+        ..Registers::default()
+    };
+    let mut run = Run::started(board, work, registers, allowance);
+    run.recover();
+    run.finished(0)
 }
 
 // "Load (a): a held line gives its data. Otherwise the slot is emptied, then filled clean from
@@ -88,18 +72,17 @@ pub fn load(
     address: u64,
     allowance: u32,
 ) -> Answer {
-    let number = line_refusal(board, work, registers, address);
-    if number != OK {
-        return answered(number, 0, registers);
+    if let Err(refusal) = State::of(board, work, registers).may_load(address) {
+        return Answer::refused(refusal, registers);
     }
     let k = slot_for(work, address);
-    let mut run = brought_in(board, work, started(registers, allowance), k, address);
-    let slot = slot_at(work, k);
-    run.value = slot.line_data;
-    finished(work, run)
+    let mut run = Run::started(board, work, registers, allowance);
+    run.bring_in(k, address);
+    let line_data = run.slot(k).line_data;
+    run.finished(line_data)
 }
 
-// Store: its tests, then what `stored` says.
+// Store: its tests, then what `Run::store` says.
 pub fn store(
     board: &mut [u64],
     work: &mut [u64],
@@ -108,12 +91,12 @@ pub fn store(
     value: u64,
     allowance: u32,
 ) -> Answer {
-    let number = store_refusal(board, work, registers, address);
-    if number != OK {
-        return answered(number, 0, registers);
+    if let Err(refusal) = State::of(board, work, registers).may_store(address) {
+        return Answer::refused(refusal, registers);
     }
-    let run = stored(board, work, started(registers, allowance), address, value);
-    finished(work, run)
+    let mut run = Run::started(board, work, registers, allowance);
+    run.store(address, value);
+    run.finished(0)
 }
 
 // "Evict (a): empties the slot if it holds a; otherwise nothing, value 0. Value 1 if held."
@@ -124,17 +107,16 @@ pub fn evict(
     address: u64,
     allowance: u32,
 ) -> Answer {
-    let number = line_refusal(board, work, registers, address);
-    if number != OK {
-        return answered(number, 0, registers);
+    if let Err(refusal) = State::of(board, work, registers).may_load(address) {
+        return Answer::refused(refusal, registers);
     }
     let k = slot_for(work, address);
     if !holds(work, k, address) {
-        return answered(OK, 0, registers);
+        return Answer::ok(0, registers);
     }
-    let mut run = emptied(board, work, started(registers, allowance), k);
-    run.value = HELD;
-    finished(work, run)
+    let mut run = Run::started(board, work, registers, allowance);
+    run.empty(k);
+    run.finished(HELD)
 }
 
 // "Commit: s becomes s + 1." No store is ever due, so that no allowance is too small.
@@ -144,68 +126,65 @@ pub fn commit(
     registers: Registers,
     _allowance: u32,
 ) -> Answer {
-    let number = commit_refusal(board, work, registers);
-    if number != OK {
-        return answered(number, 0, registers);
+    if let Err(refusal) = State::of(board, work, registers).may_commit() {
+        return Answer::refused(refusal, registers);
     }
-    let mut next = registers;
-    next.epoch = sum(registers.epoch, 1);
-    answered(OK, 0, next)
+    let epoch = registers.epoch.wrapping_add(1);
+    Answer::ok(0, Registers { epoch, ..registers })
 }
 
 // "A begin call takes a target from P + 1 to s - 1; it visits no slot": "The registers gain the
 // target". "like every later call without board stores, it takes no allowance and reports 0".
 pub fn begin(board: &[u64], work: &[u64], registers: Registers, target: u64) -> Answer {
-    let number = begin_refusal(board, work, registers, target);
-    if number != OK {
-        return answered(number, 0, registers);
+    if let Err(refusal) = State::of(board, work, registers).may_begin(target) {
+        return Answer::refused(refusal, registers);
     }
-    let mut next = registers;
-    next.target = target;
-    answered(OK, 0, next)
+    Answer::ok(
+        0,
+        Registers {
+            target,
+            ..registers
+        },
+    )
 }
 
-// Scan: its tests, then what `scanned` says.
+// Scan: its tests, then what `Run::scan` says.
 pub fn scan(board: &mut [u64], work: &mut [u64], registers: Registers, allowance: u32) -> Answer {
-    let number = scan_refusal(board, work, registers);
-    if number != OK {
-        return answered(number, 0, registers);
+    if let Err(refusal) = State::of(board, work, registers).may_scan() {
+        return Answer::refused(refusal, registers);
     }
-    let run = scanned(board, work, started(registers, allowance));
-    finished(work, run)
+    let mut run = Run::started(board, work, registers, allowance);
+    let value = run.scan();
+    run.finished(value)
 }
 
 // "the old count", as the tally was before request 5/13: "the number of slot words whose valid and
 // dirty bits are both 1, whatever else they hold".
 pub fn dirty_count(work: &[u64]) -> u64 {
-    let mut count = 0;
-    for k in 0..slot_count(work) {
+    let is_dirty = |k| {
         let slot = slot_at(work, k);
-        count = sum(count, slot.valid & slot.dirty);
-    }
-    count
+        slot.valid && slot.dirty
+    };
+    (0..slot_count(work)).filter(|&k| is_dirty(k)).count() as u64
 }
 
 // Tally: "The tally is then read from the registers". It returns none: those of its answer are zero.
 pub fn tally(board: &[u64], work: &[u64], registers: Registers) -> Answer {
-    let number = state_refusal(board, work, registers);
-    if number != OK {
-        return answered(number, 0, Registers::zero());
+    match State::of(board, work, registers).passes() {
+        Ok(()) => Answer::ok(registers.dirty, Registers::default()),
+        Err(refusal) => Answer::refused(refusal, Registers::default()),
     }
-    answered(OK, registers.dirty, Registers::zero())
 }
 
 // "A status question gives the number of filter bits set, and refuses only by number 2; like every
 // later call without board stores, it takes no allowance and reports 0."
 pub fn filter_bits(work: &[u64]) -> Answer {
     if !work_good(work) {
-        return answered(WORK, 0, Registers::zero());
+        return Answer::refused(Refusal::Work, Registers::default());
     }
-    let slots = slot_count(work);
-    let mut count: u32 = 0;
-    for i in 0..FILTER_WORDS {
-        let word = word_at(work, filter_place(slots, i));
-        count = std::num::wrapping_add_u32(count, u64::count_ones(word));
-    }
-    answered(OK, count as u64, Registers::zero())
+    let count = (0..FILTER_WORDS).fold(0, |count: u64, i| {
+        let word = word_at(work, filter_place(work, i));
+        count.wrapping_add(u64::from(word.count_ones()))
+    });
+    Answer::ok(count, Registers::default())
 }

@@ -1,16 +1,13 @@
 // "The uncached loom", in the field's term a reference machine: it has neither cache nor log, and
 // recovery is judged by its copies of the lines.
-use crate::refusals::OK;
-use crate::words::{sum, word_at};
+ghost use Rattle.std.specs.Prelude.{◌<◌};
 
 // The most lines that the machine has: those of a board of 300 words with one log entry.
 const LINE_CAPACITY: usize = 296;
 
 // Copies are kept of the epochs p to e - 1, at most 16 since s - P is at most 16: that of an epoch
-// at its number modulo 16, in one array, 296 words to a copy.
-const COPIES: u64 = 16;
-
-const COPY_WORDS: usize = 4736;
+// at its number modulo 16.
+const COPIES: usize = 16;
 
 // "State: N lines, running epoch e, persisted epoch p, copies of the lines by epoch."
 #[derive(Clone, Copy)]
@@ -19,7 +16,14 @@ pub struct Reference {
     pub running_epoch: u64,
     pub persisted_epoch: u64,
     pub lines: [u64; LINE_CAPACITY],
-    pub copies: [u64; COPY_WORDS],
+    copies: [[u64; LINE_CAPACITY]; COPIES],
+}
+
+// Where the copy of an epoch is kept.
+fn copy_place(epoch: u64) -> usize
+    ensures { result < 16 }
+{
+    epoch as usize % COPIES
 }
 
 impl Reference {
@@ -30,86 +34,63 @@ impl Reference {
             running_epoch: 1,
             persisted_epoch: 0,
             lines: [0; LINE_CAPACITY],
-            copies: [0; COPY_WORDS],
+            copies: [[0; LINE_CAPACITY]; COPIES],
         }
     }
 
-    // "Store: line a becomes the value." "All else, refused and cut calls too, changes nothing."
-    pub fn store(self, number: u64, address: u64, value: u64) -> Reference {
-        let at = address as usize;
-        if number != OK || address >= self.line_count {
-            return self;
+    // "Store: line a becomes the value." This and the next three are told of accepted calls: "All else, refused and
+    // cut calls too, changes nothing."
+    pub fn store(&mut self, address: u64, value: u64) {
+        if address >= self.line_count {
+            return;
         }
-        if at >= LINE_CAPACITY {
-            return self;
+        if let Some(line) = self.lines.get_mut(address as usize) {
+            *line = value;
         }
-        let mut next = self;
-        next.lines[at] = value;
-        next
     }
 
     // "Commit: the lines become copy e; e rises by one."
-    pub fn commit(self, number: u64) -> Reference {
-        if number != OK {
-            return self;
-        }
-        let start = (self.running_epoch % COPIES) as usize * LINE_CAPACITY;
-        let mut next = self;
-        for i in 0..LINE_CAPACITY {
-            next.copies[start + i] = self.lines[i];
-        }
-        next.running_epoch = sum(self.running_epoch, 1);
-        next
+    pub fn commit(&mut self) {
+        self.copies[copy_place(self.running_epoch)] = self.lines;
+        self.running_epoch = self.running_epoch.wrapping_add(1);
     }
 
     // "Scan with a value not 0: p is that value."
-    pub fn scan(self, number: u64, value: u64) -> Reference {
-        if number != OK || value == 0 {
-            return self;
+    pub fn scan(&mut self, value: u64) {
+        if value != 0 {
+            self.persisted_epoch = value;
         }
-        let mut next = self;
-        next.persisted_epoch = value;
-        next
     }
 
     // "Power-up: the lines become copy p; later copies are forgotten; e = p + 1." Forgotten: none
     // is read before a commit has written it anew.
-    pub fn power_up(self, number: u64) -> Reference {
-        if number != OK {
-            return self;
-        }
-        let start = (self.persisted_epoch % COPIES) as usize * LINE_CAPACITY;
-        let mut next = self;
-        for i in 0..LINE_CAPACITY {
-            next.lines[i] = self.copies[start + i];
-        }
-        next.running_epoch = sum(self.persisted_epoch, 1);
-        next
+    pub fn power_up(&mut self) {
+        self.lines = self.copies[copy_place(self.persisted_epoch)];
+        self.running_epoch = self.persisted_epoch.wrapping_add(1);
     }
 
     // After Intel HEX records "the crash rule starts again, the uncached loom's p being the board's P and copy p the
     // board's lines as they then stand": a commit in epoch p makes that copy.
-    pub fn restarted(self, board_lines: &[u64], persisted: u64) -> Reference {
-        let mut next = self;
-        for i in 0..LINE_CAPACITY {
-            next.lines[i] = word_at(board_lines, i as u64);
+    pub fn restart(&mut self, board_lines: &[u64], persisted: u64) {
+        self.lines = [0; LINE_CAPACITY];
+        for (line, word) in self.lines.iter_mut().zip(board_lines.iter()) {
+            *line = *word;
         }
-        next.persisted_epoch = persisted;
-        next.running_epoch = persisted;
-        next.commit(OK)
+        self.persisted_epoch = persisted;
+        self.running_epoch = persisted;
+        self.commit();
     }
 
     // The word of a line now; 0 where there is no such line.
-    pub fn line(self, address: u64) -> u64 {
-        let at = address as usize;
-        if address >= self.line_count || at >= LINE_CAPACITY {
+    pub fn line(&self, address: u64) -> u64 {
+        if address >= self.line_count {
             return 0;
         }
-        self.lines[at]
+        self.lines.get(address as usize).copied().unwrap_or(0)
     }
 
     // The persisted epoch p.
-    pub fn persisted(self) -> u64 {
+    pub fn persisted(&self) -> u64 {
         self.persisted_epoch
     }
 }

@@ -1,371 +1,291 @@
-// The table of "What an answer says": its numbers, and the tests of each. "The lowest number wins",
+// The table of "What an answer says": the tests of each call. "The lowest number wins",
 // but that 14 is "tested right after 7 wherever 7 is", and that a count of dirty slots which a slot
 // tested belies "answers 4" only "right after 6".
-use crate::Registers;
+use crate::answers::Refusal;
 use crate::filter::both_set;
+use crate::layouts::*;
+use crate::registers::Registers;
 use crate::sets::*;
 use crate::words::*;
 
-// "Returned: number, name".
-pub const OK: u64 = 0;
-
-pub const SHAPE: u64 = 1;
-
-pub const WORK: u64 = 2;
-
-pub const ENTRY: u64 = 3;
-
-pub const REGISTERS: u64 = 4;
-
-pub const ADDRESS: u64 = 5;
-
-pub const SLOT: u64 = 6;
-
-pub const BUFFER: u64 = 7;
-
-pub const ROOM: u64 = 8;
-
-pub const WAITING: u64 = 9;
-
-pub const LAST: u64 = 10;
-
-pub const NONE: u64 = 11;
-
-pub const CUT: u64 = 12;
-
-// "14 filter, a buffered entry with either bit unset".
-pub const FILTER: u64 = 14;
-
-// "15 target, a begin call inside a pass or with a target out of range".
-pub const TARGET: u64 = 15;
-
-// "18 logheld, log length not 0".
-pub const LOG_HELD: u64 = 18;
-
-// "19 record, a malformed record, a wrong sum or one after the end; 20 outside, data not at a multiple of 8, running
-// over its bank or past the last line".
-pub const RECORD: u64 = 19;
-
-pub const OUTSIDE: u64 = 20;
-
 // "1 shape: .. N or L out of range; wrong word count": "Format's shape test reads its arguments and
 // the word count only."
-pub fn size_good(board: &[u64], lines: u64, entries: u64) -> bool {
-    if lines < 1 || lines > MOST_LINES {
-        return false;
-    }
-    if entries < 1 || entries > MOST_ENTRIES {
-        return false;
-    }
-    board.len() as u64 == line_place(entries, lines)
+pub fn size_good<L: Layout>(board: &[u64], lines: u64, entries: u64) -> bool {
+    (1..=MOST_LINES).contains(&lines)
+        && (1..=L::MOST_ENTRIES).contains(&entries)
+        && board.len() as u64 == line_place(entries, lines)
 }
 
 // "2 work: work memory is not 2S + 64 words", which are now "2S + 128 words"; "Make S a multiple of
 // 4, from 4 to 256, else refusal 2."
 pub fn work_good(work: &[u64]) -> bool {
     let slots = slot_count(work);
-    if slots < WAYS || slots > MOST_SLOTS {
-        return false;
-    }
-    if slots % WAYS != 0 {
-        return false;
-    }
-    work.len() as u64 == filter_place(slots, FILTER_WORDS)
+    (WAYS..=MOST_SLOTS).contains(&slots)
+        && slots % WAYS == 0
+        && work.len() as u64 == filter_place(work, FILTER_WORDS)
 }
 
 // "1 shape: fewer than 2 board words; 24 bits not zero", which "hold 1 instead of 0" now; "N or L out of
 // range; wrong word count; P = 2^24 - 1", which reads 2^40 - 1; "start >= L; length > L". A board of fewer
 // than 2 words has no N.
-pub fn board_good(board: &[u64]) -> bool {
-    let header = header_of(board);
-    if header.leading != SHAPE_LEADING || header.persisted == LAST_EPOCH {
-        return false;
-    }
-    if header.start >= header.entries || header.length > header.entries {
-        return false;
-    }
-    size_good(board, header.lines, header.entries)
+pub fn board_good<L: Layout>(board: &[u64]) -> bool {
+    let header = header_of::<L>(board);
+    header.leading == L::SHAPE_LEADING
+        && header.persisted != L::LAST_EPOCH
+        && header.start < header.entries
+        && header.length <= header.entries
+        && size_good::<L>(board, header.lines, header.entries)
 }
 
 // Rows 1 and 2.
-pub fn memory_refusal(board: &[u64], work: &[u64]) -> u64 {
-    if !board_good(board) {
-        return SHAPE;
+pub fn memories_pass(board: &[u64], work: &[u64]) -> Result<(), Refusal> {
+    if !board_good::<Today>(board) {
+        return Err(Refusal::Shape);
     }
     if !work_good(work) {
-        return WORK;
+        return Err(Refusal::Work);
     }
-    OK
+    Ok(())
 }
 
-// "A proper log entry has address < N, ValidFrom < ValidTill"; "A proper buffered entry has address <
-// N and ValidFrom < ValidTill". "only spans 1 to 16 arise; another, or one above its ValidTill, makes an
-// entry improper": so ValidFrom is no less than 0, and below ValidTill.
-fn entry_proper(entry: Entry, lines: u64) -> bool {
-    if entry.span < LEAST_SPAN || entry.span > MOST_SPAN {
-        return false;
-    }
-    entry.address < lines && entry.span <= entry.valid_till
-}
-
-// "3 entry: a log entry is not proper; value is i of the first, oldest counted 0": that i, or the
-// log's length where all are proper. "A proper log entry has .., P < ValidTill, and a ValidTill not
+// Whether entry i of the log is proper: "A proper log entry has .., P < ValidTill, and a ValidTill not
 // below that of the next older entry", which is 0 for the oldest. "A log entry is now proper only if
 // ValidTill <= P + 16 as well."
-pub fn first_improper(board: &[u64]) -> u64 {
-    let header = header_of(board);
-    let length = header.length;
-    let latest = sum(header.persisted, MOST_AHEAD);
-    let mut older_till = 0;
-    for i in 0..length {
-        let entry = entry_at(board, log_place(header, i));
-        let till = entry.valid_till;
-        if !entry_proper(entry, header.lines) || till <= header.persisted {
-            return i;
-        }
-        if till < older_till || till > latest {
-            return i;
-        }
-        older_till = till;
-    }
-    length
+fn log_entry_proper<L: Layout>(board: &[u64], header: Header, i: u64) -> bool {
+    let entry = logged::<L>(board, header, i);
+    let older_till = if i == 0 {
+        0
+    } else {
+        logged::<L>(board, header, i - 1).valid_till
+    };
+    entry.is_proper(header.lines)
+        && header.persisted < entry.valid_till
+        && older_till <= entry.valid_till
+        && entry.valid_till <= header.persisted.wrapping_add(MOST_AHEAD)
 }
 
-// "Proper registers: P < s <= 2^24 - 1", now 2^40 - 1, "s - P <= 16, b <= 31, c <= S, c = 0 where
-// s = P + 1, length + b <= L." "Registers are also improper when the count exceeds S." "Registers are
-// proper with target 0 and c = 0, or with P < target < s": outside a pass, or in one. Where s = P + 1
-// there is no target between them, so that c is 0 by this rule.
-fn registers_proper(board: &[u64], work: &[u64], registers: Registers) -> bool {
-    let header = header_of(board);
-    let slots = slot_count(work);
-    let epoch = registers.epoch;
-    if epoch <= header.persisted || epoch > LAST_EPOCH {
-        return false;
-    }
-    if difference(epoch, header.persisted) > MOST_AHEAD {
-        return false;
-    }
-    if registers.cursor > slots || registers.dirty > slots {
-        return false;
-    }
-    if registers.buffered > MOST_BUFFERED {
-        return false;
-    }
-    if sum(header.length, registers.buffered) > header.entries {
-        return false;
-    }
-    if registers.target == 0 {
-        return registers.cursor == 0;
-    }
-    header.persisted < registers.target && registers.target < epoch
+// "3 entry: a log entry is not proper; value is i of the first, oldest counted 0": that i, if there is one.
+pub fn first_improper<L: Layout>(board: &[u64]) -> Option<u64> {
+    let header = header_of::<L>(board);
+    (0..header.length).find(|&i| !log_entry_proper::<L>(board, header, i))
 }
 
-// Rows 1, 2 and 4. "Tally now refuses as commit does up to 4": these are all that it refuses by.
-pub fn state_refusal(board: &[u64], work: &[u64], registers: Registers) -> u64 {
-    let number = memory_refusal(board, work);
-    if number != OK {
-        return number;
-    }
-    if !registers_proper(board, work, registers) {
-        return REGISTERS;
-    }
-    OK
+// What a call is tested on: the two lent memories, and the registers that it is given.
+#[derive(Clone, Copy)]
+pub struct State<'a> {
+    board: &'a [u64],
+    work: &'a [u64],
+    registers: Registers,
 }
 
-// "7 buffer: a buffered entry is not proper", which asks for "ValidTill <= s" too; then 14, "tested
-// right after 7 wherever 7 is": so 7 of any entry comes before 14 of any.
-fn buffer_refusal(board: &[u64], work: &[u64], registers: Registers) -> u64 {
-    let header = header_of(board);
-    let slots = slot_count(work);
-    let count = registers.buffered;
-    let mut number = OK;
-    for i in 0..count {
-        let entry = entry_at(work, buffer_place(slots, i));
-        if !entry_proper(entry, header.lines) || entry.valid_till > registers.epoch {
-            return BUFFER;
-        }
-        if !both_set(work, entry.address) {
-            number = FILTER;
+impl<'a> State<'a> {
+    pub fn of(board: &'a [u64], work: &'a [u64], registers: Registers) -> State<'a> {
+        State {
+            board,
+            work,
+            registers,
         }
     }
-    number
-}
 
-// "A proper slot word is zero, or is valid with the 22 bits zero", of which "6 zero bits" are kept,
-// "address < N, address mod S its slot, and either clean with tag 0 or dirty with P < tag <= s." By
-// request 6/13 "address a belongs in any slot of set a mod S/4, and 6 tests that".
-fn slot_proper(board: &[u64], work: &[u64], registers: Registers, k: u64) -> bool {
-    let header = header_of(board);
-    let slot = slot_at(work, k);
-    if word_at(work, slot_place(k)) == EMPTY_SLOT {
-        return true;
+    fn header(self) -> Header {
+        header_of::<Today>(self.board)
     }
-    if slot.valid != SET || slot.zero != 0 {
-        return false;
-    }
-    if slot.address >= header.lines {
-        return false;
-    }
-    if first_slot(work, slot.address) != difference(k, k % WAYS) {
-        return false;
-    }
-    if slot.dirty != SET {
-        return slot.tag == CLEAN_TAG;
-    }
-    header.persisted < slot.tag && slot.tag <= registers.epoch
-}
 
-// Test 6 of one slot of a set: it is proper, and no slot before it holds its line, since "a line held
-// twice in it is improper".
-fn way_proper(board: &[u64], work: &[u64], registers: Registers, k: u64) -> bool {
-    let slot = slot_at(work, k);
-    if !slot_proper(board, work, registers, k) {
-        return false;
+    // "Proper registers: P < s <= 2^24 - 1", now 2^40 - 1, "s - P <= 16, b <= 31, c <= S, c = 0 where
+    // s = P + 1, length + b <= L." "Registers are also improper when the count exceeds S." "Registers are
+    // proper with target 0 and c = 0, or with P < target < s": outside a pass, or in one. Where s = P + 1
+    // there is no target between them, so that c is 0 by this rule.
+    fn registers_proper(self) -> bool {
+        let header = self.header();
+        let slots = slot_count(self.work);
+        let Registers {
+            epoch,
+            buffered,
+            cursor,
+            dirty,
+            target,
+        } = self.registers;
+        let target_proper = if target == 0 {
+            cursor == 0
+        } else {
+            header.persisted < target && target < epoch
+        };
+        header.persisted < epoch
+            && epoch <= Today::LAST_EPOCH
+            && epoch - header.persisted <= MOST_AHEAD
+            && buffered <= MOST_BUFFERED
+            && cursor <= slots
+            && dirty <= slots
+            && header.length.wrapping_add(buffered) <= header.entries
+            && target_proper
     }
-    slot.valid != SET || slot_for(work, slot.address) == k
-}
 
-// "a count of 0 with the visited slot dirty, or of S with it not": of a slot that is proper.
-fn count_belied(work: &[u64], registers: Registers, visited: u64) -> bool {
-    let slot = slot_at(work, visited);
-    if slot.dirty == SET {
-        return registers.dirty == 0;
+    // Rows 1, 2 and 4. "Tally now refuses as commit does up to 4": these are all that it refuses by.
+    pub fn passes(self) -> Result<(), Refusal> {
+        memories_pass(self.board, self.work)?;
+        if !self.registers_proper() {
+            return Err(Refusal::Registers);
+        }
+        Ok(())
     }
-    registers.dirty == slot_count(work)
-}
 
-// "Load, store and evict now test the whole set by 6": the set whose first slot is given. Right after
-// it "5/13's count test refuses 0 if any slot of it is dirty, S if any is not".
-fn set_refusal(board: &[u64], work: &[u64], registers: Registers, first: u64) -> u64 {
-    let second = sum(first, 1);
-    let third = sum(first, 2);
-    let fourth = sum(first, 3);
-    if !way_proper(board, work, registers, first)
-        || !way_proper(board, work, registers, second)
-        || !way_proper(board, work, registers, third)
-        || !way_proper(board, work, registers, fourth)
-    {
-        return SLOT;
+    // Buffered entry i.
+    fn buffered(self, i: u64) -> Entry {
+        entry_at::<Today>(self.work, buffer_place(self.work, i))
     }
-    if count_belied(work, registers, first)
-        || count_belied(work, registers, second)
-        || count_belied(work, registers, third)
-        || count_belied(work, registers, fourth)
-    {
-        return REGISTERS;
-    }
-    OK
-}
 
-// Load and evict: rows 1, 2 and 4, "5 address: a >= N", 6, the count's test "Right after 6", 7 and 14.
-pub fn line_refusal(board: &[u64], work: &[u64], registers: Registers, address: u64) -> u64 {
-    let number = state_refusal(board, work, registers);
-    if number != OK {
-        return number;
+    // "7 buffer: a buffered entry is not proper", which asks for "ValidTill <= s" too; then 14, "tested
+    // right after 7 wherever 7 is": so 7 of any entry comes before 14 of any.
+    fn buffer_passes(self) -> Result<(), Refusal> {
+        let header = self.header();
+        let Registers {
+            epoch,
+            buffered,
+            ..
+        } = self.registers;
+        let proper = |i| {
+            let entry = self.buffered(i);
+            entry.is_proper(header.lines) && entry.valid_till <= epoch
+        };
+        if !(0..buffered).all(proper) {
+            return Err(Refusal::Buffer);
+        }
+        if !(0..buffered).all(|i| both_set(self.work, self.buffered(i).address)) {
+            return Err(Refusal::Filter);
+        }
+        Ok(())
     }
-    let header = header_of(board);
-    if address >= header.lines {
-        return ADDRESS;
+
+    // "A proper slot word is zero, or is valid with the 22 bits zero", of which "6 zero bits" are kept,
+    // "address < N, address mod S its slot, and either clean with tag 0 or dirty with P < tag <= s." By
+    // request 6/13 "address a belongs in any slot of set a mod S/4, and 6 tests that".
+    fn slot_proper(self, k: u64) -> bool {
+        if word_at(self.work, slot_place(k)) == EMPTY_SLOT {
+            return true;
+        }
+        let header = self.header();
+        let slot = slot_at(self.work, k);
+        let tag_proper = if slot.dirty {
+            header.persisted < slot.tag && slot.tag <= self.registers.epoch
+        } else {
+            slot.tag == CLEAN_TAG
+        };
+        slot.valid
+            && slot.zero == 0
+            && slot.address < header.lines
+            && set_of(self.work, slot.address).contains(&k)
+            && tag_proper
     }
-    let number = set_refusal(board, work, registers, first_slot(work, address));
-    if number != OK {
-        return number;
+
+    // Test 6 of one slot of a set: it is proper, and no slot before it holds its line, since "a line held
+    // twice in it is improper".
+    fn way_proper(self, k: u64) -> bool {
+        let slot = slot_at(self.work, k);
+        self.slot_proper(k) && (!slot.valid || slot_for(self.work, slot.address) == k)
     }
-    buffer_refusal(board, work, registers)
+
+    // "a count of 0 with the visited slot dirty, or of S with it not": of a slot that is proper.
+    fn count_belied(self, visited: u64) -> bool {
+        if slot_at(self.work, visited).dirty {
+            self.registers.dirty == 0
+        } else {
+            self.registers.dirty == slot_count(self.work)
+        }
+    }
+
+    // "Load, store and evict now test the whole set by 6": that of an address. Right after it "5/13's count test
+    // refuses 0 if any slot of it is dirty, S if any is not".
+    fn set_passes(self, address: u64) -> Result<(), Refusal> {
+        if !set_of(self.work, address).all(|k| self.way_proper(k)) {
+            return Err(Refusal::Slot);
+        }
+        if set_of(self.work, address).any(|k| self.count_belied(k)) {
+            return Err(Refusal::Registers);
+        }
+        Ok(())
+    }
+
+    // Load and evict: rows 1, 2 and 4, "5 address: a >= N", 6, the count's test "Right after 6", 7 and 14.
+    pub fn may_load(self, address: u64) -> Result<(), Refusal> {
+        self.passes()?;
+        if address >= self.header().lines {
+            return Err(Refusal::Address);
+        }
+        self.set_passes(address)?;
+        self.buffer_passes()
+    }
+
+    // Store: the rows of load, then "8 room: an undo entry is due and length + b + 1 > L".
+    pub fn may_store(self, address: u64) -> Result<(), Refusal> {
+        self.may_load(address)?;
+        let header = self.header();
+        let longer = header
+            .length
+            .wrapping_add(self.registers.buffered)
+            .wrapping_add(1);
+        if undo_due(self.work, self.registers, address) && longer > header.entries {
+            return Err(Refusal::Room);
+        }
+        Ok(())
+    }
+
+    // Rows 1, 2, 4, 7 and 14 of commit, which are begin's too: "after commit's 1, 2, 4, 7 and 14".
+    fn epoch_passes(self) -> Result<(), Refusal> {
+        self.passes()?;
+        self.buffer_passes()
+    }
+
+    // Commit: rows 1, 2, 4, 7 and 14; then "9 waiting: s - P = 16"; "10 last: s = 2^24 - 1", now
+    // 2^40 - 1.
+    pub fn may_commit(self) -> Result<(), Refusal> {
+        self.epoch_passes()?;
+        let epoch = self.registers.epoch;
+        if epoch.wrapping_sub(self.header().persisted) == MOST_AHEAD {
+            return Err(Refusal::Waiting);
+        }
+        if epoch == Today::LAST_EPOCH {
+            return Err(Refusal::Last);
+        }
+        Ok(())
+    }
+
+    // Begin: rows 1, 2, 4, 7 and 14; then "15 target, a begin call inside a pass or with a target out of
+    // range": "A begin call takes a target from P + 1 to s - 1".
+    pub fn may_begin(self, target: u64) -> Result<(), Refusal> {
+        self.epoch_passes()?;
+        let in_range = self.header().persisted < target && target < self.registers.epoch;
+        if self.registers.target != 0 || !in_range {
+            return Err(Refusal::Target);
+        }
+        Ok(())
+    }
+
+    // Scan: rows 1, 2 and 4; "6 slot: the slot visited is not proper: .. slot c if c < S", and the
+    // count's test "Right after 6": "The scan keeps visiting and testing single slots"; 7 and 14; then "11
+    // none: s = P + 1".
+    pub fn may_scan(self) -> Result<(), Refusal> {
+        self.passes()?;
+        let visited = self.registers.cursor;
+        if visited < slot_count(self.work) {
+            if !self.slot_proper(visited) {
+                return Err(Refusal::Slot);
+            }
+            if self.count_belied(visited) {
+                return Err(Refusal::Registers);
+            }
+        }
+        self.buffer_passes()?;
+        if self.registers.epoch == self.header().persisted.wrapping_add(1) {
+            return Err(Refusal::None);
+        }
+        Ok(())
+    }
 }
 
 // Whether a store makes an undo entry: "a clean line makes the entry P, s ..; a dirty line with
 // tag t < s makes t, s ..; tag s makes none." A line not held is loaded first, so it is clean.
 pub fn undo_due(work: &[u64], registers: Registers, address: u64) -> bool {
     let k = slot_for(work, address);
-    if !holds(work, k, address) {
-        return true;
-    }
     let slot = slot_at(work, k);
-    slot.dirty != SET || slot.tag < registers.epoch
-}
-
-// Store: the rows of load, then "8 room: an undo entry is due and length + b + 1 > L".
-pub fn store_refusal(board: &[u64], work: &[u64], registers: Registers, address: u64) -> u64 {
-    let number = line_refusal(board, work, registers, address);
-    if number != OK {
-        return number;
-    }
-    let header = header_of(board);
-    let longer = sum(sum(header.length, registers.buffered), 1);
-    if undo_due(work, registers, address) && longer > header.entries {
-        return ROOM;
-    }
-    OK
-}
-
-// Rows 1, 2, 4, 7 and 14 of commit, which are begin's too: "after commit's 1, 2, 4, 7 and 14".
-fn epoch_refusal(board: &[u64], work: &[u64], registers: Registers) -> u64 {
-    let number = state_refusal(board, work, registers);
-    if number != OK {
-        return number;
-    }
-    buffer_refusal(board, work, registers)
-}
-
-// Commit: rows 1, 2, 4, 7 and 14; then "9 waiting: s - P = 16"; "10 last: s = 2^24 - 1", now
-// 2^40 - 1.
-pub fn commit_refusal(board: &[u64], work: &[u64], registers: Registers) -> u64 {
-    let number = epoch_refusal(board, work, registers);
-    if number != OK {
-        return number;
-    }
-    let header = header_of(board);
-    if difference(registers.epoch, header.persisted) == MOST_AHEAD {
-        return WAITING;
-    }
-    if registers.epoch == LAST_EPOCH {
-        return LAST;
-    }
-    OK
-}
-
-// Begin: rows 1, 2, 4, 7 and 14; then "15 target, a begin call inside a pass or with a target out of
-// range": "A begin call takes a target from P + 1 to s - 1".
-pub fn begin_refusal(board: &[u64], work: &[u64], registers: Registers, target: u64) -> u64 {
-    let number = epoch_refusal(board, work, registers);
-    if number != OK {
-        return number;
-    }
-    let header = header_of(board);
-    if registers.target != 0 {
-        return TARGET;
-    }
-    if target <= header.persisted || target >= registers.epoch {
-        return TARGET;
-    }
-    OK
-}
-
-// Scan: rows 1, 2 and 4; "6 slot: the slot visited is not proper: .. slot c if c < S", and the
-// count's test "Right after 6": "The scan keeps visiting and testing single slots"; 7 and 14; then "11
-// none: s = P + 1".
-pub fn scan_refusal(board: &[u64], work: &[u64], registers: Registers) -> u64 {
-    let number = state_refusal(board, work, registers);
-    if number != OK {
-        return number;
-    }
-    let visited = registers.cursor;
-    if visited < slot_count(work) {
-        if !slot_proper(board, work, registers, visited) {
-            return SLOT;
-        }
-        if count_belied(work, registers, visited) {
-            return REGISTERS;
-        }
-    }
-    let number = buffer_refusal(board, work, registers);
-    if number != OK {
-        return number;
-    }
-    let header = header_of(board);
-    if registers.epoch == sum(header.persisted, 1) {
-        return NONE;
-    }
-    OK
+    !holds(work, k, address) || !slot.dirty || slot.tag < registers.epoch
 }

@@ -2,7 +2,8 @@
 // request 8/13 "the target, 0 outside a pass": their words in this order.
 pub const COUNT: usize = 5;
 
-#[derive(Clone, Copy)]
+// "registers .. are all zero": these are the default.
+#[derive(Clone, Copy, Default, PartialEq, Eq)]
 pub struct Registers {
     pub epoch: u64,
     pub buffered: u64,
@@ -11,29 +12,27 @@ pub struct Registers {
     pub target: u64,
 }
 
-impl Registers {
-    // "registers .. are all zero".
-    pub fn zero() -> Registers {
-        Registers::from_words([0; COUNT])
-    }
-
-    pub fn from_words(words: [u64; COUNT]) -> Registers {
+impl From<[u64; COUNT]> for Registers {
+    fn from(words: [u64; COUNT]) -> Registers {
+        let [epoch, buffered, cursor, dirty, target] = words;
         Registers {
-            epoch: words[0],
-            buffered: words[1],
-            cursor: words[2],
-            dirty: words[3],
-            target: words[4],
+            epoch,
+            buffered,
+            cursor,
+            dirty,
+            target,
         }
     }
+}
 
-    pub fn words(self) -> [u64; COUNT] {
+impl From<Registers> for [u64; COUNT] {
+    fn from(registers: Registers) -> [u64; COUNT] {
         [
-            self.epoch,
-            self.buffered,
-            self.cursor,
-            self.dirty,
-            self.target,
+            registers.epoch,
+            registers.buffered,
+            registers.cursor,
+            registers.dirty,
+            registers.target,
         ]
     }
 }

@@ -1,24 +1,23 @@
 // The packed words of the two memories, by the paper's "The two memories" and by document 02's request
-// 9/13, "Epochs beyond half a year": every width, mask, place and limit of the layout stands here, and
-// nowhere else. Of the old layout only what is different stands in `old_words`.
-ghost use Rattle.std.specs.Prelude.{◌<◌};
+// 9/13, "Epochs beyond half a year": every width, place and limit of the layout stands here, and
+// nowhere else. Of the old layout only what is different stands in `old_words`. Once a call's tests have passed, every
+// number of the model is far below 2^64; before that a sum of hostile numbers wraps, and nothing rests on it.
+ghost use Rattle.std.specs.Prelude.{◌<◌, ◌^◌};
 
-// "EID means epoch number, 0 to 2^24 - 1", where "Every 2^24 in 01 reads 2^40".
-pub const LAST_EPOCH: u64 = 0xFFFFFFFFFF;
+use crate::fields::Field;
+use crate::layouts::{Entry, Header, Layout};
 
 // How far an epoch is ahead of P at most: "s - P <= 16" of the proper registers, and "ValidTill <=
 // P + 16" of a proper log entry.
 pub const MOST_AHEAD: u64 = 16;
 
 // "only spans 1 to 16 arise; another .. makes an entry improper".
-pub const LEAST_SPAN: u64 = 1;
+const LEAST_SPAN: u64 = 1;
 
-pub const MOST_SPAN: u64 = 16;
+const MOST_SPAN: u64 = 16;
 
-// "N lines, 1 to 65,536." "so L is 1 to 4,095".
+// "N lines, 1 to 65,536."
 pub const MOST_LINES: u64 = 65536;
-
-pub const MOST_ENTRIES: u64 = 4095;
 
 // "Make S a multiple of 4, from 4 to 256"; "Set g is slots 4g to 4g + 3".
 pub const WAYS: u64 = 4;
@@ -47,15 +46,7 @@ pub const CONTROL_PLACE: u64 = 0;
 
 pub const SHAPE_PLACE: u64 = 1;
 
-const LOG_PLACE: u64 = 2;
-
-// "The shape word's first 24 bits hold 1 instead of 0."
-pub const SHAPE_LEADING: u64 = 1;
-
-// A field of one bit, set and not.
-pub const SET: u64 = 1;
-
-pub const UNSET: u64 = 0;
+pub const LOG_PLACE: u64 = 2;
 
 // "A proper slot word is zero, or ..": that of an empty slot.
 pub const EMPTY_SLOT: u64 = 0;
@@ -64,162 +55,152 @@ pub const EMPTY_SLOT: u64 = 0;
 pub const CLEAN_TAG: u64 = 0;
 
 // A slot and an entry are two words, and the second has the data.
-const PAIR: u64 = 2;
+pub const PAIR: u64 = 2;
 
 pub const DATA_WORD: u64 = 1;
 
-// "Fields are packed most significant bit first, widths in bits": the masks of the widths, and
-// where each field begins, counted from the least significant bit.
-const EPOCH_MASK: u64 = 0xFFFFFFFFFF;
+// "The control word is P 40, start 12, length 12".
+const PERSISTED: Field = Field {
+    below: 24,
+    width: 40,
+};
 
-const LOG_MASK: u64 = 0xFFF;
+const START: Field = Field {
+    below: 12,
+    width: 12,
+};
 
-const SIZE_MASK: u64 = 0xFFFFF;
+const LENGTH: Field = Field {
+    below: 0,
+    width: 12,
+};
 
-const ADDRESS_MASK: u64 = 0xFFFF;
+// "Shape word: .. 24, N 20, L 20."
+const LEADING: Field = Field {
+    below: 40,
+    width: 24,
+};
 
-const SPAN_MASK: u64 = 0xFF;
+const LINES: Field = Field {
+    below: 20,
+    width: 20,
+};
 
-const SHAPE_LEADING_MASK: u64 = 0xFFFFFF;
+const ENTRIES: Field = Field {
+    below: 0,
+    width: 20,
+};
 
-const SLOT_ZERO_MASK: u64 = 0x3F;
+// "A log entry's first word is address 16, ValidTill 40, span 8".
+pub const ENTRY_ADDRESS: Field = Field {
+    below: 48,
+    width: 16,
+};
 
-const BIT_MASK: u64 = 1;
+const VALID_TILL: Field = Field {
+    below: 8,
+    width: 40,
+};
 
-const PERSISTED_SHIFT: u64 = 24;
+const SPAN: Field = Field { below: 0, width: 8 };
 
-const START_SHIFT: u64 = 12;
+// "per slot a slot word (valid 1, dirty 1, address 16, tag ..) and a data word": the tag has 40 bits,
+// and "The slot word keeps 6 zero bits."
+const VALID: Field = Field {
+    below: 63,
+    width: 1,
+};
 
-const LENGTH_SHIFT: u64 = 0;
+const DIRTY: Field = Field {
+    below: 62,
+    width: 1,
+};
 
-const SHAPE_LEADING_SHIFT: u64 = 40;
+const SLOT_ADDRESS: Field = Field {
+    below: 46,
+    width: 16,
+};
 
-const LINES_SHIFT: u64 = 20;
+const TAG: Field = Field {
+    below: 6,
+    width: 40,
+};
 
-const ENTRIES_SHIFT: u64 = 0;
+const SLOT_ZERO: Field = Field { below: 0, width: 6 };
 
-const ENTRY_ADDRESS_SHIFT: u64 = 48;
+// The layout as it is now.
+pub struct Today;
 
-const VALID_TILL_SHIFT: u64 = 8;
+impl Layout for Today {
+    // "The shape word's first 24 bits hold 1 instead of 0."
+    const SHAPE_LEADING: u64 = 1;
 
-const SPAN_SHIFT: u64 = 0;
+    // "EID means epoch number, 0 to 2^24 - 1", where "Every 2^24 in 01 reads 2^40".
+    const LAST_EPOCH: u64 = 0xFFFFFFFFFF;
 
-const VALID_SHIFT: u64 = 63;
+    // "so L is 1 to 4,095".
+    const MOST_ENTRIES: u64 = 4095;
 
-const DIRTY_SHIFT: u64 = 62;
+    fn header(control: u64, shape: u64) -> Header {
+        Header {
+            persisted: PERSISTED.of(control),
+            start: START.of(control),
+            length: LENGTH.of(control),
+            leading: LEADING.of(shape),
+            lines: LINES.of(shape),
+            entries: ENTRIES.of(shape),
+        }
+    }
 
-const SLOT_ADDRESS_SHIFT: u64 = 46;
-
-const TAG_SHIFT: u64 = 6;
-
-const SLOT_ZERO_SHIFT: u64 = 0;
-
-// a + b. Once a call's tests have passed, every number of the model is far below 2^64; before that
-// a sum of hostile numbers wraps, and nothing rests on it.
-pub fn sum(a: u64, b: u64) -> u64 {
-    std::num::wrapping_add_u64(a, b)
-}
-
-// a - b, likewise.
-pub fn difference(a: u64, b: u64) -> u64 {
-    std::num::wrapping_sub_u64(a, b)
+    // "span is ValidTill - ValidFrom", so ValidFrom is the span below ValidTill. "only spans 1 to 16 arise; another, or
+    // one above its ValidTill, makes an entry improper": it has no ValidFrom.
+    fn entry(packed: u64, old_data: u64) -> Entry {
+        let valid_till = VALID_TILL.of(packed);
+        let span = SPAN.of(packed);
+        let valid_from = match span {
+            LEAST_SPAN..=MOST_SPAN => valid_till.checked_sub(span),
+            _ => None,
+        };
+        Entry {
+            address: ENTRY_ADDRESS.of(packed),
+            valid_from,
+            valid_till,
+            old_data,
+        }
+    }
 }
 
 // The word at a place of a lent memory, 0 past its end.
 pub fn word_at(words: &[u64], place: u64) -> u64 {
-    let at = place as usize;
-    if at < words.len() { words[at] } else { 0 }
+    words.get(place as usize).copied().unwrap_or(0)
 }
 
 // Writes the word at a place of a lent memory; nothing past its end.
 pub fn set_word(words: &mut [u64], place: u64, word: u64) {
-    let at = place as usize;
-    if at < words.len() {
-        words[at] = word;
-    }
-}
-
-// Every word of a lent memory zero, from a place on.
-pub fn zero_from(words: &mut [u64], place: u64) {
-    let first = place as usize;
-    for i in first..words.len() {
-        words[i] = 0;
-    }
-}
-
-// A field of a packed word.
-pub fn field(word: u64, shift: u64, mask: u64) -> u64
-    requires { shift < 64 }
-{
-    (word >> shift) & mask
-}
-
-// "The control word is P 40, start 12, length 12". "Shape word: .. 24, N 20, L 20."
-#[derive(Clone, Copy)]
-pub struct Header {
-    pub persisted: u64,
-    pub start: u64,
-    pub length: u64,
-    pub leading: u64,
-    pub lines: u64,
-    pub entries: u64,
-}
-
-pub fn header_of(board: &[u64]) -> Header {
-    let control = word_at(board, CONTROL_PLACE);
-    let shape = word_at(board, SHAPE_PLACE);
-    Header {
-        persisted: field(control, PERSISTED_SHIFT, EPOCH_MASK),
-        start: field(control, START_SHIFT, LOG_MASK),
-        length: field(control, LENGTH_SHIFT, LOG_MASK),
-        leading: field(shape, SHAPE_LEADING_SHIFT, SHAPE_LEADING_MASK),
-        lines: field(shape, LINES_SHIFT, SIZE_MASK),
-        entries: field(shape, ENTRIES_SHIFT, SIZE_MASK),
+    if let Some(at) = words.get_mut(place as usize) {
+        *at = word;
     }
 }
 
 pub fn control_word(persisted: u64, start: u64, length: u64) -> u64 {
-    (persisted << PERSISTED_SHIFT) | (start << START_SHIFT) | (length << LENGTH_SHIFT)
+    PERSISTED.word(persisted) | START.word(start) | LENGTH.word(length)
 }
 
 pub fn shape_word(lines: u64, entries: u64) -> u64 {
-    let leading = SHAPE_LEADING << SHAPE_LEADING_SHIFT;
-    leading | (lines << LINES_SHIFT) | (entries << ENTRIES_SHIFT)
-}
-
-// "A log entry's first word is address 16, ValidTill 40, span 8"; "then the old data".
-#[derive(Clone, Copy)]
-pub struct Entry {
-    pub address: u64,
-    pub valid_till: u64,
-    pub span: u64,
-    pub old_data: u64,
-}
-
-// The entry at a place of the board, or of the work memory: "undo entries, packed as in the log".
-pub fn entry_at(words: &[u64], place: u64) -> Entry {
-    let word = word_at(words, place);
-    Entry {
-        address: field(word, ENTRY_ADDRESS_SHIFT, ADDRESS_MASK),
-        valid_till: field(word, VALID_TILL_SHIFT, EPOCH_MASK),
-        span: field(word, SPAN_SHIFT, SPAN_MASK),
-        old_data: word_at(words, sum(place, DATA_WORD)),
-    }
+    LEADING.word(Today::SHAPE_LEADING) | LINES.word(lines) | ENTRIES.word(entries)
 }
 
 // "span is ValidTill - ValidFrom".
 pub fn entry_word(address: u64, valid_from: u64, valid_till: u64) -> u64 {
-    let span = difference(valid_till, valid_from);
-    let range = (valid_till << VALID_TILL_SHIFT) | (span << SPAN_SHIFT);
-    (address << ENTRY_ADDRESS_SHIFT) | range
+    let span = valid_till.wrapping_sub(valid_from);
+    ENTRY_ADDRESS.word(address) | VALID_TILL.word(valid_till) | SPAN.word(span)
 }
 
-// "per slot a slot word (valid 1, dirty 1, address 16, tag ..) and a data word": the tag has 40 bits,
-// and "The slot word keeps 6 zero bits."
+// What the two words of a slot say.
 #[derive(Clone, Copy)]
 pub struct Slot {
-    pub valid: u64,
-    pub dirty: u64,
+    pub valid: bool,
+    pub dirty: bool,
     pub address: u64,
     pub tag: u64,
     pub zero: u64,
@@ -230,63 +211,52 @@ pub fn slot_at(work: &[u64], k: u64) -> Slot {
     let place = slot_place(k);
     let word = word_at(work, place);
     Slot {
-        valid: field(word, VALID_SHIFT, BIT_MASK),
-        dirty: field(word, DIRTY_SHIFT, BIT_MASK),
-        address: field(word, SLOT_ADDRESS_SHIFT, ADDRESS_MASK),
-        tag: field(word, TAG_SHIFT, EPOCH_MASK),
-        zero: field(word, SLOT_ZERO_SHIFT, SLOT_ZERO_MASK),
-        line_data: word_at(work, sum(place, DATA_WORD)),
+        valid: VALID.is_set(word),
+        dirty: DIRTY.is_set(word),
+        address: SLOT_ADDRESS.of(word),
+        tag: TAG.of(word),
+        zero: SLOT_ZERO.of(word),
+        line_data: word_at(work, place.wrapping_add(DATA_WORD)),
     }
 }
 
-// The word of a slot that holds a line: valid, with the 6 bits zero.
-pub fn slot_word(dirty: u64, address: u64, tag: u64) -> u64 {
-    let flags = (SET << VALID_SHIFT) | (dirty << DIRTY_SHIFT);
-    flags | (address << SLOT_ADDRESS_SHIFT) | (tag << TAG_SHIFT)
+// The word of a slot that holds a clean line: valid, with the 6 bits zero.
+pub fn clean_word(address: u64) -> u64 {
+    VALID.word(1) | SLOT_ADDRESS.word(address) | TAG.word(CLEAN_TAG)
 }
 
-// "The log is a ring: entry i of the log, 0 the oldest, is at place (start + i) mod L."
-pub fn ring_place(header: Header, i: u64) -> u64 {
-    let entries = header.entries;
-    if entries == 0 {
-        return 0;
-    }
-    sum(header.start, i) % entries
-}
-
-// The place on the board of the packed word of entry i of the log; its old data is one further.
-pub fn log_place(header: Header, i: u64) -> u64 {
-    let ring = ring_place(header, i);
-    sum(LOG_PLACE, sum(ring, ring))
+// The same of a dirty line.
+pub fn dirty_word(address: u64, tag: u64) -> u64 {
+    VALID.word(1) | DIRTY.word(1) | SLOT_ADDRESS.word(address) | TAG.word(tag)
 }
 
 // The place on the board of a memory line: the lines come after the L log entries. Line N would be
 // at the board's end, so that its place is the number of words, "2 + 2L + N".
 pub fn line_place(entries: u64, address: u64) -> u64 {
-    sum(sum(LOG_PLACE, sum(entries, entries)), address)
+    LOG_PLACE
+        .wrapping_add(PAIR.wrapping_mul(entries))
+        .wrapping_add(address)
 }
 
 // The place in the work memory of a slot word; its data word is one further.
 pub fn slot_place(k: u64) -> u64 {
-    sum(k, k)
+    PAIR.wrapping_mul(k)
 }
 
 // S, "being read from its length": of 2S + 128 words.
-pub fn slot_count(work: &[u64]) -> u64 {
-    let words = work.len() as u64;
-    if words < BEHIND_SLOTS {
-        return 0;
-    }
-    (words - BEHIND_SLOTS) / PAIR
+pub fn slot_count(work: &[u64]) -> u64
+    ensures { result < 2 ^ 63 }
+{
+    (work.len() as u64).saturating_sub(BEHIND_SLOTS) / PAIR
 }
 
 // The place in the work memory of the packed word of buffered entry i; its old data is one further.
-pub fn buffer_place(slots: u64, i: u64) -> u64 {
-    sum(slot_place(slots), sum(i, i))
+pub fn buffer_place(work: &[u64], i: u64) -> u64 {
+    slot_place(slot_count(work)).wrapping_add(PAIR.wrapping_mul(i))
 }
 
 // The place in the work memory of filter word i, "after the undo places". Word 64 would be at the
 // memory's end, so that its place is the number of words, "2S + 128".
-pub fn filter_place(slots: u64, i: u64) -> u64 {
-    sum(buffer_place(slots, BUFFER_ENTRIES), i)
+pub fn filter_place(work: &[u64], i: u64) -> u64 {
+    buffer_place(work, BUFFER_ENTRIES).wrapping_add(i)
 }

@@ -24,15 +24,27 @@ pub struct History {
     pub score: Score,
 }
 
+// The reference machine after a call: it is told of those that are accepted.
 fn fed(reference: Reference, c: Call, o: Outcome) -> Reference {
+    let mut next = reference;
+    if o.number != OK {
+        return next;
+    }
     let kind = c.kind;
     match kind {
-        POWER_UP => reference.power_up(o.number),
-        STORE => reference.store(o.number, c.address, c.value),
-        COMMIT => reference.commit(o.number),
-        SCAN => reference.scan(o.number, o.value),
-        _ => reference,
+        POWER_UP => next.power_up(),
+        STORE => next.store(c.address, c.value),
+        COMMIT => next.commit(),
+        SCAN => next.scan(o.value),
+        _ => {}
     }
+    next
+}
+
+fn powered_up(reference: Reference) -> Reference {
+    let mut next = reference;
+    next.power_up();
+    next
 }
 
 fn between_accepted(s: State, reference: Reference, c: Call, o: Outcome) -> Difference {
@@ -265,7 +277,7 @@ fn turned(h: History, seed: u64) -> History {
     let score = h.score;
     let c = next_call(l, old, seed);
     let state = lent(l, old, c, seed);
-    let restarted = reference.power_up(0);
+    let restarted = powered_up(reference);
     let with_probes = beside(l, old, restarted, seed, score);
     let with_cuts = cuts(state, c, restarted, with_probes);
     watched(with_score(with_state(h, state), with_cuts), c)
@@ -277,7 +289,7 @@ fn on_board(h: History, board: [u64; BOARD_ROOM]) -> History {
     let l = h.list;
     let mut state = h.state;
     let old_reference = h.reference;
-    let mut reference = old_reference.power_up(OK);
+    let mut reference = powered_up(old_reference);
     let persisted = reference.persisted_epoch % OLD_EPOCHS;
     state.board = board;
     state.work_words = work_words(l.slots);
@@ -299,7 +311,7 @@ fn moved(h: History, seed: u64) -> History {
     if !is_old(board) {
         return h;
     }
-    let done = left_converted(s, reference.power_up(OK), BY_CALL, seed, score);
+    let done = left_converted(s, powered_up(reference), BY_CALL, seed, score);
     let after = done.score;
     let new_board = done.board;
     if done.outcome.number != OK {

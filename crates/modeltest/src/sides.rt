@@ -171,12 +171,12 @@ pub fn library_call(
 
 fn of_model(a: model::Answer) -> Outcome {
     let registers = a.registers;
-    of_model_report(a, registers.words())
+    of_model_report(a, registers.into())
 }
 
 pub fn of_model_report(a: model::Answer, registers: [u64; REGISTERS]) -> Outcome {
     Outcome {
-        number: a.number,
+        number: u64::from(a.status),
         value: a.value,
         stores: a.stores,
         registers,
@@ -189,7 +189,7 @@ fn model_question(
     words: [u64; REGISTERS],
     c: Call,
 ) -> Outcome {
-    let r = model::Registers::from_words(words);
+    let r = model::Registers::from(words);
     let kind = c.kind;
     match kind {
         FORMAT => of_model_report(model::format(board, c.address, c.value), words),
@@ -206,7 +206,7 @@ pub fn model_call(
     words: [u64; REGISTERS],
     c: Call,
 ) -> Outcome {
-    let r = model::Registers::from_words(words);
+    let r = model::Registers::from(words);
     let kind = c.kind;
     match kind {
         POWER_UP => of_model(model::power_up(board, work, c.allowance)),
