@@ -2,26 +2,25 @@
 // output. Of a refusal it writes the name and a line feed.
 #![tactic(auto)]
 
-ghost use Rattle.std.specs.Prelude.{◌≤◌, ◌≡◌, length};
+ghost use Rattle.std.specs.Prelude.{◌≤◌, ◌≡◌, length, take, MatchResult, IfOk};
 ghost use Rattle.benchboard.specs.Sizes.{bench_sized};
-ghost use Rattle.convert.specs.Convert.{conversion};
 ghost use Rattle.convert.specs.Old.{old_shape_in};
-ghost use Rattle.layout.specs.ByteWords.{words_of};
 ghost use Rattle.text.specs.Printing.{Prints};
-ghost use Rattle.loomconvert.specs.Output.{most_refusal, most_output, refusal_text, conversion_text, words_text, output, no_slots};
-ghost use Rattle.loomconvert.specs.Promises.{BoardReady, ImageReady, OutputReady};
+ghost use Rattle.image.specs.Image.{image_of};
+ghost use Rattle.loomconvert.specs.Output.{most_refusal, most_output, refusal_text, words_text, output, no_slots};
 
 use benchboard::BOARD_WORDS;
 use layout::{BYTES_OF_WORD, LOG_AT, SHAPE_AT};
 use status::Status;
+use std::alloc::Global;
 use std::io;
 use std::io::Read;
 
-// A buffer for what is read, and one for what is written. The largest image has fewer bytes.
-const BUFFER_BYTES: usize = 65536;
-
 // The bytes of the largest image.
 const MOST_BYTES: usize = BYTES_OF_WORD * BOARD_WORDS;
+
+// So many bytes of the input are read: one that has them all is no image.
+const READ_BYTES: usize = MOST_BYTES + 1;
 
 // A board by itself has no slots, and so no more than a bench has.
 const NO_SLOTS: u64 = 0;
@@ -32,18 +31,6 @@ fn put_refusal(out: &mut [u8], status: Status) -> usize
 {
     let end = text::put_name(out, 0, status);
     text::put_byte(out, end, b'\n')
-}
-
-fn put_conversion(out: &mut [u8], old: &[u64], board: &mut [u64]) -> usize
-    requires { BoardReady out.old old.now board.old }
-    ensures { Prints most_output out.old 0 (conversion_text (conversion old.now (length old.now))) out.new result }
-{
-    let report = convert::convert(old, board);
-    let status = report.status;
-    if !status.is_ok() {
-        return put_refusal(out, status);
-    }
-    image::write(out, board)
 }
 
 // Whether a board has the replay's sizes. One that is too short to tell has no lines: the conversion refuses it.
@@ -57,75 +44,64 @@ fn is_bench_sized(old: &[u64]) -> bool
     benchboard::is_bench_sized(shape.lines, shape.entries, NO_SLOTS)
 }
 
-fn put_words(out: &mut [u8], old: &[u64], board: &mut [u64]) -> usize
-    requires { BoardReady out.old old.now board.old }
-    ensures { Prints most_output out.old 0 (words_text old.now) out.new result }
+// Converts the words of an old board, to a memory of as many.
+fn convert_words(old: &[u64], board: &mut [u64]) -> Result<(), Status>
+    requires { length board.old ≡ length old.now }
+    ensures { MatchResult result (λ _. words_text old.now ≡ image_of board.new) (λ why. words_text old.now ≡ refusal_text why) }
 {
     if !is_bench_sized(old) {
-        return put_refusal(out, Status::Shape);
+        return Err(Status::Shape);
     }
-    put_conversion(out, old, board)
+    let report = convert::convert(old, board);
+    match report.status {
+        Status::Ok => Ok(()),
+        why => Err(why),
+    }
 }
 
-fn put_image(out: &mut [u8], input: &[u8], old: &mut [u64], board: &mut [u64]) -> usize
-    requires { ImageReady out.old input.now old.old board.old }
-    ensures { Prints most_output out.old 0 (words_text (words_of input.now)) out.new result }
+// Converts an image, to the first words of a board. Answers how many these are.
+fn convert_image(image: &[u8], board: &mut [u64; BOARD_WORDS]) -> Result<usize, Status>
+    ensures words { MatchResult result (λ n. output image.now ≡ image_of (take n board.new)) (λ why. output image.now ≡ refusal_text why) }
+    ensures most { IfOk result (λ n. n ≤ BOARD_WORDS) }
 {
-    image::read(old, input);
-    put_words(out, old, board)
+    if image.len() > MOST_BYTES {
+        return Err(Status::Shape);
+    }
+    if image.len() % BYTES_OF_WORD != 0 {
+        return Err(Status::Shape);
+    }
+    let count = image.len() / BYTES_OF_WORD;
+    let mut memory = [0u64; BOARD_WORDS];
+    let old = &mut memory[..count];
+    image::read(old, image);
+    convert_words(old, &mut board[..count])?;
+    Ok(count)
 }
 
 // What is written for this input, to the start of a buffer. Answers how many bytes that is.
-fn put_output(out: &mut [u8], input: &[u8], old: &mut [u64], board: &mut [u64]) -> usize
-    requires { OutputReady out.old old.old board.old }
+fn put_output(out: &mut [u8; MOST_BYTES], input: &[u8]) -> usize
     ensures { Prints most_output out.old 0 (output input.now) out.new result }
 {
-    if input.len() > MOST_BYTES {
-        return put_refusal(out, Status::Shape);
+    let mut board = [0u64; BOARD_WORDS];
+    match convert_image(input, &mut board) {
+        Ok(words) => image::write(out, &board[..words]),
+        Err(why) => put_refusal(out, why),
     }
-    if input.len() % BYTES_OF_WORD != 0 {
-        return put_refusal(out, Status::Shape);
-    }
-    let words = input.len() / BYTES_OF_WORD;
-    put_image(out, input, &mut old[0..words], &mut board[0..words])
 }
 
-// How many bytes the input has; as many as the buffer where it has no fewer, and where a read fails. No image has so
-// many.
-fn read_all(source: &mut impl Read, input: &mut [u8]) -> usize
-    ensures { result ≤ length input.new }
-{
-    let mut count: usize = 0;
-    while count < input.len() {
-        match source.read(&mut input[count..]) {
-            Err(_) => return input.len(),
-            Ok(0) => break,
-            Ok(more) => count += more,
-        }
+// The input, or its first bytes, which are more than an image has. What can't be read is no image, and so empty.
+fn read_input(alloc: Global, source: impl Read + Drop) -> io::Result<Vec<u8>> {
+    let mut input = Vec::with_capacity(alloc, READ_BYTES)?;
+    let read = source.take(READ_BYTES as u64).read_to_end(&mut input);
+    if read.is_err() {
+        input.clear();
     }
-    count
-}
-
-fn run(
-    rt: &impl Print,
-    source: &mut impl Read,
-    input: &mut [u8],
-    out: &mut [u8],
-    old: &mut [u64],
-    board: &mut [u64],
-) -> io::Result<()>
-    requires { OutputReady out.old old.old board.old }
-{
-    let count = read_all(source, input);
-    let length = put_output(out, &input[0..count], old, board);
-    rt.write_all(&out[0..length])
+    Ok(input)
 }
 
 fn main(rt: HostRuntime) -> io::Result<()> {
-    let mut input = [0u8; BUFFER_BYTES];
-    let mut out = [0u8; BUFFER_BYTES];
-    let mut old = [0u64; BOARD_WORDS];
-    let mut board = [0u64; BOARD_WORDS];
-    let mut source = rt.stdin();
-    run(&rt, &mut source, &mut input, &mut out, &mut old, &mut board)
+    let input = read_input(rt.alloc(), rt.stdin())?;
+    let mut out = [0u8; MOST_BYTES];
+    let length = put_output(&mut out, input.as_slice());
+    rt.write_all(&out[..length])
 }

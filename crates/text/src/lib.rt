@@ -56,5 +56,5 @@ pub fn put_name(out: &mut [u8], at: usize, status: Status) -> usize
     requires { at + most_letters ≤ length out.old }
     ensures { Prints most_letters out.old at (name_text status) out.new result }
 {
-    at + status::put_name(&mut out[at..], status.number())
+    at + status::put_name(&mut out[at..], u64::from(status))
 }

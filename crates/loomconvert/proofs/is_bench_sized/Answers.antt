@@ -1,4 +1,4 @@
-use Rattle.loomconvert.proofs.Writing.{sizes_short, sizes_told}
+use Rattle.loomconvert.proofs.Converting.{sizes_short, sizes_told}
 use Rattle.loomconvert.proofs.is_bench_sized.Goals as goal
 
 pub returns-then-old-lt-LOG_AT : goal.returns-then-old-lt-LOG_AT

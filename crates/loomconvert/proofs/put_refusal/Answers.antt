@@ -1,4 +1,4 @@
-use Rattle.loomconvert.proofs.Writing.{refusal_put}
+use Rattle.loomconvert.proofs.Converting.{refusal_put}
 use Rattle.loomconvert.proofs.put_refusal.Goals as goal
 
 pub returns : goal.returns
