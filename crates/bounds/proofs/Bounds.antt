@@ -1,17 +1,15 @@
 -- "No call but format and power-up makes more than 66 board stores; power-up makes at most length + 1." On every input.
-use Rattle.std.specs.Prelude.{ℕ, ◌+◌, ◌≤◌, ◌≡◌, refl, Bool, true, false, cond, List, ltb, leb}
+use Rattle.std.specs.Prelude.{Ok, Err, ℕ, ◌+◌, ◌≤◌, ◌≡◌, refl, Bool, true, false, cond, List, ltb, leb}
 use Rattle.std.proofs.Common.{ap, arith, leb-false}
 use Rattle.std.proofs.Math.ListN.{length}
 use Rattle.layout.specs.Limits.{most_stores}
 use Rattle.layout.specs.Memory.{control_in}
 use Rattle.status.specs.declared.Status.{Status}
 use Rattle.slots.specs.Sets.{spot_of}
-use Rattle.checks.specs.declared.Checked.{Checked}
-use Rattle.checks.specs.declared.Checked.TheVariants.{Refused, Passed}
 use Rattle.checks.specs.declared.Registers.{Registers}
 use Rattle.checks.specs.declared.View.{View}
 use Rattle.checks.specs.Laws.{line_running, store_line, scan_running, entries_shaped}
-use Rattle.checks.specs.Refusals.{power_up_checked, running_checked, line_checked, store_checked, commit_checked, begin_checked, scan_checked}
+use Rattle.checks.specs.Refusals.{Checked, power_up_checked, running_checked, line_checked, store_checked, commit_checked, begin_checked, scan_checked}
 use Rattle.checks.specs.Registers.{committed, begun, all_zero, scan_target}
 use Rattle.checks.specs.View.{view_of, good_work, undo_of}
 use Rattle.picl.specs.Answers.{Outcome, success, cut_off, answer_of}
@@ -45,10 +43,10 @@ due_bounded n o h =
     told allowance true e = h
     told allowance false e = omega (arith, leb-false (length o.stores) allowance e)
 
-judged_bounded : (n : ℕ) (k : Checked) (f : View → Outcome) → ((v : View) → Passed v ≡ k → length (f v).stores ≤ n)
+judged_bounded : (n : ℕ) (k : Checked) (f : View → Outcome) → ((v : View) → Ok v ≡ k → length (f v).stores ≤ n)
     → Bounded n (judged k f)
-judged_bounded n (Refused why value) f h = refused_bounded n why value
-judged_bounded n (Passed v) f h = due_bounded n (f v) (h v refl)
+judged_bounded n (Err why) f h = refused_bounded n why.status why.value
+judged_bounded n (Ok v) f h = due_bounded n (f v) (h v refl)
 
 module _ (board work : List ℕ) (r : Registers) where
   load_bounded : (address : ℕ) → Bounded most_stores (verdict_of board work r (calls.load address))

@@ -1,4 +1,5 @@
 -- One law for each way out of a call: an array too short, and the library's answer brought to its places.
+use Rattle.std.specs.Prelude.{Ok, Err}
 use Prim.Native.Nat.{ℕ, ◌<◌, ◌≤◌}
 use native.Mathlib.Omega.{arith}
 use mathlib.Core.Path.{◌≡◌, refl, sym, ◌∙◌}
@@ -13,9 +14,7 @@ use Rattle.picl.specs.declared.Answer.{Answer}
 use Rattle.picl.specs.declared.Report.{Report}
 use Rattle.board.specs.Stores.{applied}
 use Rattle.board.specs.Verdict.{board_after, work_after}
-use Rattle.checks.specs.declared.Checked.{Checked}
-use Rattle.checks.specs.declared.Checked.TheVariants.{Refused, Passed}
-use Rattle.checks.specs.Refusals.{running_checked}
+use Rattle.checks.specs.Refusals.{Checked, running_checked}
 use Rattle.picl.specs.Answers.{Verdict, answer_of}
 use Rattle.picl.specs.Calls as call
 use Rattle.picl.specs.Calls.{verdict_of, no_allowance, judged, unstored, format_report, format_after, report_of, tally_report}
@@ -137,8 +136,8 @@ tally_answers board work r = go (running_checked board work r)
     go : (k : Checked)
         → let v = judged k (λ w. unstored r.dirty r work) in
         ((answer_of no_allowance r v).registers ≡ r) × (board_after no_allowance board v ≡ board) × (work_after no_allowance work v ≡ work)
-    go (Refused why value) = (refl, refl, refl)
-    go (Passed w) = (refl, refl, refl)
+    go (Err why) = (refl, refl, refl)
+    go (Ok w) = (refl, refl, refl)
 
 tally_reports : (board work : List ℕ) (r : Registers)
     → let a = answer_of no_allowance r (verdict_of board work r call.tally) in
@@ -149,8 +148,8 @@ tally_reports board work r = go (running_checked board work r)
     go : (k : Checked)
         → let a = answer_of no_allowance r (judged k (λ w. unstored r.dirty r work)) in
         report_of (judged k (λ w. unstored r.dirty r work)) ≡ record { status = a.status; value = a.value; stores = a.stores }
-    go (Refused why value) = refl
-    go (Passed w) = refl
+    go (Err why) = refl
+    go (Ok w) = refl
 
 module _ (board work registers answer : List ℕ) (t : Bool) (is : t ≡ has_places registers answer) where
   pub tally_made : (given : Report) (answer' : List ℕ) (number : ℕ) → not t ≡ false → given ≡ tally_report board work (read_registers registers)

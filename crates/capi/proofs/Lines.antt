@@ -1,4 +1,5 @@
 -- The calls on one line, load, store and evict, leave s, c and the target as they were.
+use Rattle.std.specs.Prelude.{Ok, Err}
 use Prim.Native.Nat.{ℕ, ◌≤◌, ◌<◌}
 use mathlib.Core.Path.{◌≡◌, refl, sym, ap, ◌∙◌}
 use mathlib.Core.Bool.{Bool, true, false, cond, false≢true}
@@ -8,11 +9,9 @@ use lib.Dec.{leb}
 use lib.ListN.{length, set, length-set}
 use Rattle.board.specs.Verdict.{refused, due}
 use Rattle.status.specs.Numbers.{number_of, is_cut}
-use Rattle.checks.specs.declared.Checked.{Checked}
-use Rattle.checks.specs.declared.Checked.TheVariants.{Refused, Passed}
 use Rattle.checks.specs.declared.Registers.{Registers}
 use Rattle.checks.specs.declared.View.{View}
-use Rattle.checks.specs.Refusals.{line_checked, store_checked}
+use Rattle.checks.specs.Refusals.{Checked, line_checked, store_checked}
 use Rattle.picl.specs.declared.Answer.{Answer}
 use Rattle.picl.specs.Answers.{Outcome, Verdict, answer_of, success, cut_off}
 use Rattle.picl.specs.Calls as call
@@ -28,8 +27,8 @@ Steady r (due o) = with_pass r o.registers ≡ o.registers
 
 judged_steady : (r : Registers) (k : Checked) (outcome : View → Outcome) → ((v : View) → with_pass r (outcome v).registers ≡ (outcome v).registers)
     → Steady r (judged k outcome)
-judged_steady r (Refused why value) outcome h = tt
-judged_steady r (Passed v) outcome h = h v
+judged_steady r (Err why) outcome h = tt
+judged_steady r (Ok v) outcome h = h v
 
 module _ (allowance : ℕ) (r : Registers) where
   steady_answered : (v : Verdict) → Steady r v → is_cut (answer_of allowance r v).status ≡ false

@@ -1,5 +1,5 @@
 -- The rows behind 1, 2 and 4: one law for each way out of a function.
-use Rattle.std.proofs.Common.{◌≡◌, ℕ, ◌+◌, ◌-◌, ◌*◌, ◌<◌, ◌≤◌, Bool, true, false, cond, not, ◌&&◌, ◌||◌, eqb, List, [], ◌∷◌, ◌++◌, length, take, drop, sym, refl, ◌∙◌, arith, le-ltb, lt-ltb, eq-eqb, ne_eqb, le-leb}
+use Rattle.std.proofs.Common.{Ok, Err, ◌≡◌, ℕ, ◌+◌, ◌-◌, ◌*◌, ◌<◌, ◌≤◌, Bool, true, false, cond, not, ◌&&◌, ◌||◌, eqb, List, [], ◌∷◌, ◌++◌, length, take, drop, sym, refl, ◌∙◌, arith, le-ltb, lt-ltb, eq-eqb, ne_eqb, le-leb}
 use borrow.Author.Tests.{lt-leb, eqb-false, not-true, not-false}
 use Rattle.base.specs.Parts.{rest_lent}
 use Rattle.base.specs.Tests.{and_left, and_right}
@@ -14,12 +14,11 @@ use Rattle.slots.specs.Promises.{BoundsReady}
 use Rattle.slots.specs.Passes.{nowhere, first_slot_of}
 use Rattle.slots.specs.Sets.{slots_from, proper_set}
 use Rattle.slots.specs.Slots.{proper_at, undo_due}
-use Rattle.checks.specs.declared.Checked.{Checked}
-use Rattle.checks.specs.declared.Checked.TheVariants.{Refused, Passed}
+use Rattle.checks.specs.declared.Refusal.{Refusal}
 use Rattle.checks.specs.declared.Registers.{Registers}
 use Rattle.checks.specs.declared.View.{View}
 use Rattle.checks.specs.View.{bounds_of, waits, miscounted, good_buffer, good_filter}
-use Rattle.checks.specs.Refusals.{Row, tested, buffer_rows, address_rows, room_rows, target_rows, cursor_rows, waiting_rows, scan_rows}
+use Rattle.checks.specs.Refusals.{Checked, unvalued, Row, tested, buffer_rows, address_rows, room_rows, target_rows, cursor_rows, waiting_rows, scan_rows}
 use Rattle.checks.specs.Promises.{RowsReady, SiteReady, site_rows}
 use Rattle.checks.specs.Laws.{refused_first, passed_first}
 
@@ -37,7 +36,7 @@ module _ (v : View) (work : List ℕ) (r : Registers) (at : ℕ) (here : at ≡ 
       unfolding good_buffer good_filter
       sound = rw lent at test
 
-      pub buffer_passed : t ≡ true → Passed v ≡ tested (buffer_rows v work r) v
+      pub buffer_passed : t ≡ true → Ok v ≡ tested (buffer_rows v work r) v
       buffer_passed h =
           let both = sym sound ∙ h in
           rw (and_left (good_buffer v work r) (good_filter work r) both, and_right (good_buffer v work r) (good_filter work r) both)
@@ -49,26 +48,26 @@ module _ (v : View) (work : List ℕ) (r : Registers) (at : ℕ) (here : at ≡ 
           unfolding good_buffer
           good = rw lent at proper
 
-          pub buffer_unmarked : p ≡ true → Refused status.Filter 0 ≡ tested (buffer_rows v work r) v
+          pub buffer_unmarked : p ≡ true → Err (unvalued status.Filter) ≡ tested (buffer_rows v work r) v
           buffer_unmarked h =
               let yes : good_buffer v work r ≡ true = sym good ∙ h in
               let no : good_filter work r ≡ false = sym (rw yes at sound) ∙ bad in
               rw (yes, no)
 
-          pub buffer_refused : p ≡ false → Refused status.Buffer 0 ≡ tested (buffer_rows v work r) v
+          pub buffer_refused : p ≡ false → Err (unvalued status.Buffer) ≡ tested (buffer_rows v work r) v
           buffer_refused h = let no : good_buffer v work r ≡ false = sym good ∙ h in rw no
 
 -- 5
 module _ (v : View) (address : ℕ) where
-  pub line_outside : v.shape.lines ≤ address → Refused status.Address 0 ≡ tested (address_rows v address) v
+  pub line_outside : v.shape.lines ≤ address → Err (unvalued status.Address) ≡ tested (address_rows v address) v
   line_outside h = rw (le-leb v.shape.lines address h)
 
-  pub line_inside : address < v.shape.lines → Passed v ≡ tested (address_rows v address) v
+  pub line_inside : address < v.shape.lines → Ok v ≡ tested (address_rows v address) v
   line_inside h = rw (lt-leb v.shape.lines address h)
 
 -- 6 and the count
 module _ (v : View) (work : List ℕ) (r : Registers) (site : ℕ) (t : Bool) (nowhere_else : t ≡ eqb site nowhere) where
-  pub set_improper : t ≡ true → Refused status.Slot 0 ≡ tested (site_rows v work r site) v
+  pub set_improper : t ≡ true → Err (unvalued status.Slot) ≡ tested (site_rows v work r site) v
   set_improper h = rw (← nowhere_else, h)
 
   module _ (found : t ≡ false) where
@@ -76,10 +75,10 @@ module _ (v : View) (work : List ℕ) (r : Registers) (site : ℕ) (t : Bool) (n
     set_words ready first e = rw e (ready.words (eqb-false site nowhere (sym nowhere_else ∙ found)))
 
     module _ (first : ℕ) (here : first ≡ first_slot_of site) (m : Bool) (count : m ≡ miscounted v r work (slots_from first)) where
-      pub set_miscounted : m ≡ true → Refused status.Regs 0 ≡ tested (site_rows v work r site) v
+      pub set_miscounted : m ≡ true → Err (unvalued status.Regs) ≡ tested (site_rows v work r site) v
       set_miscounted h = rw (← nowhere_else, found, ← here, ← count, h)
 
-      pub set_passed : m ≡ false → Passed v ≡ tested (site_rows v work r site) v
+      pub set_passed : m ≡ false → Ok v ≡ tested (site_rows v work r site) v
       set_passed h = rw (← nowhere_else, found, ← here, ← count, h)
 
 -- 8
@@ -88,39 +87,26 @@ module _ (v : View) (work : List ℕ) (r : Registers) (spot : Spot) where
   room_spot h below = omega (arith, h.work_words_holds)
 
   module _ (t : Bool) (due : t ≡ undo_due work spot r.epoch) where
-    pub room_spared : not t ≡ true → Passed v ≡ tested (room_rows v work r spot) v
+    pub room_spared : not t ≡ true → Ok v ≡ tested (room_rows v work r spot) v
     room_spared h = rw (← due, not-true t h)
 
     pub room_refused : not t ≡ false → v.shape.entries < v.control.length + r.buffered + 1
-        → Refused status.Room 0 ≡ tested (room_rows v work r spot) v
+        → Err (unvalued status.Room) ≡ tested (room_rows v work r spot) v
     room_refused h g = rw (← due, not-false t h, lt-ltb v.shape.entries (v.control.length + r.buffered + 1) g)
 
-    pub room_found : not t ≡ false → v.control.length + r.buffered + 1 ≤ v.shape.entries → Passed v ≡ tested (room_rows v work r spot) v
+    pub room_found : not t ≡ false → v.control.length + r.buffered + 1 ≤ v.shape.entries → Ok v ≡ tested (room_rows v work r spot) v
     room_found h g = rw (← due, not-false t h, le-ltb v.shape.entries (v.control.length + r.buffered + 1) g)
 
 -- a list of rows, and those behind
-module _ (rows behind : List Row) (v : View) (k : Checked) (is : k ≡ tested rows v) where
-  pub rows_refused : (s : Status) (value : ℕ) → k ≡ Refused s value → Refused s value ≡ tested (rows ++ behind) v
-  rows_refused s value e = refused_first rows behind v s value (sym e ∙ is)
-
-  pub rows_behind : (w : View) (k' : Checked) → k ≡ Passed w → k' ≡ tested behind v → k' ≡ tested (rows ++ behind) v
-  rows_behind w k' e x = x ∙ sym (passed_first rows behind v w (sym e ∙ is))
-
--- scan: 6 and the count, and then 7, 14 and 11
-module _ (v : View) (work : List ℕ) (r : Registers) (k : Checked) (is : k ≡ tested (cursor_rows v work r) v) where
-  pub scan_refused : (s : Status) (value : ℕ) → k ≡ Refused s value → Refused s value ≡ tested (scan_rows v work r) v
-  scan_refused = rows_refused (cursor_rows v work r) (buffer_rows v work r ++ waiting_rows v r) v k is
-
-  pub scan_behind : (w : View) (k' : Checked) → k ≡ Passed w → k' ≡ tested (buffer_rows v work r ++ waiting_rows v r) v
-      → k' ≡ tested (scan_rows v work r) v
-  scan_behind = rows_behind (cursor_rows v work r) (buffer_rows v work r ++ waiting_rows v r) v k is
+pub rows_behind : (rows behind : List Row) (v w : View) (k : Checked) → Ok w ≡ tested rows v → k ≡ tested behind v → k ≡ tested (rows ++ behind) v
+rows_behind rows behind v w k e x = x ∙ sym (passed_first rows behind v w e)
 
 module _ (v : View) (work : List ℕ) (r : Registers) where
-  pub cursor_end : v.slots ≤ r.cursor → Passed v ≡ tested (cursor_rows v work r) v
+  pub cursor_end : v.slots ≤ r.cursor → Ok v ≡ tested (cursor_rows v work r) v
   unfolding proper_set miscounted
   cursor_end h = rw (le-ltb r.cursor v.slots h) (go (eqb r.dirty 0) (eqb r.dirty v.slots))
     where
-      go : (none all : Bool) → Passed v ≡ cond (none && false || all && false) (Refused status.Regs 0) (Passed v)
+      go : (none all : Bool) → Ok v ≡ cond (none && false || all && false) (Err (unvalued status.Regs)) (Ok v)
       go true true = refl
       go true false = refl
       go false true = refl
@@ -134,7 +120,7 @@ module _ (v : View) (work : List ℕ) (r : Registers) where
     cursor_words h = omega (arith, h.work_words_holds)
 
     module _ (b : Bounds) (bounds : b ≡ bounds_of v r) (t : Bool) (slot : t ≡ proper_at b work r.cursor) where
-      pub cursor_refused : not t ≡ true → Refused status.Slot 0 ≡ tested (cursor_rows v work r) v
+      pub cursor_refused : not t ≡ true → Err (unvalued status.Slot) ≡ tested (cursor_rows v work r) v
       unfolding proper_set
       cursor_refused h = rw (lt-ltb r.cursor v.slots within, ← bounds, ← slot, not-true t h)
 
@@ -148,22 +134,22 @@ module _ (v : View) (work : List ℕ) (r : Registers) where
           go false = refl
 
       module _ (proper : not t ≡ false) (m : Bool) (count : m ≡ miscounted v r work (r.cursor ∷ [])) where
-        pub cursor_miscounted : m ≡ true → Refused status.Regs 0 ≡ tested (cursor_rows v work r) v
+        pub cursor_miscounted : m ≡ true → Err (unvalued status.Regs) ≡ tested (cursor_rows v work r) v
         cursor_miscounted h = rw (lt-ltb r.cursor v.slots within, proper_alone proper, ← count, h)
 
-        pub cursor_passed : m ≡ false → Passed v ≡ tested (cursor_rows v work r) v
+        pub cursor_passed : m ≡ false → Ok v ≡ tested (cursor_rows v work r) v
         cursor_passed h = rw (lt-ltb r.cursor v.slots within, proper_alone proper, ← count, h)
 
 -- 15
 module _ (v : View) (r : Registers) (target : ℕ) where
-  pub target_inside : (r.target ≡ 0 → ⊥) → Refused status.Target 0 ≡ tested (target_rows v r target) v
+  pub target_inside : (r.target ≡ 0 → ⊥) → Err (unvalued status.Target) ≡ tested (target_rows v r target) v
   target_inside n = rw (ne_eqb r.target 0 n)
 
   module _ (outside : r.target ≡ 0) (t : Bool) (test : t ≡ waits v r target) where
-    pub target_refused : not t ≡ true → Refused status.Target 0 ≡ tested (target_rows v r target) v
+    pub target_refused : not t ≡ true → Err (unvalued status.Target) ≡ tested (target_rows v r target) v
     target_refused h = rw (eq-eqb r.target 0 outside, ← test, not-true t h)
 
-    pub target_passed : not t ≡ false → Passed v ≡ tested (target_rows v r target) v
+    pub target_passed : not t ≡ false → Ok v ≡ tested (target_rows v r target) v
     target_passed h = rw (eq-eqb r.target 0 outside, ← test, not-false t h)
 
 -- behind 1, 2 and 4

@@ -1,6 +1,6 @@
 -- What a passed check tells: of the check that it stands behind, of each of its rows by the row's status, and so of the view and the
 -- registers.
-use Rattle.std.specs.Prelude.{◌≡◌, ℕ, ◌+◌, ◌-◌, ◌<◌, ◌≤◌, Bool, true, false, cond, not, ◌&&◌, ◌||◌, List, [], ◌∷◌, ◌++◌, length, ◌==◌, ◌≢◌, nat_eq, nat_le, nat_lt, slice_index, refl}
+use Rattle.std.specs.Prelude.{Ok, Err, ◌≡◌, ℕ, ◌+◌, ◌-◌, ◌<◌, ◌≤◌, Bool, true, false, cond, not, ◌&&◌, ◌||◌, List, [], ◌∷◌, ◌++◌, length, ◌==◌, ◌≢◌, nat_eq, nat_le, nat_lt, slice_index, refl}
 use Rattle.std.proofs.Common.{sym, ◌∙◌, arith}
 use Rattle.std.proofs.lemmas.Bool.{false≢true}
 use borrow.Author.Tests.{eqb-true, eqb-false, leb-false, ltb-false, lt-ltb, not-true, not-false}
@@ -18,12 +18,11 @@ use Rattle.status.specs.Numbers.{number_of}
 use Rattle.slots.specs.Laws.{spot_all}
 use Rattle.slots.specs.Sets.{places_of, proper_set, spot_of}
 use Rattle.slots.specs.Slots.{proper_at, dirty_at, undo_due}
-use Rattle.checks.specs.declared.Checked.{Checked}
-use Rattle.checks.specs.declared.Checked.TheVariants.{Refused, Passed}
+use Rattle.checks.specs.declared.Refusal.{Refusal}
 use Rattle.checks.specs.declared.Registers.{Registers}
 use Rattle.checks.specs.declared.View.{View}
 use Rattle.checks.specs.View.{view_of, bounds_of, undo_of, good_sizes, good_control, good_shape, good_slots, good_work, proper_epoch, proper_counts, proper_pass, proper_registers, waits, miscounted}
-use Rattle.checks.specs.Refusals.{Row, tested, then, board_rows, work_rows, entry_rows, register_rows, buffer_rows, address_rows, line_rows, room_rows, epoch_rows, target_rows, scan_rows}
+use Rattle.checks.specs.Refusals.{Checked, unvalued, Row, tested, then, board_rows, work_rows, entry_rows, register_rows, buffer_rows, address_rows, line_rows, room_rows, epoch_rows, target_rows, scan_rows}
 use Rattle.checks.specs.Refusals.{board_checked, memories_checked, power_up_checked, running_checked, ready_checked, named_checked, line_checked, store_checked, commit_checked, begin_checked, scan_checked}
 use Rattle.checks.specs.Registers.{all_zero, scan_target}
 use Rattle.undo.specs.Log.{log_in}
@@ -36,45 +35,45 @@ differ e = omega arith
 -- ---- rows
 
 -- the view that passes is the one that was tested
-pub passed_view : (xs : List Row) (v w : View) → Passed w ≡ tested xs v → w ≡ v
+pub passed_view : (xs : List Row) (v w : View) → Ok w ≡ tested xs v → w ≡ v
 passed_view [] v w e = cc
 passed_view (x ∷ xs) v w e = go x.holds (passed_view xs v w) e
   where
-    go : (t : Bool) → (Passed w ≡ tested xs v → w ≡ v) → Passed w ≡ cond t (Refused x.refuses x.value) (tested xs v) → w ≡ v
+    go : (t : Bool) → (Ok w ≡ tested xs v → w ≡ v) → Ok w ≡ cond t (Err x.refuses) (tested xs v) → w ≡ v
     go true rest e = absurd (differ cc)
     go false rest e = rest e
 
 -- rows in two parts
-pub refused_first : (xs ys : List Row) (v : View) (s : Status) (value : ℕ) → Refused s value ≡ tested xs v → Refused s value ≡ tested (xs ++ ys) v
-refused_first [] ys v s value e = absurd (differ cc)
-refused_first (x ∷ xs) ys v s value e = go x.holds (refused_first xs ys v s value) e
+pub refused_first : (xs ys : List Row) (v : View) (why : Refusal) → Err why ≡ tested xs v → Err why ≡ tested (xs ++ ys) v
+refused_first [] ys v why e = absurd (differ cc)
+refused_first (x ∷ xs) ys v why e = go x.holds (refused_first xs ys v why) e
   where
-    go : (t : Bool) → (Refused s value ≡ tested xs v → Refused s value ≡ tested (xs ++ ys) v)
-        → Refused s value ≡ cond t (Refused x.refuses x.value) (tested xs v)
-        → Refused s value ≡ cond t (Refused x.refuses x.value) (tested (xs ++ ys) v)
+    go : (t : Bool) → (Err why ≡ tested xs v → Err why ≡ tested (xs ++ ys) v)
+        → Err why ≡ cond t (Err x.refuses) (tested xs v)
+        → Err why ≡ cond t (Err x.refuses) (tested (xs ++ ys) v)
     go true rest e = e
     go false rest e = rest e
 
-pub passed_first : (xs ys : List Row) (v w : View) → Passed w ≡ tested xs v → tested (xs ++ ys) v ≡ tested ys v
+pub passed_first : (xs ys : List Row) (v w : View) → Ok w ≡ tested xs v → tested (xs ++ ys) v ≡ tested ys v
 passed_first [] ys v w e = refl
 passed_first (x ∷ xs) ys v w e = go x.holds (passed_first xs ys v w) e
   where
-    go : (t : Bool) → (Passed w ≡ tested xs v → tested (xs ++ ys) v ≡ tested ys v) → Passed w ≡ cond t (Refused x.refuses x.value) (tested xs v)
-        → cond t (Refused x.refuses x.value) (tested (xs ++ ys) v) ≡ tested ys v
+    go : (t : Bool) → (Ok w ≡ tested xs v → tested (xs ++ ys) v ≡ tested ys v) → Ok w ≡ cond t (Err x.refuses) (tested xs v)
+        → cond t (Err x.refuses) (tested (xs ++ ys) v) ≡ tested ys v
     go true rest e = absurd (differ cc)
     go false rest e = rest e
 
 -- whether the first row of a status holds
 abbrev pub held_as : Status → List Row → Bool
 held_as s [] = false
-held_as s (x ∷ xs) = cond (number_of x.refuses == number_of s) x.holds (held_as s xs)
+held_as s (x ∷ xs) = cond (number_of x.refuses.status == number_of s) x.holds (held_as s xs)
 
 -- of rows that passed, none does
-pub passed_row : (s : Status) (xs : List Row) (v w : View) → Passed w ≡ tested xs v → held_as s xs ≡ false
+pub passed_row : (s : Status) (xs : List Row) (v w : View) → Ok w ≡ tested xs v → held_as s xs ≡ false
 passed_row s [] v w e = refl
-passed_row s (x ∷ xs) v w e = go x.holds (number_of x.refuses == number_of s) (passed_row s xs v w) e
+passed_row s (x ∷ xs) v w e = go x.holds (number_of x.refuses.status == number_of s) (passed_row s xs v w) e
   where
-    go : (t c : Bool) → (Passed w ≡ tested xs v → held_as s xs ≡ false) → Passed w ≡ cond t (Refused x.refuses x.value) (tested xs v)
+    go : (t c : Bool) → (Ok w ≡ tested xs v → held_as s xs ≡ false) → Ok w ≡ cond t (Err x.refuses) (tested xs v)
         → cond c t (held_as s xs) ≡ false
     go true c rest e = absurd (differ cc)
     go false true rest e = refl
@@ -83,20 +82,20 @@ passed_row s (x ∷ xs) v w e = go x.holds (number_of x.refuses == number_of s) 
 -- ---- checks behind checks
 
 module _ (k : Checked) (rows : View → List Row) where
-  pub then_refused : (s : Status) (value : ℕ) → Refused s value ≡ k → Refused s value ≡ then k rows
-  then_refused s value e = rw (← e)
+  pub then_refused : (why : Refusal) → Err why ≡ k → Err why ≡ then k rows
+  then_refused why e = rw (← e)
 
-  pub then_passed : (v : View) → Passed v ≡ k → then k rows ≡ tested (rows v) v
+  pub then_passed : (v : View) → Ok v ≡ k → then k rows ≡ tested (rows v) v
   then_passed v e = rw (← e)
 
   -- what passed had passed before, and then these rows
   pub record Both (w : View) : Type 0 where
-    pub before : Passed w ≡ k
-    pub here : Passed w ≡ tested (rows w) w
+    pub before : Ok w ≡ k
+    pub here : Ok w ≡ tested (rows w) w
 
-pub then_both : (k : Checked) (rows : View → List Row) (w : View) → Passed w ≡ then k rows → Both k rows w
-then_both (Refused s value) rows w e = absurd (differ cc)
-then_both (Passed v) rows w e =
+pub then_both : (k : Checked) (rows : View → List Row) (w : View) → Ok w ≡ then k rows → Both k rows w
+then_both (Err why) rows w e = absurd (differ cc)
+then_both (Ok v) rows w e =
     let same = passed_view (rows v) v w e in
     record { before = rw same; here = rw (← same) at e }
 
@@ -156,7 +155,7 @@ shaped_of board work v e h g =
       work_words_holds = rw slots (search held depth 12);
     }
 
-pub memories_shaped : (board work : List ℕ) (v : View) → Passed v ≡ memories_checked board work → Shaped board work v
+pub memories_shaped : (board work : List ℕ) (v : View) → Ok v ≡ memories_checked board work → Shaped board work v
 unfolding memories_checked
 memories_shaped board work v e =
     let rows = board_rows (length board) (view_of board work) ++ work_rows (length work) in
@@ -164,7 +163,7 @@ memories_shaped board work v e =
     shaped_of board work v same (rw same (not-false _ (passed_row status.Shape rows (view_of board work) v e)))
     (not-false _ (passed_row status.Work rows (view_of board work) v e))
 
-pub board_opened : (board : List ℕ) (v : View) → Passed v ≡ board_checked board → Opened board v
+pub board_opened : (board : List ℕ) (v : View) → Ok v ≡ board_checked board → Opened board v
 unfolding board_checked
 board_opened board v e =
     let rows = board_rows (length board) (view_of board []) in
@@ -200,7 +199,7 @@ proper_of v r h =
       pass = search held depth 12;
     }
 
-pub running : (board work : List ℕ) (r : Registers) (v : View) → Passed v ≡ running_checked board work r → Running board work r v
+pub running : (board work : List ℕ) (r : Registers) (v : View) → Ok v ≡ running_checked board work r → Running board work r v
 unfolding running_checked
 running board work r v e =
     let b = then_both (memories_checked board work) (λ w. register_rows w r) v e in
@@ -211,7 +210,7 @@ running board work r v e =
 
 -- ---- 7 and 14
 
-pub ready_running : (board work : List ℕ) (r : Registers) (v : View) → Passed v ≡ ready_checked board work r → Running board work r v
+pub ready_running : (board work : List ℕ) (r : Registers) (v : View) → Ok v ≡ ready_checked board work r → Running board work r v
 unfolding ready_checked
 ready_running board work r v e =
     running board work r v (then_both (running_checked board work r) (λ w. buffer_rows w work r) v e).before
@@ -219,7 +218,7 @@ ready_running board work r v e =
 -- ---- 3
 
 -- every entry is proper: the first improper one is behind the last
-module _ (board work : List ℕ) (v : View) (e : Passed v ≡ power_up_checked board work) where
+module _ (board work : List ℕ) (v : View) (e : Ok v ≡ power_up_checked board work) where
   entries_both : Both (memories_checked board work) (λ w. entry_rows board w) v
   unfolding power_up_checked
   entries_both = then_both (memories_checked board work) (λ w. entry_rows board w) v e
@@ -260,7 +259,7 @@ spot_dirty work slots address d = go (any_of (dirty_at work) (places_of slots ad
         absurd (false≢true (sym (not-true (dirty_at work (spot_of work slots address).slot) no) ∙ d))
 
 -- 5 passed
-module _ (board work : List ℕ) (r : Registers) (address : ℕ) (v : View) (e : Passed v ≡ named_checked board work r address) where
+module _ (board work : List ℕ) (r : Registers) (address : ℕ) (v : View) (e : Ok v ≡ named_checked board work r address) where
   named_both : Both (running_checked board work r) (λ w. address_rows w address) v
   unfolding named_checked
   named_both = then_both (running_checked board work r) (λ w. address_rows w address) v e
@@ -272,7 +271,7 @@ module _ (board work : List ℕ) (r : Registers) (address : ℕ) (v : View) (e :
   named_inside = leb-false _ _ (passed_row status.Address (address_rows v address) v v named_both.here)
 
 -- and 6, the count, 7 and 14
-module _ (board work : List ℕ) (r : Registers) (address : ℕ) (v : View) (e : Passed v ≡ line_checked board work r address) where
+module _ (board work : List ℕ) (r : Registers) (address : ℕ) (v : View) (e : Ok v ≡ line_checked board work r address) where
   line_both : Both (named_checked board work r address) (λ w. line_rows w work r address) v
   unfolding line_checked
   line_both = then_both (named_checked board work r address) (λ w. line_rows w work r address) v e
@@ -296,12 +295,12 @@ module _ (board work : List ℕ) (r : Registers) (address : ℕ) (v : View) (e :
 
 -- ---- and 8
 
-module _ (board work : List ℕ) (r : Registers) (address : ℕ) (v : View) (e : Passed v ≡ store_checked board work r address) where
+module _ (board work : List ℕ) (r : Registers) (address : ℕ) (v : View) (e : Ok v ≡ store_checked board work r address) where
   store_both : Both (line_checked board work r address) (λ w. room_rows w work r (spot_of work w.slots address)) v
   unfolding store_checked
   store_both = then_both (line_checked board work r address) (λ w. room_rows w work r (spot_of work w.slots address)) v e
 
-  pub store_line : Passed v ≡ line_checked board work r address
+  pub store_line : Ok v ≡ line_checked board work r address
   store_line = store_both.before
 
   pub store_room : undo_due work (spot_of work v.slots address) r.epoch ≡ true → v.control.length + r.buffered + 1 ≤ v.shape.entries
@@ -316,7 +315,7 @@ module _ (board work : List ℕ) (r : Registers) (address : ℕ) (v : View) (e :
 
 -- ---- commit
 
-module _ (board work : List ℕ) (r : Registers) (v : View) (e : Passed v ≡ commit_checked board work r) where
+module _ (board work : List ℕ) (r : Registers) (v : View) (e : Ok v ≡ commit_checked board work r) where
   commit_both : Both (ready_checked board work r) (λ w. epoch_rows w r) v
   unfolding commit_checked
   commit_both = then_both (ready_checked board work r) (λ w. epoch_rows w r) v e
@@ -339,7 +338,7 @@ module _ (board work : List ℕ) (r : Registers) (v : View) (e : Passed v ≡ co
 
 -- ---- begin
 
-module _ (board work : List ℕ) (r : Registers) (target : ℕ) (v : View) (e : Passed v ≡ begin_checked board work r target) where
+module _ (board work : List ℕ) (r : Registers) (target : ℕ) (v : View) (e : Ok v ≡ begin_checked board work r target) where
   begin_both : Both (ready_checked board work r) (λ w. target_rows w r target) v
   unfolding begin_checked
   begin_both = then_both (ready_checked board work r) (λ w. target_rows w r target) v e
@@ -365,7 +364,7 @@ module _ (board work : List ℕ) (r : Registers) (target : ℕ) (v : View) (e : 
 
 -- ---- scan
 
-module _ (board work : List ℕ) (r : Registers) (v : View) (e : Passed v ≡ scan_checked board work r) where
+module _ (board work : List ℕ) (r : Registers) (v : View) (e : Ok v ≡ scan_checked board work r) where
   scan_both : Both (running_checked board work r) (λ w. scan_rows w work r) v
   unfolding scan_checked
   scan_both = then_both (running_checked board work r) (λ w. scan_rows w work r) v e

@@ -1,14 +1,13 @@
 -- "What an answer says": the rows of the paper's table, and the order in which each call tests them. The paper's "The lowest number wins" is
 -- true of the rows that it lists; a later request says behind which row its own is tested.
-use Rattle.std.specs.Prelude.{ℕ, ◌+◌, ◌-◌, Bool, cond, not, ◌&&◌, ◌||◌, List, [], ◌∷◌, ◌++◌, length, ◌==◌, nat_le, nat_lt}
+use Rattle.std.specs.Prelude.{Result, Ok, Err, ℕ, ◌+◌, ◌-◌, Bool, cond, not, ◌&&◌, ◌||◌, List, [], ◌∷◌, ◌++◌, length, ◌==◌, nat_le, nat_lt}
 use Rattle.layout.specs.Limits.{last_epoch, most_ahead}
 use Rattle.status.specs.declared.Status.{Status}
 use Rattle.status.specs.declared.Status.TheVariants as status
 use Rattle.slots.specs.declared.Spot.{Spot}
 use Rattle.slots.specs.Slots.{undo_due}
 use Rattle.slots.specs.Sets.{places_of, proper_set, spot_of}
-use Rattle.checks.specs.declared.Checked.{Checked}
-use Rattle.checks.specs.declared.Checked.TheVariants.{Refused, Passed}
+use Rattle.checks.specs.declared.Refusal.{Refusal}
 use Rattle.checks.specs.declared.Registers.{Registers}
 use Rattle.checks.specs.declared.View.{View}
 use Rattle.undo.specs.Log.{log_in}
@@ -16,24 +15,31 @@ use Rattle.undo.specs.Recovery.{first_improper}
 use Rattle.checks.specs.Registers.{all_zero}
 use Rattle.checks.specs.View.{view_of, good_shape, good_work, proper_registers, waits, miscounted, bounds_of, undo_of, good_buffer, good_filter}
 
--- a row of the table: when it refuses, as what, and with which value: "Numbers 1 to 11 return value 0 (3 excepted)"
+-- "Numbers 1 to 11 return value 0 (3 excepted)"
+abbrev pub unvalued : Status → Refusal
+unvalued s = record { status = s; value = 0 }
+
+-- a row of the table: when it refuses, as what, and with which value
 pub record Row : Type 0 where
   pub holds : Bool
-  pub refuses : Status
-  pub value : ℕ
+  pub refuses : Refusal
 
 abbrev pub row : Bool → Status → Row
-row holds refuses = record { holds = holds; refuses = refuses; value = 0 }
+row holds s = record { holds = holds; refuses = unvalued s }
+
+-- what came of tests: why the call is refused, or what it has read
+abbrev pub Checked : Type 0
+Checked = Result View Refusal
 
 -- the first row that holds, or else the view that passed
 abbrev pub tested : List Row → View → Checked
-tested [] v = Passed v
-tested (x ∷ xs) v = cond x.holds (Refused x.refuses x.value) (tested xs v)
+tested [] v = Ok v
+tested (x ∷ xs) v = cond x.holds (Err x.refuses) (tested xs v)
 
 -- rows behind a check that has passed
 abbrev pub then : Checked → (View → List Row) → Checked
-then (Refused s value) rows = Refused s value
-then (Passed v) rows = tested (rows v) v
+then (Err why) rows = Err why
+then (Ok v) rows = tested (rows v) v
 
 -- ---- the rows of one stage; a row that is tested right after another stands behind it in one list
 
@@ -49,7 +55,7 @@ work_rows words = row (not (good_work words)) status.Work ∷ []
 abbrev pub entry_rows : (board : List ℕ) → View → List Row
 entry_rows board v =
     let i = first_improper (log_in board (undo_of v all_zero)) v.shape.lines in
-    record { holds = nat_lt i v.control.length; refuses = status.Entry; value = i } ∷ []
+    record { holds = nat_lt i v.control.length; refuses = record { status = status.Entry; value = i } } ∷ []
 
 -- 4
 abbrev pub register_rows : View → Registers → List Row

@@ -1,6 +1,6 @@
 -- A call makes its check in stages: what the answer of one stage tells of the whole check, and what it gives the next stage. The premises
 -- are what the code knows there.
-use Rattle.std.specs.Prelude.{◌≡◌, ℕ, ◌+◌, ◌-◌, ◌<◌, ◌≤◌, Bool, true, false, List, ◌++◌, length, ◌≢◌, refl}
+use Rattle.std.specs.Prelude.{Ok, Err, IsErrAnd, ◌≡◌, ℕ, ◌+◌, ◌-◌, ◌<◌, ◌≤◌, Bool, true, false, List, ◌++◌, length, ◌≢◌, refl}
 use Rattle.std.proofs.Common.{sym, ap, ◌∙◌, arith}
 use Rattle.layout.specs.Laws.{control_laws}
 use Rattle.layout.specs.Limits.{last_epoch, ways, most_slots}
@@ -14,31 +14,35 @@ use Rattle.slots.specs.Passes.{bounds_by, nowhere, first_slot_of, site_for, spot
 use Rattle.slots.specs.Sets.{places_of, proper_set, spot_of}
 use Rattle.slots.specs.Sited.{bounds_by_holds, tags_ready, site_improper, site_somewhere, site_first, site_words, site_proper, spot_again}
 use Rattle.slots.specs.Slots.{dirty_slot}
-use Rattle.checks.specs.declared.Checked.{Checked}
-use Rattle.checks.specs.declared.Checked.TheVariants.{Refused, Passed}
+use Rattle.checks.specs.declared.Refusal.{Refusal}
 use Rattle.checks.specs.declared.Registers.{Registers}
 use Rattle.checks.specs.declared.View.{View}
 use Rattle.checks.specs.View.{view_of, bounds_of}
-use Rattle.checks.specs.Refusals.{Row, tested, then, line_rows, buffer_rows, room_rows}
+use Rattle.checks.specs.Refusals.{Checked, unvalued, Row, tested, then, line_rows, buffer_rows, room_rows}
 use Rattle.checks.specs.Refusals.{memories_checked, running_checked, ready_checked, named_checked, line_checked, store_checked}
 use Rattle.checks.specs.Promises.{Running, RowsReady, SiteReady, site_rows}
 use Rattle.checks.specs.Laws.{passed_view, then_passed, memories_shaped, running, ready_running, named_running, named_inside, line_running, line_proper}
 
+-- what `?` hands on is what the check before it has refused
+pub handed : (whole k : Checked) (why : Refusal) → IsErrAnd k (λ x. x ≡ why) → Err why ≡ whole → k ≡ whole
+handed whole (Ok v) why same e = absurd same
+handed whole (Err x) why same e = rw same e
+
 -- a check that is known by what a function has answered
 module _ (whole k : Checked) (is : k ≡ whole) where
-  pub told_refused : (s : Status) (value : ℕ) → k ≡ Refused s value → Refused s value ≡ whole
-  told_refused s value e = sym e ∙ is
+  pub told_refused : (why : Refusal) → k ≡ Err why → Err why ≡ whole
+  told_refused why e = sym e ∙ is
 
-  pub told_passed : (v : View) → k ≡ Passed v → Passed v ≡ whole
+  pub told_passed : (v : View) → k ≡ Ok v → Ok v ≡ whole
   told_passed v e = sym e ∙ is
 
 -- rows behind a check that passed
-module _ (before : Checked) (rows : View → List Row) (v : View) (passed : Passed v ≡ before) (k : Checked) (is : k ≡ tested (rows v) v) where
+module _ (before : Checked) (rows : View → List Row) (v : View) (passed : Ok v ≡ before) (k : Checked) (is : k ≡ tested (rows v) v) where
   pub staged : k ≡ then before rows
   staged = is ∙ sym (then_passed before rows v passed)
 
   -- what passes is the view that was tested
-  pub staged_passed : (w : View) → k ≡ Passed w → Passed v ≡ then before rows
+  pub staged_passed : (w : View) → k ≡ Ok w → Ok v ≡ then before rows
   staged_passed w e = rw (passed_view (rows v) v w (sym e ∙ is)) at (sym e) ∙ staged
 
 ready_of : (board work : List ℕ) (r : Registers) (v : View) → Running board work r v → RowsReady work r v
@@ -50,28 +54,23 @@ ready_of board work r v h =
       proper = h.proper;
     }
 
-pub running_rows : (board work : List ℕ) (r : Registers) (v : View) → Passed v ≡ running_checked board work r → RowsReady work r v
+pub running_rows : (board work : List ℕ) (r : Registers) (v : View) → Ok v ≡ running_checked board work r → RowsReady work r v
 running_rows board work r v passed = ready_of board work r v (running board work r v passed)
 
 -- what a check that passed tells the next stage
-module _ (board work : List ℕ) (k : Checked) (v : View) (passed : k ≡ Passed v) where
-  pub memories_fits : k ≡ memories_checked board work → ControlFits v.control
-  unfolding view_of
-  memories_fits is = rw (memories_shaped board work v (told_passed _ k is v passed)).is (control_laws.decoded_fits _)
+pub memories_fits : (board work : List ℕ) (v : View) → Ok v ≡ memories_checked board work → ControlFits v.control
+unfolding view_of
+memories_fits board work v passed = rw (memories_shaped board work v passed).is (control_laws.decoded_fits _)
 
-  module _ (r : Registers) where
-    pub running_ready : k ≡ running_checked board work r → RowsReady work r v
-    running_ready is = running_rows board work r v (told_passed _ k is v passed)
+module _ (board work : List ℕ) (r : Registers) (v : View) (passed : Ok v ≡ ready_checked board work r) where
+  pub ready_ahead : v.control.persisted < r.epoch
+  ready_ahead = (ready_running board work r v passed).proper.ahead
 
-    module _ (is : k ≡ ready_checked board work r) where
-      pub ready_ahead : v.control.persisted < r.epoch
-      ready_ahead = (ready_running board work r v (told_passed _ k is v passed)).proper.ahead
-
-      pub ready_last : r.epoch ≤ last_epoch
-      ready_last = (ready_running board work r v (told_passed _ k is v passed)).proper.epoch_most
+  pub ready_last : r.epoch ≤ last_epoch
+  ready_last = (ready_running board work r v passed).proper.epoch_most
 
 -- the pass over the set of an address: what it is told, and that what it has found is what the rows ask
-module _ (board work : List ℕ) (r : Registers) (address : ℕ) (v : View) (passed : Passed v ≡ named_checked board work r address) where
+module _ (board work : List ℕ) (r : Registers) (address : ℕ) (v : View) (passed : Ok v ≡ named_checked board work r address) where
   named : Running board work r v
   named = named_running board work r address v passed
 
@@ -143,18 +142,18 @@ module _ (board work : List ℕ) (r : Registers) (address : ℕ) (v : View) (pas
         unfolding line_checked
         line_staged = staged (named_checked board work r address) (λ w. line_rows w work r address) v passed k (is ∙ site_tested)
 
-        pub line_passed : (w : View) → k ≡ Passed w → Passed v ≡ line_checked board work r address
+        pub line_passed : (w : View) → k ≡ Ok w → Ok v ≡ line_checked board work r address
         unfolding line_checked
         line_passed = staged_passed (named_checked board work r address) (λ w. line_rows w work r address) v passed k (is ∙ site_tested)
 
         -- and where the line is held or put
-        pub line_spot : (w : View) (spot : Spot) → k ≡ Passed w → spot ≡ spot_at site → spot ≡ spot_of work v.slots address
+        pub line_spot : (w : View) (spot : Spot) → k ≡ Ok w → spot ≡ spot_at site → spot ≡ spot_of work v.slots address
         line_spot w spot e at =
             let whole = here ∙ site_proper (bounds_of v r) work address some most (line_proper board work r address v (line_passed w e)) in
             at ∙ ap spot_at whole ∙ spot_again (spot_of work v.slots address)
 
 -- 8 of store, behind the rows of load
-module _ (board work : List ℕ) (r : Registers) (address : ℕ) (v : View) (passed : Passed v ≡ line_checked board work r address) where
+module _ (board work : List ℕ) (r : Registers) (address : ℕ) (v : View) (passed : Ok v ≡ line_checked board work r address) where
   pub line_ready : RowsReady work r v
   line_ready = ready_of board work r v (line_running board work r address v passed)
 
@@ -168,7 +167,7 @@ module _ (board work : List ℕ) (r : Registers) (address : ℕ) (v : View) (pas
       room_staged =
           staged (line_checked board work r address) (λ w. room_rows w work r (spot_of work w.slots address)) v passed k (rw at at is)
 
-      pub room_passed : (w : View) → k ≡ Passed w → Passed v ≡ store_checked board work r address
+      pub room_passed : (w : View) → k ≡ Ok w → Ok v ≡ store_checked board work r address
       unfolding store_checked
       room_passed =
           staged_passed (line_checked board work r address) (λ w. room_rows w work r (spot_of work w.slots address)) v passed k (rw at at is)

@@ -12,6 +12,7 @@ ghost use Rattle.checks.specs.Registers.{all_zero, given, restarted, committed, 
 ghost use Rattle.checks.specs.View.{good_control, good_shape, proper_epoch, proper_counts, proper_pass, proper_registers, waits, miscounted};
 ghost use Rattle.checks.specs.View.{lent, bounds_of, undo_of};
 ghost use Rattle.checks.specs.Promises.{Viewed, Countable};
+ghost use Rattle.checks.specs.Refusals.{unvalued};
 ghost use Rattle.slots.specs.Sets.{slots_from};
 ghost use Rattle.slots.specs.Slots.{dirty_slot};
 
@@ -354,9 +355,18 @@ impl View {
     }
 }
 
-// What came of a call's tests: why it is refused and with which value, or what it has read.
+// Why a call's tests refuse it, and with which value.
 #[derive(Clone, Copy)]
-pub enum Checked {
-    Refused(Status, u64),
-    Passed(View),
+pub struct Refusal {
+    pub status: Status,
+    pub value: u64,
+}
+
+// "Numbers 1 to 11 return value 0 (3 excepted)".
+impl From<Status> for Refusal {
+    ghost from_gives = { λ status refusal. refusal ≡ unvalued status };
+
+    fn from(status: Status) -> Refusal {
+        Refusal { status, value: 0 }
+    }
 }

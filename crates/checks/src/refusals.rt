@@ -10,89 +10,85 @@ ghost use Rattle.checks.specs.Refusals.{board_checked, memories_checked, power_u
 ghost use Rattle.checks.specs.Promises.{Shaped, RowsReady, SiteReady, site_rows};
 
 use crate::sizes::is_good_work;
-use crate::{Checked, Registers, View};
+use crate::{Refusal, Registers, View};
 use layout::{LAST_EPOCH, LOG_AT, MOST_AHEAD, SHAPE_AT, Shape};
 use slots::Spot;
 use status::Status;
 
 // 1 of the paper's table.
-pub fn check_board(board: &[u64]) -> Checked
+pub fn check_board(board: &[u64]) -> Result<View, Refusal>
     ensures { result ≡ board_checked board.now }
 {
     if board.len() < LOG_AT {
-        return Checked::Refused(Status::Shape, 0);
+        return Err(Refusal::from(Status::Shape));
     }
     let view = View::read(board);
     let lines = Shape::own_lines(board[SHAPE_AT]);
     if !view.is_good_shape(board.len(), lines) {
-        return Checked::Refused(Status::Shape, 0);
+        return Err(Refusal::from(Status::Shape));
     }
-    Checked::Passed(view)
+    Ok(view)
 }
 
 // 1 and 2.
-fn check_memories(board: &[u64], work: &[u64]) -> Checked
+#[inline(always)]
+fn check_memories(board: &[u64], work: &[u64]) -> Result<View, Refusal>
     ensures { result ≡ memories_checked board.now work.now }
 {
-    let shaped = check_board(board);
-    match shaped {
-        Checked::Refused(status, value) => Checked::Refused(status, value),
-        Checked::Passed(view) => {
-            if !is_good_work(work.len()) {
-                return Checked::Refused(Status::Work, 0);
-            }
-            Checked::Passed(view.lent(work.len()))
-        }
+    let view = check_board(board)?;
+    if !is_good_work(work.len()) {
+        return Err(Refusal::from(Status::Work));
     }
+    Ok(view.lent(work.len()))
 }
 
 // 3 of power-up.
-fn check_entries(board: &[u64], work: &[u64], view: View) -> Checked
+#[inline(always)]
+fn check_entries(board: &[u64], work: &[u64], view: View) -> Result<View, Refusal>
     requires { Shaped board.now work.now view }
     ensures { result ≡ tested (entry_rows board.now view) view }
 {
     let found = undo::first_improper(board, view.log(), view.shape.lines);
     if found < view.control.length {
-        return Checked::Refused(Status::Entry, found);
+        return Err(Refusal {
+            status: Status::Entry,
+            value: found,
+        });
     }
-    Checked::Passed(view)
+    Ok(view)
 }
 
 // 1, 2 and 3.
-pub fn check_power_up(board: &[u64], work: &[u64]) -> Checked
+#[inline(always)]
+pub fn check_power_up(board: &[u64], work: &[u64]) -> Result<View, Refusal>
     ensures { result ≡ power_up_checked board.now work.now }
 {
-    let memories = check_memories(board, work);
-    match memories {
-        Checked::Refused(status, value) => Checked::Refused(status, value),
-        Checked::Passed(view) => check_entries(board, work, view),
-    }
+    let view = check_memories(board, work)?;
+    check_entries(board, work, view)
 }
 
 // 4.
-fn check_registers(view: View, registers: Registers) -> Checked
+fn check_registers(view: View, registers: Registers) -> Result<View, Refusal>
     requires { ControlFits view.control }
     ensures { result ≡ tested (register_rows view registers) view }
 {
     if !registers.is_proper(view) {
-        return Checked::Refused(Status::Regs, 0);
+        return Err(Refusal::from(Status::Regs));
     }
-    Checked::Passed(view)
+    Ok(view)
 }
 
 // 1, 2 and 4.
-pub fn check_running(board: &[u64], work: &[u64], registers: Registers) -> Checked
+#[inline(always)]
+pub fn check_running(board: &[u64], work: &[u64], registers: Registers) -> Result<View, Refusal>
     ensures { result ≡ running_checked board.now work.now registers }
 {
-    let memories = check_memories(board, work);
-    match memories {
-        Checked::Refused(status, value) => Checked::Refused(status, value),
-        Checked::Passed(view) => check_registers(view, registers),
-    }
+    let view = check_memories(board, work)?;
+    check_registers(view, registers)
 }
 
 // 7 and 14. One pass tells that neither holds; only where one does, another tells which.
-fn check_buffer(view: View, work: &[u64], registers: Registers) -> Checked
+fn check_buffer(view: View, work: &[u64], registers: Registers) -> Result<View, Refusal>
     requires { RowsReady work.now registers view }
     ensures { result ≡ tested (buffer_rows view work.now registers) view }
 {
@@ -103,7 +99,7 @@ fn check_buffer(view: View, work: &[u64], registers: Registers) -> Checked
         view.shape.lines,
         registers.epoch,
     ) {
-        return Checked::Passed(view);
+        return Ok(view);
     }
     if undo::is_buffer_proper(
         &work[at..],
@@ -111,183 +107,184 @@ fn check_buffer(view: View, work: &[u64], registers: Registers) -> Checked
         view.shape.lines,
         registers.epoch,
     ) {
-        return Checked::Refused(Status::Filter, 0);
+        return Err(Refusal::from(Status::Filter));
     }
-    Checked::Refused(Status::Buffer, 0)
+    Err(Refusal::from(Status::Buffer))
 }
 
 // 1, 2, 4, 7 and 14.
-pub fn check_ready(board: &[u64], work: &[u64], registers: Registers) -> Checked
+#[inline(always)]
+pub fn check_ready(board: &[u64], work: &[u64], registers: Registers) -> Result<View, Refusal>
     ensures { result ≡ ready_checked board.now work.now registers }
 {
-    let running = check_running(board, work, registers);
-    match running {
-        Checked::Refused(status, value) => Checked::Refused(status, value),
-        Checked::Passed(view) => check_buffer(view, work, registers),
-    }
+    let view = check_running(board, work, registers)?;
+    check_buffer(view, work, registers)
 }
 
 // 5 of load, store and evict.
-fn check_address(view: View, address: u64) -> Checked
+fn check_address(view: View, address: u64) -> Result<View, Refusal>
     ensures { result ≡ tested (address_rows view address) view }
 {
     if address >= view.shape.lines {
-        return Checked::Refused(Status::Address, 0);
+        return Err(Refusal::from(Status::Address));
     }
-    Checked::Passed(view)
+    Ok(view)
 }
 
 // 1, 2, 4 and 5 of load, store and evict.
-pub fn check_named(board: &[u64], work: &[u64], registers: Registers, address: u64) -> Checked
+#[inline(always)]
+pub fn check_named(
+    board: &[u64],
+    work: &[u64],
+    registers: Registers,
+    address: u64,
+) -> Result<View, Refusal>
     ensures { result ≡ named_checked board.now work.now registers address }
 {
-    let running = check_running(board, work, registers);
-    match running {
-        Checked::Refused(status, value) => Checked::Refused(status, value),
-        Checked::Passed(view) => check_address(view, address),
-    }
+    let view = check_running(board, work, registers)?;
+    check_address(view, address)
 }
 
 // 6 of load, store and evict and then 4 for the count, by what a pass over the set has found.
-fn check_set(view: View, work: &[u64], registers: Registers, site: usize) -> Checked
+fn check_set(view: View, work: &[u64], registers: Registers, site: usize) -> Result<View, Refusal>
     requires { SiteReady work.now view site }
     ensures { result ≡ tested (site_rows view work.now registers site) view }
 {
     if slots::is_nowhere(site) {
-        return Checked::Refused(Status::Slot, 0);
+        return Err(Refusal::from(Status::Slot));
     }
     if registers.is_miscounted_set(view, work, slots::first_slot_of(site)) {
-        return Checked::Refused(Status::Regs, 0);
+        return Err(Refusal::from(Status::Regs));
     }
-    Checked::Passed(view)
+    Ok(view)
 }
 
 // And then 7 and 14.
-pub fn check_site(view: View, work: &[u64], registers: Registers, site: usize) -> Checked
+pub fn check_site(
+    view: View,
+    work: &[u64],
+    registers: Registers,
+    site: usize,
+) -> Result<View, Refusal>
     requires rows_ready { RowsReady work.now registers view }
     requires site_ready { SiteReady work.now view site }
     ensures { result ≡ tested (site_rows view work.now registers site ++ buffer_rows view work.now registers) view }
 {
-    let proper = check_set(view, work, registers, site);
-    match proper {
-        Checked::Refused(status, value) => Checked::Refused(status, value),
-        Checked::Passed(_) => check_buffer(view, work, registers),
-    }
+    check_set(view, work, registers, site)?;
+    check_buffer(view, work, registers)
 }
 
 // 8 of store.
-pub fn check_room(view: View, work: &[u64], registers: Registers, spot: Spot) -> Checked
+pub fn check_room(
+    view: View,
+    work: &[u64],
+    registers: Registers,
+    spot: Spot,
+) -> Result<View, Refusal>
     requires rows_ready { RowsReady work.now registers view }
     requires slot_lt_slots { spot.slot < view.slots }
     ensures { result ≡ tested (room_rows view work.now registers spot) view }
 {
     if !slots::is_undo_due(work, spot, registers.epoch) {
-        return Checked::Passed(view);
+        return Ok(view);
     }
     if view.control.length + registers.buffered + 1 > view.shape.entries {
-        return Checked::Refused(Status::Room, 0);
+        return Err(Refusal::from(Status::Room));
     }
-    Checked::Passed(view)
+    Ok(view)
 }
 
 // 9 and 10 of commit.
-fn check_commit_epoch(view: View, registers: Registers) -> Checked
+fn check_commit_epoch(view: View, registers: Registers) -> Result<View, Refusal>
     requires { view.control.persisted < registers.epoch }
     ensures { result ≡ tested (epoch_rows view registers) view }
 {
     if registers.epoch - view.control.persisted == MOST_AHEAD {
-        return Checked::Refused(Status::Waiting, 0);
+        return Err(Refusal::from(Status::Waiting));
     }
     if registers.epoch == LAST_EPOCH {
-        return Checked::Refused(Status::Last, 0);
+        return Err(Refusal::from(Status::Last));
     }
-    Checked::Passed(view)
+    Ok(view)
 }
 
-pub fn check_commit(board: &[u64], work: &[u64], registers: Registers) -> Checked
+pub fn check_commit(board: &[u64], work: &[u64], registers: Registers) -> Result<View, Refusal>
     ensures { result ≡ commit_checked board.now work.now registers }
 {
-    let ready = check_ready(board, work, registers);
-    match ready {
-        Checked::Refused(status, value) => Checked::Refused(status, value),
-        Checked::Passed(view) => check_commit_epoch(view, registers),
-    }
+    let view = check_ready(board, work, registers)?;
+    check_commit_epoch(view, registers)
 }
 
 // 15 of begin.
-fn check_target(view: View, registers: Registers, target: u64) -> Checked
+fn check_target(view: View, registers: Registers, target: u64) -> Result<View, Refusal>
     requires persisted_lt_epoch { view.control.persisted < registers.epoch }
     requires epoch_le_last_epoch { registers.epoch ≤ last_epoch }
     ensures { result ≡ tested (target_rows view registers target) view }
 {
     if registers.target != 0 {
-        return Checked::Refused(Status::Target, 0);
+        return Err(Refusal::from(Status::Target));
     }
     if !registers.waits(view, target) {
-        return Checked::Refused(Status::Target, 0);
+        return Err(Refusal::from(Status::Target));
     }
-    Checked::Passed(view)
+    Ok(view)
 }
 
-pub fn check_begin(board: &[u64], work: &[u64], registers: Registers, target: u64) -> Checked
+pub fn check_begin(
+    board: &[u64],
+    work: &[u64],
+    registers: Registers,
+    target: u64,
+) -> Result<View, Refusal>
     ensures { result ≡ begin_checked board.now work.now registers target }
 {
-    let ready = check_ready(board, work, registers);
-    match ready {
-        Checked::Refused(status, value) => Checked::Refused(status, value),
-        Checked::Passed(view) => check_target(view, registers, target),
-    }
+    let view = check_ready(board, work, registers)?;
+    check_target(view, registers, target)
 }
 
 // 6 of scan and then 4 for the count: the slot at the cursor, while there is one.
-fn check_cursor(view: View, work: &[u64], registers: Registers) -> Checked
+fn check_cursor(view: View, work: &[u64], registers: Registers) -> Result<View, Refusal>
     requires { RowsReady work.now registers view }
     ensures { result ≡ tested (cursor_rows view work.now registers) view }
 {
     let k = registers.cursor as usize;
     if k >= view.slots {
-        return Checked::Passed(view);
+        return Ok(view);
     }
     if !slots::is_proper_at(work, view.bounds(registers), k) {
-        return Checked::Refused(Status::Slot, 0);
+        return Err(Refusal::from(Status::Slot));
     }
     if registers.is_miscounted_at(view, work, k) {
-        return Checked::Refused(Status::Regs, 0);
+        return Err(Refusal::from(Status::Regs));
     }
-    Checked::Passed(view)
+    Ok(view)
 }
 
 // 11 of scan.
-fn check_waiting(view: View, registers: Registers) -> Checked
+fn check_waiting(view: View, registers: Registers) -> Result<View, Refusal>
     requires { view.control.persisted < registers.epoch }
     ensures { result ≡ tested (waiting_rows view registers) view }
 {
     if registers.epoch == view.control.persisted + 1 {
-        return Checked::Refused(Status::None, 0);
+        return Err(Refusal::from(Status::None));
     }
-    Checked::Passed(view)
+    Ok(view)
 }
 
 // 7, 14 and 11 of scan.
-fn check_scan_end(view: View, work: &[u64], registers: Registers) -> Checked
+fn check_scan_end(view: View, work: &[u64], registers: Registers) -> Result<View, Refusal>
     requires { RowsReady work.now registers view }
     ensures { result ≡ tested (buffer_rows view work.now registers ++ waiting_rows view registers) view }
 {
-    let buffer = check_buffer(view, work, registers);
-    match buffer {
-        Checked::Refused(status, value) => Checked::Refused(status, value),
-        Checked::Passed(_) => check_waiting(view, registers),
-    }
+    check_buffer(view, work, registers)?;
+    check_waiting(view, registers)
 }
 
 // The rows of scan behind 1, 2 and 4.
-pub fn check_scan(view: View, work: &[u64], registers: Registers) -> Checked
+pub fn check_scan(view: View, work: &[u64], registers: Registers) -> Result<View, Refusal>
     requires { RowsReady work.now registers view }
     ensures { result ≡ tested (scan_rows view work.now registers) view }
 {
-    let cursor = check_cursor(view, work, registers);
-    match cursor {
-        Checked::Refused(status, value) => Checked::Refused(status, value),
-        Checked::Passed(_) => check_scan_end(view, work, registers),
-    }
+    check_cursor(view, work, registers)?;
+    check_scan_end(view, work, registers)
 }

@@ -1,6 +1,6 @@
 -- What is proved of demand 3's lists beyond the demand: what a running controller is answered, that P never falls, what
 -- loads and exports give; and the same of every board that rests.
-use Rattle.std.specs.Prelude.{ℕ, ◌+◌, ◌≤◌, ◌<◌, ◌≡◌, ◌⊎◌, true, List, [], ◌∷◌, ◌++◌, length, get_or, drop}
+use Rattle.std.specs.Prelude.{Ok, ℕ, ◌+◌, ◌≤◌, ◌<◌, ◌≡◌, ◌⊎◌, true, List, [], ◌∷◌, ◌++◌, length, get_or, drop}
 use Rattle.base.specs.Listed.{listed}
 use Rattle.layout.specs.Limits.{filter_size}
 use Rattle.layout.specs.Memory.{shape_for, slots_of, control_in, shape_in, buffer_in}
@@ -9,7 +9,6 @@ use Rattle.status.specs.declared.Status.TheVariants as status
 use Rattle.undo.specs.Filter.{is_set}
 use Rattle.undo.specs.Log.{is_bit_buffered}
 use Rattle.slots.specs.Slots.{holds}
-use Rattle.checks.specs.declared.Checked.TheVariants.{Passed}
 use Rattle.checks.specs.Refusals.{board_checked}
 use Rattle.checks.specs.View.{view_of, good_work}
 use Rattle.picl.specs.Calls as calls
@@ -107,7 +106,7 @@ pub record Whole (N L : ℕ) (s : Both) : Type 0 where
 -- A board of N lines and L log entries that rests: it passes 1, and the log's length is 0, at any epoch and with any
 -- lines.
 pub record Rests (N L : ℕ) (board : List ℕ) : Type 0 where
-  pub passes : board_checked board ≡ Passed (view_of board [])
+  pub passes : board_checked board ≡ Ok (view_of board [])
   pub shape : shape_in board ≡ shape_for N L
   pub empty : (control_in board).length ≡ 0
 

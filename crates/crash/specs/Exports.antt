@@ -1,5 +1,5 @@
 -- An export changes nothing, and what it gives is the uncached machine's copy of the persisted epoch.
-use Rattle.std.specs.Prelude.{ℕ, ◌≤◌, ◌<◌, ◌≡◌, Bool, not, cond, List, [], ◌++◌, ltb, leb, eqb, get_or}
+use Rattle.std.specs.Prelude.{Ok, Err, ℕ, ◌≤◌, ◌<◌, ◌≡◌, Bool, not, cond, List, [], ◌++◌, ltb, leb, eqb, get_or}
 use Rattle.std.proofs.Math.Path.{refl}
 use Rattle.std.proofs.Common.{sym, ap, zero-add, arith, length-drop, get_or-drop}
 use Rattle.std.proofs.Math.Bool.{true, false}
@@ -11,9 +11,7 @@ use Rattle.layout.specs.Memory.{lines_at, control_in, shape_in}
 use Rattle.status.specs.declared.Status.{Status}
 use Rattle.status.specs.declared.Status.TheVariants as status
 use Rattle.status.specs.Numbers.{number_of}
-use Rattle.checks.specs.declared.Checked.{Checked}
-use Rattle.checks.specs.declared.Checked.TheVariants.{Refused, Passed}
-use Rattle.checks.specs.Refusals.{board_checked}
+use Rattle.checks.specs.Refusals.{Checked, unvalued, board_checked}
 use Rattle.checks.specs.View.{view_of}
 use Rattle.intel_hex.specs.Records.{records_of}
 use Rattle.intel_hex.specs.Export.{lines_on, record_at, most_text, export_checked, report_for, text_for, export_report, export_text}
@@ -92,7 +90,7 @@ module _ {N L : ℕ} {m : Machine} {g : Reference} (h : Holds N L m g) (text : L
 
   abbrev judged : (few beyond empty : Bool) → Checked
   judged few beyond empty =
-      cond few (Refused status.Short 0) (cond beyond (Refused status.Past 0) (cond (not empty) (Refused status.LogHeld 0) (Passed (view_of board []))))
+      cond few (Err (unvalued status.Short)) (cond beyond (Err (unvalued status.Past)) (cond (not empty) (Err (unvalued status.LogHeld)) (Ok (view_of board []))))
 
   board_passes : export_checked board (length text) number ≡ judged few beyond empty
   unfolding export_checked board_checked view_of

@@ -1,5 +1,5 @@
 -- What becomes of a call, refused, cut or accepted: from its verdict to what a run keeps.
-use Rattle.std.specs.Prelude.{ℕ, ◌≡◌, refl, Bool, true, false, not, cond, ◌&&◌, ◌||◌, List, [], ◌∷◌, leb, eqb, length, take, replicate}
+use Rattle.std.specs.Prelude.{Ok, Err, ℕ, ◌≡◌, refl, Bool, true, false, not, cond, ◌&&◌, ◌||◌, List, [], ◌∷◌, leb, eqb, length, take, replicate}
 use Rattle.std.proofs.lemmas.Bool.{false≢true}
 use Rattle.std.proofs.Common.{arith, leb-true, leb-false, take_all}
 use Rattle.std.proofs.lemmas.List.{length-replicate}
@@ -10,10 +10,9 @@ use Rattle.layout.specs.Memory.{slots_of}
 use Rattle.status.specs.declared.Status.{Status}
 use Rattle.status.specs.declared.Status.TheVariants as status
 use Rattle.status.specs.Numbers.{number_of}
-use Rattle.checks.specs.declared.Checked.{Checked}
-use Rattle.checks.specs.declared.Checked.TheVariants.{Refused, Passed}
+use Rattle.checks.specs.declared.Refusal.{Refusal}
 use Rattle.checks.specs.declared.View.{View}
-use Rattle.checks.specs.Refusals.{Row, tested, then}
+use Rattle.checks.specs.Refusals.{Checked, Row, tested, then}
 use Rattle.picl.specs.Answers.{Outcome, Verdict, answer_of}
 use Rattle.picl.specs.Calls.{Call}
 use Rattle.reference.specs.Machine.{Reference, does}
@@ -30,10 +29,10 @@ refusal s = not (eqb (number_of s) (number_of status.Ok) || eqb (number_of s) (n
 
 abbrev pub numbered : List Row → Bool
 numbered [] = true
-numbered (x ∷ xs) = refusal x.refuses && numbered xs
+numbered (x ∷ xs) = refusal x.refuses.status && numbered xs
 
 abbrev pub Refuses : Checked → Type 0
-Refuses k = (s : Status) (value : ℕ) → Refused s value ≡ k → refusal s ≡ true
+Refuses k = (why : Refusal) → Err why ≡ k → refusal why.status ≡ true
 
 pub not_ok : (s : Status) → refusal s ≡ true → eqb (number_of s) 0 ≡ false
 not_ok s = go (eqb (number_of s) 0) (eqb (number_of s) (number_of status.Cut))
@@ -46,19 +45,19 @@ pub not_cut : (s : Status) → refusal s ≡ true → s ≡ status.Cut → ⊥
 not_cut s e same = false≢true (rw same at e)
 
 pub tested_refuses : (xs : List Row) (v : View) → numbered xs ≡ true → Refuses (tested xs v)
-tested_refuses [] v n s value e = let z : ◌≡◌ {A = ℕ} 0 1 = cc in absurd (omega arith)
-tested_refuses (x ∷ xs) v n s value e = go x.holds (tested_refuses xs v (and_right (refusal x.refuses) (numbered xs) n) s value) e
+tested_refuses [] v n why e = let z : ◌≡◌ {A = ℕ} 0 1 = cc in absurd (omega arith)
+tested_refuses (x ∷ xs) v n why e = go x.holds (tested_refuses xs v (and_right (refusal x.refuses.status) (numbered xs) n) why) e
   where
-    go : (t : Bool) → (Refused s value ≡ tested xs v → refusal s ≡ true)
-        → Refused s value ≡ cond t (Refused x.refuses x.value) (tested xs v) → refusal s ≡ true
+    go : (t : Bool) → (Err why ≡ tested xs v → refusal why.status ≡ true)
+        → Err why ≡ cond t (Err x.refuses) (tested xs v) → refusal why.status ≡ true
     go true rest e =
-        let same : s ≡ x.refuses = cc in
-        rw same (and_left (refusal x.refuses) (numbered xs) n)
+        let same : why ≡ x.refuses = cc in
+        rw same (and_left (refusal x.refuses.status) (numbered xs) n)
     go false rest e = rest e
 
 pub then_refuses : (k : Checked) (rows : View → List Row) → Refuses k → ((v : View) → numbered (rows v) ≡ true) → Refuses (then k rows)
-then_refuses (Refused t w) rows first n s value e = first s value e
-then_refuses (Passed v) rows first n s value e = tested_refuses (rows v) v (n v) s value e
+then_refuses (Err x) rows first n why e = first why e
+then_refuses (Ok v) rows first n why e = tested_refuses (rows v) v (n v) why e
 
 -- ---- a verdict on a machine that holds the invariant
 

@@ -1,5 +1,5 @@
 -- A power-up keeps the invariant of a run from any state, and never answers 1 or 3: each entry of the log that it finds is proper.
-use Rattle.std.specs.Prelude.{ℕ, ◌+◌, ◌≤◌, ◌<◌, Bool, not, cond, List, eqb, replicate}
+use Rattle.std.specs.Prelude.{Ok, Err, ℕ, ◌+◌, ◌≤◌, ◌<◌, Bool, not, cond, List, eqb, replicate}
 use Rattle.std.proofs.Math.Path.{◌≡◌, refl, ap}
 use Rattle.std.proofs.Common.{sym, ◌∙◌, subst, arith}
 use Rattle.std.proofs.Math.Bool.{true, false}
@@ -20,11 +20,10 @@ use Rattle.undo.specs.declared.LogState.{LogState}
 use Rattle.undo.specs.Recovery.{proper_at, first_improper}
 use Rattle.undo.specs.Laws.{formed_spans, proper_formed}
 use Rattle.undo.specs.Log.{entry_in, log_in, recover_stores}
-use Rattle.checks.specs.declared.Checked.TheVariants.{Refused, Passed}
 use Rattle.checks.specs.Promises.{Shaped}
 use Rattle.checks.specs.Laws.{memories_shaped}
 use Rattle.checks.specs.declared.View.{View}
-use Rattle.checks.specs.Refusals.{then, entry_rows, memories_checked, power_up_checked}
+use Rattle.checks.specs.Refusals.{unvalued, then, entry_rows, memories_checked, power_up_checked}
 use Rattle.checks.specs.Registers as registers
 use Rattle.checks.specs.View.{view_of, good_sizes, good_control, good_shape, good_work, undo_of}
 use Rattle.board.specs.Verdict.{refused, due, board_after, work_after}
@@ -125,7 +124,7 @@ module _ {N L : ℕ} {board : List ℕ} {g : Reference} (off : Off N L board g) 
       v : View
       v = view_of board lent
 
-      go : (t : Bool) → judged (then (cond (not t) (Refused status.Work 0) (Passed v)) (λ w. entry_rows board w)) (power_up_outcome board lent)
+      go : (t : Bool) → judged (then (cond (not t) (Err (unvalued status.Work)) (Ok v)) (λ w. entry_rows board w)) (power_up_outcome board lent)
           ≡ cond t (due recovery) (refused status.Work 0)
       go true = rw (all_proper, le-ltb v.control.length v.control.length (omega arith), recovers)
       go false = refl

@@ -1,5 +1,5 @@
 -- A controller that runs passes its tests: only what a call asks for can be refused.
-use Rattle.std.specs.Prelude.{ℕ, ◌+◌, ◌-◌, ◌%◌, ◌<◌, ◌≡◌, Bool, ◌&&◌, ◌||◌, List, [], ◌∷◌, ◌++◌, ltb, leb, length}
+use Rattle.std.specs.Prelude.{Ok, Err, ℕ, ◌+◌, ◌-◌, ◌%◌, ◌<◌, ◌≡◌, Bool, ◌&&◌, ◌||◌, List, [], ◌∷◌, ◌++◌, ltb, leb, length}
 use Rattle.std.proofs.Math.Path.{refl}
 use Rattle.std.proofs.Common.{sym, ap, ◌∙◌, arith}
 use Rattle.std.proofs.Math.Bool.{true, false, not, cond, or-true}
@@ -18,10 +18,9 @@ use Rattle.undo.specs.Laws.{formed_spans, buffered_formed}
 use Rattle.undo.specs.Log.{buffered_in}
 use Rattle.slots.specs.Sets.{places_of, proper_set, spot_of}
 use Rattle.slots.specs.Slots.{dirty_at, undo_due}
-use Rattle.checks.specs.declared.Checked.TheVariants.{Refused, Passed}
 use Rattle.checks.specs.declared.Registers.{Registers}
 use Rattle.checks.specs.declared.View.{View}
-use Rattle.checks.specs.Refusals.{Row, then, line_rows, room_rows, memories_checked, running_checked, ready_checked, named_checked, line_checked, store_checked, commit_checked, begin_checked, scan_checked}
+use Rattle.checks.specs.Refusals.{unvalued, Row, then, line_rows, room_rows, memories_checked, running_checked, ready_checked, named_checked, line_checked, store_checked, commit_checked, begin_checked, scan_checked}
 use Rattle.checks.specs.Registers.{committed, begun}
 use Rattle.checks.specs.View.{view_of, bounds_of, good_shape, good_slots, good_work, proper_epoch, proper_counts, proper_pass, proper_registers, waits, miscounted, good_buffer, good_filter}
 use Rattle.reference.specs.Machine.{Reference}
@@ -189,12 +188,12 @@ module _ {N L : ℕ} {m : Machine} {g : Reference} (up : Up N L m g) where
   -- ---- the answers
 
   -- of the tests of a line, only that of the address can fail
-  line_checked_holds : (a : ℕ) → line_checked m.board m.work r a ≡ cond (leb v.shape.lines a) (Refused status.Address 0) (Passed v)
+  line_checked_holds : (a : ℕ) → line_checked m.board m.work r a ≡ cond (leb v.shape.lines a) (Err (unvalued status.Address)) (Ok v)
   unfolding line_checked named_checked running_checked memories_checked
   line_checked_holds a = rw (shaped, worked, proper) (go (leb v.shape.lines a))
     where
-      go : (t : Bool) → then (cond t (Refused status.Address 0) (Passed v)) (λ w. line_rows w m.work r a)
-          ≡ cond t (Refused status.Address 0) (Passed v)
+      go : (t : Bool) → then (cond t (Err (unvalued status.Address)) (Ok v)) (λ w. line_rows w m.work r a)
+          ≡ cond t (Err (unvalued status.Address)) (Ok v)
       go true = refl
       go false = rw (line_proper a, line_counted a, buffered, filtered)
 
@@ -202,7 +201,7 @@ module _ {N L : ℕ} {m : Machine} {g : Reference} (up : Up N L m g) where
       → Among (answers_to (calls.load a)) (answer_of k r (judged (line_checked m.board m.work r a) f)).status
   line_answered a k f = rw (line_checked_holds a) (go (leb v.shape.lines a))
     where
-      go : (t : Bool) → Among (answers_to (calls.load a)) (answer_of k r (judged (cond t (Refused status.Address 0) (Passed v)) f)).status
+      go : (t : Bool) → Among (answers_to (calls.load a)) (answer_of k r (judged (cond t (Err (unvalued status.Address)) (Ok v)) f)).status
       go true = inr (inl (refusal_answered k r status.Address))
       go false = due_answered k r (f v) (status.Address ∷ [])
 
@@ -218,7 +217,7 @@ module _ {N L : ℕ} {m : Machine} {g : Reference} (up : Up N L m g) where
   store_answered a value k f = rw (line_checked_holds a) (go (leb v.shape.lines a) (crowded a) refl)
     where
       go : (t c : Bool) → crowded a ≡ c
-          → Among (answers_to (calls.store a value)) (answer_of k r (judged (then (cond t (Refused status.Address 0) (Passed v)) (room_for a)) f)).status
+          → Among (answers_to (calls.store a value)) (answer_of k r (judged (then (cond t (Err (unvalued status.Address)) (Ok v)) (room_for a)) f)).status
       go true c e = inr (inl (refusal_answered k r status.Address))
       go false true e = rw e (inr (inr (inl (refusal_answered k r status.Room))))
       go false false e = rw e (due_answered k r (f v) (status.Address ∷ status.Room ∷ []))
@@ -230,7 +229,7 @@ module _ {N L : ℕ} {m : Machine} {g : Reference} (up : Up N L m g) where
     where
       go : (t c : Bool)
           → Among (answers_to calls.commit)
-          (answer_of k r (judged (cond t (Refused status.Waiting 0) (cond c (Refused status.Last 0) (Passed v))) (λ w. unstored 0 (committed r) m.work))).status
+          (answer_of k r (judged (cond t (Err (unvalued status.Waiting)) (cond c (Err (unvalued status.Last)) (Ok v))) (λ w. unstored 0 (committed r) m.work))).status
       go true c = inr (inl (refusal_answered k r status.Waiting))
       go false true = inr (inr (inl (refusal_answered k r status.Last)))
       go false false = inl (unstored_answered k r 0 (committed r) m.work)
@@ -242,7 +241,7 @@ module _ {N L : ℕ} {m : Machine} {g : Reference} (up : Up N L m g) where
     where
       go : (t : Bool)
           → Among (answers_to (calls.begin target))
-          (answer_of k r (judged (cond t (Refused status.Target 0) (Passed v)) (λ w. unstored 0 (begun r target) m.work))).status
+          (answer_of k r (judged (cond t (Err (unvalued status.Target)) (Ok v)) (λ w. unstored 0 (begun r target) m.work))).status
       go true = inr (inl (refusal_answered k r status.Target))
       go false = inl (unstored_answered k r 0 (begun r target) m.work)
 
@@ -260,7 +259,7 @@ module _ {N L : ℕ} {m : Machine} {g : Reference} (up : Up N L m g) where
       rw (shaped, worked, proper, visited_proper at_cursor within_cursor, visited_counted at_cursor within_cursor, buffered, filtered)
       (go (eqb r.epoch (v.control.persisted + 1)))
     where
-      go : (t : Bool) → Among (answers_to calls.scan) (answer_of k r (judged (cond t (Refused status.None 0) (Passed v)) f)).status
+      go : (t : Bool) → Among (answers_to calls.scan) (answer_of k r (judged (cond t (Err (unvalued status.None)) (Ok v)) f)).status
       go true = inr (inl (refusal_answered k r status.None))
       go false = due_answered k r (f v) (status.None ∷ [])
 
@@ -271,7 +270,7 @@ module _ {N L : ℕ} {m : Machine} {g : Reference} (up : Up N L m g) where
   store_full a k f = rw (line_checked_holds a) (go (leb v.shape.lines a) (crowded a) refl)
     where
       go : (t c : Bool) → crowded a ≡ c
-          → (answer_of k r (judged (then (cond t (Refused status.Address 0) (Passed v)) (room_for a)) f)).status ≡ status.Room
+          → (answer_of k r (judged (then (cond t (Err (unvalued status.Address)) (Ok v)) (room_for a)) f)).status ≡ status.Room
           → v.control.length + r.buffered ≡ L
       go t true e =
           let due = undo_due m.work (spot_of m.work v.slots a) r.epoch in

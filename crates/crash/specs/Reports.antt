@@ -1,6 +1,6 @@
 -- Tally and status question take no allowance and return no registers: their public contracts give a report. As steps
 -- of demand 3 they answer what is reported, at every allowance, and change nothing.
-use Rattle.std.specs.Prelude.{ℕ, ◌≡◌, Bool, cond, length}
+use Rattle.std.specs.Prelude.{Ok, Err, ℕ, ◌≡◌, Bool, cond, length}
 use Rattle.std.proofs.Math.Path.{refl}
 use Rattle.std.proofs.Math.Bool.{true, false}
 use mathlib.Core.List.{[]}
@@ -12,10 +12,8 @@ use Rattle.board.specs.Verdict.{refused, due, board_after, work_after}
 use Rattle.status.specs.declared.Status.{Status}
 use Rattle.status.specs.declared.Status.TheVariants as status
 use Rattle.undo.specs.Filter.{ones_of}
-use Rattle.checks.specs.declared.Checked.{Checked}
-use Rattle.checks.specs.declared.Checked.TheVariants.{Refused, Passed}
 use Rattle.checks.specs.declared.Registers.{Registers}
-use Rattle.checks.specs.Refusals.{running_checked}
+use Rattle.checks.specs.Refusals.{Checked, running_checked}
 use Rattle.checks.specs.Registers.{all_zero}
 use Rattle.checks.specs.View.{good_work}
 use Rattle.picl.specs.declared.Report.{Report}
@@ -51,8 +49,8 @@ module _ (m : Machine) (k : ℕ) where
       go : (x : Checked)
           → Reported m (report_of (judged x (λ v. unstored m.registers.dirty m.registers m.work)))
           (answered k m.registers m.board m.work (judged x (λ v. unstored m.registers.dirty m.registers m.work)))
-      go (Refused why value) = refusal_reported why value
-      go (Passed v) = value_reported m.registers.dirty m.registers
+      go (Err why) = refusal_reported why.status why.value
+      go (Ok v) = value_reported m.registers.dirty m.registers
 
   pub filter_bits_reported : Reported m (filter_bits_report m.work) (made m (call calls.filter_bits k))
   unfolding made filter_bits_report filter_bits_verdict

@@ -1,5 +1,5 @@
 -- One call of a list keeps the invariant of a run, whatever it is and wherever it is cut.
-use Rattle.std.specs.Prelude.{ℕ, ◌<◌, ◌≡◌, Bool, cond, List, ◌++◌, leb, length}
+use Rattle.std.specs.Prelude.{Ok, Err, ℕ, ◌<◌, ◌≡◌, Bool, cond, List, ◌++◌, leb, length}
 use Rattle.std.proofs.Math.Path.{refl}
 use Rattle.std.proofs.Common.{sym, arith}
 use Rattle.std.proofs.Math.Bool.{true, false}
@@ -10,12 +10,10 @@ use Rattle.undo.specs.Filter.{ones_of}
 use Rattle.board.specs.Verdict.{refused, due}
 use Rattle.status.specs.declared.Status.TheVariants as status
 use Rattle.slots.specs.Sets.{spot_of}
-use Rattle.checks.specs.declared.Checked.{Checked}
-use Rattle.checks.specs.declared.Checked.TheVariants.{Refused, Passed}
 use Rattle.checks.specs.declared.Registers.{Registers}
 use Rattle.checks.specs.Laws.{running, line_running, line_named, store_line, store_room}
 use Rattle.checks.specs.Laws.{commit_running, commit_window, commit_early, begin_running, begin_outside, begin_waits, scan_running, scan_aims}
-use Rattle.checks.specs.Refusals.{board_rows, work_rows, register_rows, buffer_rows, address_rows, line_rows, room_rows, epoch_rows, target_rows, scan_rows}
+use Rattle.checks.specs.Refusals.{Checked, board_rows, work_rows, register_rows, buffer_rows, address_rows, line_rows, room_rows, epoch_rows, target_rows, scan_rows}
 use Rattle.checks.specs.Refusals.{memories_checked, running_checked, ready_checked, named_checked, line_checked, store_checked, commit_checked, begin_checked, scan_checked}
 use Rattle.checks.specs.Registers.{committed, begun, scan_target}
 use Rattle.checks.specs.View.{view_of, good_work}
@@ -86,9 +84,9 @@ module _ {N L : ℕ} {m : Machine} {g : Reference} (h : Holds N L m g) where
     where
       go : (x : Checked) → line_checked board work r a ≡ x → Holds N L m g
           → Fares N L m g (calls.load a) (judged x (load_outcome board work r a))
-      go (Refused s value) e h = refuses s value (line_refuses board work r a s value (sym e))
-      go (Passed v) e (is_down d) = absurd (down_stays d v (line_running board work r a v (sym e)))
-      go (Passed v) e (is_up u) =
+      go (Err why) e h = refuses why.status why.value (line_refuses board work r a why (sym e))
+      go (Ok v) e (is_down d) = absurd (down_stays d v (line_running board work r a v (sym e)))
+      go (Ok v) e (is_up u) =
           let same = (line_running board work r a v (sym e)).shaped.is in
           rw same (load_goes u a (rw same at (line_named board work r a v (sym e))))
 
@@ -96,9 +94,9 @@ module _ {N L : ℕ} {m : Machine} {g : Reference} (h : Holds N L m g) where
   evict_fares a = go (line_checked board work r a) refl h
     where
       go : (x : Checked) → line_checked board work r a ≡ x → Holds N L m g → Fares N L m g (calls.evict a) (judged x (evict_outcome work r a))
-      go (Refused s value) e h = refuses s value (line_refuses board work r a s value (sym e))
-      go (Passed v) e (is_down d) = absurd (down_stays d v (line_running board work r a v (sym e)))
-      go (Passed v) e (is_up u) =
+      go (Err why) e h = refuses why.status why.value (line_refuses board work r a why (sym e))
+      go (Ok v) e (is_down d) = absurd (down_stays d v (line_running board work r a v (sym e)))
+      go (Ok v) e (is_up u) =
           let same = (line_running board work r a v (sym e)).shaped.is in
           rw same (evict_goes u a (rw same at (line_named board work r a v (sym e))))
 
@@ -107,9 +105,9 @@ module _ {N L : ℕ} {m : Machine} {g : Reference} (h : Holds N L m g) where
     where
       go : (x : Checked) → store_checked board work r a ≡ x → Holds N L m g
           → Fares N L m g (calls.store a value) (judged x (store_outcome board work r a value))
-      go (Refused s value) e h = refuses s value (store_refuses board work r a s value (sym e))
-      go (Passed v) e (is_down d) = absurd (down_stays d v (line_running board work r a v (store_line board work r a v (sym e))))
-      go (Passed v) e (is_up u) =
+      go (Err why) e h = refuses why.status why.value (store_refuses board work r a why (sym e))
+      go (Ok v) e (is_down d) = absurd (down_stays d v (line_running board work r a v (store_line board work r a v (sym e))))
+      go (Ok v) e (is_up u) =
           let line = store_line board work r a v (sym e) in
           let same = (line_running board work r a v line).shaped.is in
           rw same (store_goes u a (rw same at (line_named board work r a v line)) value (rw same at (store_room board work r a v (sym e))))
@@ -118,9 +116,9 @@ module _ {N L : ℕ} {m : Machine} {g : Reference} (h : Holds N L m g) where
   commit_fares = go (commit_checked board work r) refl h
     where
       go : (x : Checked) → commit_checked board work r ≡ x → Holds N L m g → Fares N L m g calls.commit (judged x (λ v. unstored 0 (committed r) work))
-      go (Refused s value) e h = refuses s value (commit_refuses board work r s value (sym e))
-      go (Passed v) e (is_down d) = absurd (down_stays d v (commit_running board work r v (sym e)))
-      go (Passed v) e (is_up u) =
+      go (Err why) e h = refuses why.status why.value (commit_refuses board work r why (sym e))
+      go (Ok v) e (is_down d) = absurd (down_stays d v (commit_running board work r v (sym e)))
+      go (Ok v) e (is_up u) =
           let same = (commit_running board work r v (sym e)).shaped.is in
           commit_goes u (commit_early board work r v (sym e)) (rw same at (commit_window board work r v (sym e)))
 
@@ -129,9 +127,9 @@ module _ {N L : ℕ} {m : Machine} {g : Reference} (h : Holds N L m g) where
     where
       go : (x : Checked) → begin_checked board work r target ≡ x → Holds N L m g
           → Fares N L m g (calls.begin target) (judged x (λ v. unstored 0 (begun r target) work))
-      go (Refused s value) e h = refuses s value (begin_refuses board work r target s value (sym e))
-      go (Passed v) e (is_down d) = absurd (down_stays d v (begin_running board work r target v (sym e)))
-      go (Passed v) e (is_up u) =
+      go (Err why) e h = refuses why.status why.value (begin_refuses board work r target why (sym e))
+      go (Ok v) e (is_down d) = absurd (down_stays d v (begin_running board work r target v (sym e)))
+      go (Ok v) e (is_up u) =
           let same = (begin_running board work r target v (sym e)).shaped.is in
           begin_goes u target (begin_outside board work r target v (sym e)) (rw same at (begin_waits board work r target v (sym e)))
 
@@ -139,9 +137,9 @@ module _ {N L : ℕ} {m : Machine} {g : Reference} (h : Holds N L m g) where
   scan_fares = go (scan_checked board work r) refl h
     where
       go : (x : Checked) → scan_checked board work r ≡ x → Holds N L m g → Fares N L m g calls.scan (judged x (scan_outcome board work r))
-      go (Refused s value) e h = refuses s value (scan_refuses board work r s value (sym e))
-      go (Passed v) e (is_down d) = absurd (down_stays d v (scan_running board work r v (sym e)))
-      go (Passed v) e (is_up u) =
+      go (Err why) e h = refuses why.status why.value (scan_refuses board work r why (sym e))
+      go (Ok v) e (is_down d) = absurd (down_stays d v (scan_running board work r v (sym e)))
+      go (Ok v) e (is_up u) =
           let same = (scan_running board work r v (sym e)).shaped.is in
           rw same (scan_goes u (rw same at (scan_aims board work r v (sym e))))
 
@@ -154,8 +152,8 @@ module _ {N L : ℕ} {m : Machine} {g : Reference} (h : Holds N L m g) where
   tally_fares = go (running_checked board work r) refl
     where
       go : (x : Checked) → running_checked board work r ≡ x → Fares N L m g calls.tally (judged x (λ v. unstored r.dirty r work))
-      go (Refused s value) e = refuses s value (running_refuses board work r s value (sym e))
-      go (Passed v) e = asked_goes calls.tally r.dirty refl
+      go (Err why) e = refuses why.status why.value (running_refuses board work r why (sym e))
+      go (Ok v) e = asked_goes calls.tally r.dirty refl
 
   filter_bits_fares : Fares N L m g calls.filter_bits (filter_bits_verdict work r)
   unfolding filter_bits_verdict
@@ -192,9 +190,9 @@ module _ {N L : ℕ} {m : Machine} {g : Reference} (h : Holds N L m g) where
       go : (x : Checked) → running_checked board work r ≡ x → Holds N L m g
           → (answered k r board work (judged x (λ v. unstored r.dirty r work))).status ≡ status.Ok
           → (answered k r board work (judged x (λ v. unstored r.dirty r work))).value ≡ dirty_in work
-      go (Refused s value) e h = λ ok. absurd (false≢true (sym (rw ok at (not_ok s (running_refuses board work r s value (sym e))))))
-      go (Passed v) e (is_down d) = absurd (down_stays d v (running board work r v (sym e)))
-      go (Passed v) e (is_up u) = told (leb 0 k) u.counted
+      go (Err why) e h = λ ok. absurd (false≢true (sym (rw ok at (not_ok why.status (running_refuses board work r why (sym e))))))
+      go (Ok v) e (is_down d) = absurd (down_stays d v (running board work r v (sym e)))
+      go (Ok v) e (is_up u) = told (leb 0 k) u.counted
 
   -- after an accepted begin call the scan aims at its target
   pub begin_aims : (target k persisted : ℕ) → (made m (call (calls.begin target) k)).status ≡ status.Ok
@@ -210,8 +208,8 @@ module _ {N L : ℕ} {m : Machine} {g : Reference} (h : Holds N L m g) where
       go : (x : Checked) → begin_checked board work r target ≡ x
           → (answered k r board work (judged x (λ v. unstored 0 (begun r target) work))).status ≡ status.Ok
           → scan_target (answered k r board work (judged x (λ v. unstored 0 (begun r target) work))).left.registers persisted ≡ target
-      go (Refused s value) e = λ ok. absurd (false≢true (sym (rw ok at (not_ok s (begin_refuses board work r target s value (sym e))))))
-      go (Passed v) e = told (leb 0 k) (omega (arith, (begin_waits board work r target v (sym e)).ahead))
+      go (Err why) e = λ ok. absurd (false≢true (sym (rw ok at (not_ok why.status (begin_refuses board work r target why (sym e))))))
+      go (Ok v) e = told (leb 0 k) (omega (arith, (begin_waits board work r target v (sym e)).ahead))
 
   -- an accepted load gives the uncached machine's line
   pub load_value : (a k : ℕ) → (made m (call (calls.load a) k)).status ≡ status.Ok → (made m (call (calls.load a) k)).value ≡ g.lines a
@@ -221,8 +219,8 @@ module _ {N L : ℕ} {m : Machine} {g : Reference} (h : Holds N L m g) where
       go : (x : Checked) → line_checked board work r a ≡ x → Holds N L m g
           → (answered k r board work (judged x (load_outcome board work r a))).status ≡ status.Ok
           → (answered k r board work (judged x (load_outcome board work r a))).value ≡ g.lines a
-      go (Refused s value) e h = λ ok. absurd (false≢true (sym (rw ok at (not_ok s (line_refuses board work r a s value (sym e))))))
-      go (Passed v) e (is_down d) = absurd (down_stays d v (line_running board work r a v (sym e)))
-      go (Passed v) e (is_up u) =
+      go (Err why) e h = λ ok. absurd (false≢true (sym (rw ok at (not_ok why.status (line_refuses board work r a why (sym e))))))
+      go (Ok v) e (is_down d) = absurd (down_stays d v (line_running board work r a v (sym e)))
+      go (Ok v) e (is_up u) =
           let same = (line_running board work r a v (sym e)).shaped.is in
           rw same (load_up_value u a (rw same at (line_named board work r a v (sym e))) k)

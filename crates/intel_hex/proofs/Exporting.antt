@@ -1,15 +1,14 @@
 -- One law for each way out of an export.
-use Rattle.std.proofs.Common.{◌≡◌, ℕ, ◌+◌, ◌-◌, ◌*◌, ◌/◌, ◌<◌, ◌≤◌, false, leb, List, [], length, get_or, take, drop, sym, refl, ap, ◌∙◌, arith, le-ltb, lt-ltb, eq-eqb, ne_eqb, le-leb}
+use Rattle.std.proofs.Common.{Ok, Err, ◌≡◌, ℕ, ◌+◌, ◌-◌, ◌*◌, ◌/◌, ◌<◌, ◌≤◌, false, leb, List, [], length, get_or, take, drop, sym, refl, ap, ◌∙◌, arith, le-ltb, lt-ltb, eq-eqb, ne_eqb, le-leb}
 use borrow.Author.Tests.{lt-leb}
 use Rattle.base.specs.Parts.{rest_lent}
 use Rattle.layout.specs.Bytes.{bytes_of_word}
 use Rattle.layout.specs.Memory.{lines_at}
 use Rattle.status.specs.declared.Status.{Status}
 use Rattle.status.specs.declared.Status.TheVariants as status
-use Rattle.checks.specs.declared.Checked.{Checked}
-use Rattle.checks.specs.declared.Checked.TheVariants.{Refused, Passed}
+use Rattle.checks.specs.declared.Refusal.{Refusal}
 use Rattle.checks.specs.declared.View.{View}
-use Rattle.checks.specs.Refusals.{board_checked}
+use Rattle.checks.specs.Refusals.{Checked, board_checked}
 use Rattle.checks.specs.View.{view_of}
 use Rattle.checks.specs.Promises.{Opened}
 use Rattle.checks.specs.Laws.{board_opened}
@@ -24,12 +23,12 @@ use Rattle.intel_hex.specs.Laws.{lines_many}
 -- ── 1 ──
 
 module _ (board text : List ℕ) (number : ℕ) (k : Checked) (is : k ≡ board_checked board) where
-  pub board_out : (why : Status) (value : ℕ) (r : Report) → k ≡ Refused why value → r ≡ report why value → Exports board number text text r
+  pub board_out : (why : Refusal) (r : Report) → k ≡ Err why → r ≡ report why.status why.value → Exports board number text text r
   unfolding export_report export_text export_checked
-  board_out why value r e f = record { report = rw (← is, e) f; text_left = rw (← is, e) }
+  board_out why r e f = record { report = rw (← is, e) f; text_left = rw (← is, e) }
 
-  module _ (v : View) (e : k ≡ Passed v) where
-    pub board_passed : Passed v ≡ board_checked board
+  module _ (v : View) (e : k ≡ Ok v) where
+    pub board_passed : Ok v ≡ board_checked board
     board_passed = sym e ∙ is
 
     pub board_open : Opened board v
@@ -42,7 +41,7 @@ lines_lent : (board : List ℕ) (v : View) → Opened board v → (at : ℕ) →
 unfolding view_of
 lines_lent board v o at e = rest_lent at board ∙ rw (e, o.is)
 
-module _ (board text : List ℕ) (number : ℕ) (v : View) (passed : Passed v ≡ board_checked board) where
+module _ (board text : List ℕ) (number : ℕ) (v : View) (passed : Ok v ≡ board_checked board) where
   pub short_out : (r : Report) → length text < most_text → r ≡ report status.Short 0 → Exports board number text text r
   unfolding export_report export_text export_checked
   short_out r h e =

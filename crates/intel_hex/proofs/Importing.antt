@@ -1,5 +1,5 @@
 -- One law for each way out of a record that is taken.
-use Rattle.std.proofs.Common.{◌≡◌, ℕ, suc, ◌+◌, ◌-◌, ◌*◌, ◌/◌, ◌%◌, ◌<◌, ◌≤◌, Bool, true, false, not, ◌&&◌, ◌||◌, eqb, ltb, List, [], ◌∷◌, ◌++◌, map, length, get_or, take, drop, set, sym, refl, ap, ◌∙◌, append_assoc, arith, length-take-le, drop-drop, ltb-false, le-ltb, lt-ltb, eq-eqb, ne_eqb, eqb-true}
+use Rattle.std.proofs.Common.{Ok, Err, ◌≡◌, ℕ, suc, ◌+◌, ◌-◌, ◌*◌, ◌/◌, ◌%◌, ◌<◌, ◌≤◌, Bool, true, false, not, ◌&&◌, ◌||◌, eqb, ltb, List, [], ◌∷◌, ◌++◌, map, length, get_or, take, drop, set, sym, refl, ap, ◌∙◌, append_assoc, arith, length-take-le, drop-drop, ltb-false, le-ltb, lt-ltb, eq-eqb, ne_eqb, eqb-true}
 use mathlib.Core.Bool.{false≢true}
 use borrow.Author.Tests.{not-true, not-false}
 use lib.ListN.{length-map}
@@ -12,10 +12,9 @@ use Rattle.layout.specs.Memory.{lines_at}
 use Rattle.status.specs.declared.Status.{Status}
 use Rattle.status.specs.declared.Status.TheVariants as status
 use Rattle.board.specs.Stores.{applied}
-use Rattle.checks.specs.declared.Checked.{Checked}
-use Rattle.checks.specs.declared.Checked.TheVariants.{Refused, Passed}
+use Rattle.checks.specs.declared.Refusal.{Refusal}
 use Rattle.checks.specs.declared.View.{View}
-use Rattle.checks.specs.Refusals.{board_checked}
+use Rattle.checks.specs.Refusals.{Checked, unvalued, board_checked}
 use Rattle.picl.specs.declared.Report.{Report}
 use Rattle.picl.specs.Calls.{report}
 use Rattle.intel_hex.specs.declared.Reader.{Reader}
@@ -193,19 +192,19 @@ module _ (board : List ℕ) (reader : Reader) (text : List ℕ) where
   folded = in_capitals text
 
   -- refused before the record is looked at
-  pub board_out : (k : Checked) → k ≡ board_checked board → (why : Status) (value : ℕ) (r : Report) → k ≡ Refused why value → r ≡ report why value
+  pub board_out : (k : Checked) → k ≡ board_checked board → (why : Refusal) (r : Report) → k ≡ Err why → r ≡ report why.status why.value
       → Imports board reader text board (record { report = r; reader = reader })
   unfolding import_report import_reader import_board import_stores import_checked applied
-  board_out k is why value r refused e =
-      let checked : board_checked board ≡ Refused why value = sym is ∙ refused in
+  board_out k is why r refused e =
+      let checked : board_checked board ≡ Err why = sym is ∙ refused in
       record { report = rw checked e; reader_left = rw checked; board_left = rw checked }
 
   -- refused by a later row
-  refused_out : (why : Status) → import_checked board reader text ≡ Refused why 0 → (r : Taken) → r ≡ taken_as why reader → Imports board reader text board r
+  refused_out : (why : Status) → import_checked board reader text ≡ Err (unvalued why) → (r : Taken) → r ≡ taken_as why reader → Imports board reader text board r
   unfolding import_report import_reader import_board import_stores applied
   refused_out why c r e = rw e record { report = rw c; reader_left = rw c; board_left = rw c }
 
-  module _ (v : View) (passed : Passed v ≡ board_checked board) where
+  module _ (v : View) (passed : Ok v ≡ board_checked board) where
     pub log_out : (v.control.length ≡ 0 → ⊥) → (r : Taken) → r ≡ taken_as status.LogHeld reader → Imports board reader text board r
     unfolding import_checked
     log_out other r e = refused_out status.LogHeld (rw (← passed, ne_eqb v.control.length 0 other)) r e
@@ -225,7 +224,7 @@ module _ (board : List ℕ) (reader : Reader) (text : List ℕ) where
       unfolding import_checked
       past o r e = refused_out status.Outside (rw (← ready.passed, ready.empty, ready.before_end, formed, o)) r e
 
-      checked : is_outside v.shape.lines reader.upper (content_of folded) ≡ false → import_checked board reader text ≡ Passed v
+      checked : is_outside v.shape.lines reader.upper (content_of folded) ≡ false → import_checked board reader text ≡ Ok v
       unfolding import_checked
       checked o = rw (← ready.passed, ready.empty, ready.before_end, formed, o)
 

@@ -1,12 +1,10 @@
 -- "Export the lines of a woken board one record a call, by record number from 0": when it is refused, what it reports, and the text that it
 -- leaves.
-use Rattle.std.specs.Prelude.{◌≡◌, ℕ, not, List, [], ◌∷◌, ◌++◌, length, drop, ◌==◌, nat_le, nat_lt, slice_index_or}
+use Rattle.std.specs.Prelude.{Ok, Err, ◌≡◌, ℕ, not, List, [], ◌∷◌, ◌++◌, length, drop, ◌==◌, nat_le, nat_lt, slice_index_or}
 use Rattle.layout.specs.Memory.{lines_at, shape_in}
 use Rattle.status.specs.declared.Status.TheVariants as status
-use Rattle.checks.specs.declared.Checked.{Checked}
-use Rattle.checks.specs.declared.Checked.TheVariants.{Refused, Passed}
 use Rattle.checks.specs.declared.View.{View}
-use Rattle.checks.specs.Refusals.{Row, row, then, board_checked}
+use Rattle.checks.specs.Refusals.{Checked, Row, row, then, board_checked}
 use Rattle.picl.specs.declared.Report.{Report}
 use Rattle.picl.specs.Calls.{report}
 use Rattle.intel_hex.specs.Records.{records_of}
@@ -36,12 +34,12 @@ export_checked board text_bytes number = then (board_checked board) (export_rows
 
 -- "Success changes only the first text bytes, those of its record, and its value is their number; a refusal changes none."
 abbrev pub report_for : Checked → (written : List ℕ) → Report
-report_for (Refused why value) written = report why value
-report_for (Passed v) written = report status.Ok (length written)
+report_for (Err why) written = report why.status why.value
+report_for (Ok v) written = report status.Ok (length written)
 
 abbrev pub text_for : Checked → (written text : List ℕ) → List ℕ
-text_for (Refused why value) written text = text
-text_for (Passed v) written text = written ++ drop (length written) text
+text_for (Err why) written text = text
+text_for (Ok v) written text = written ++ drop (length written) text
 
 unfoldable pub export_report : (board : List ℕ) (number : ℕ) (text : List ℕ) → Report
 export_report board number text = report_for (export_checked board (length text) number) (record_at board number)

@@ -1,15 +1,13 @@
 -- "A reader takes one record a call and carries the upper address and whether the end was seen": which texts are records, when one is refused, and
 -- what it leaves.
-use Rattle.std.specs.Prelude.{◌≡◌, ℕ, ◌+◌, ◌*◌, ◌/◌, ◌%◌, ◌^◌, Bool, true, false, not, ◌&&◌, ◌||◌, List, [], ◌∷◌, map, take, ◌==◌, nat_lt, slice_index_or}
+use Rattle.std.specs.Prelude.{Ok, Err, ◌≡◌, ℕ, ◌+◌, ◌*◌, ◌/◌, ◌%◌, ◌^◌, Bool, true, false, not, ◌&&◌, ◌||◌, List, [], ◌∷◌, map, take, ◌==◌, nat_lt, slice_index_or}
 use Rattle.layout.specs.Bytes.{byte_bits, bytes_of_word}
 use Rattle.layout.specs.Memory.{lines_at}
 use Rattle.status.specs.declared.Status.TheVariants as status
 use Rattle.status.specs.Names.{bytes}
 use Rattle.board.specs.Stores.{Store, applied}
-use Rattle.checks.specs.declared.Checked.{Checked}
-use Rattle.checks.specs.declared.Checked.TheVariants.{Refused, Passed}
 use Rattle.checks.specs.declared.View.{View}
-use Rattle.checks.specs.Refusals.{Row, row, then, board_checked}
+use Rattle.checks.specs.Refusals.{Checked, Row, row, then, board_checked}
 use Rattle.picl.specs.declared.Report.{Report}
 use Rattle.picl.specs.Calls.{report}
 use Rattle.intel_hex.specs.declared.Reader.{Reader}
@@ -89,8 +87,8 @@ first_reader = record { upper = first_upper; ended = false }
 
 -- "unchanged by a refusal"
 abbrev pub reader_for : Checked → Reader → (content : List ℕ) → Reader
-reader_for (Refused why value) reader content = reader
-reader_for (Passed v) reader content = record { upper = upper_behind reader.upper content; ended = (type_in content == end_type) }
+reader_for (Err why) reader content = reader
+reader_for (Ok v) reader content = record { upper = upper_behind reader.upper content; ended = (type_in content == end_type) }
 
 -- "line i at byte address 8i", the first of them at place first
 abbrev pub line_store : (first : ℕ) → Held → Store
@@ -98,13 +96,13 @@ line_store first h = record { at = first + h.address / bytes_of_word; word = h.w
 
 -- "A record is stored whole or not at all."
 abbrev pub stores_for : Checked → Reader → (content : List ℕ) → List Store
-stores_for (Refused why value) reader content = []
-stores_for (Passed v) reader content = map (line_store (lines_at v.shape.entries)) (record_holds reader.upper content)
+stores_for (Err why) reader content = []
+stores_for (Ok v) reader content = map (line_store (lines_at v.shape.entries)) (record_holds reader.upper content)
 
 -- "It counts as formatting: no allowance, 0 stores reported"
 abbrev pub report_for : Checked → Report
-report_for (Refused why value) = report why value
-report_for (Passed v) = report status.Ok 0
+report_for (Err why) = report why.status why.value
+report_for (Ok v) = report status.Ok 0
 
 unfoldable pub import_report : (board : List ℕ) → Reader → (text : List ℕ) → Report
 import_report board reader text = report_for (import_checked board reader text)

@@ -1,7 +1,7 @@
 -- Laws of the reader beyond its contract: what a call answers (`answers`), what an accepted record tells
 -- (`accepted_told`), what moves the reader (`upper_moved`, `ended_moved`), and which words of the board stay, also where
 -- the current goes between a record's stores (`cut_kept`, `line_kept`), and behind any file (`import_kept`).
-use Rattle.std.specs.Prelude.{◌≡◌, ℕ, ◌+◌, ◌/◌, ◌<◌, ◌≤◌, Bool, true, false, cond, not, ◌||◌, ◌≢◌, List, [], ◌∷◌, map, length, take, ◌==◌, nat_eq, slice_index, slice_set}
+use Rattle.std.specs.Prelude.{Ok, Err, ◌≡◌, ℕ, ◌+◌, ◌/◌, ◌<◌, ◌≤◌, Bool, true, false, cond, not, ◌||◌, ◌≢◌, List, [], ◌∷◌, map, length, take, ◌==◌, nat_eq, slice_index, slice_set}
 use Rattle.std.proofs.Math.Path.{refl, ap, subst}
 use Rattle.std.proofs.Common.{sym, ◌∙◌, arith, get_or-set_other, get_or-take}
 use Rattle.std.proofs.lemmas.Bool.{false≢true}
@@ -18,10 +18,8 @@ use Rattle.status.specs.declared.Status.TheVariants as status
 use Rattle.status.specs.Numbers.{number_of}
 use Rattle.board.specs.Stores.{Store, applied}
 use Rattle.board.specs.Laws.{length_applied}
-use Rattle.checks.specs.declared.Checked.{Checked}
-use Rattle.checks.specs.declared.Checked.TheVariants.{Refused, Passed}
 use Rattle.checks.specs.declared.View.{View}
-use Rattle.checks.specs.Refusals.{row, tested, then, board_checked}
+use Rattle.checks.specs.Refusals.{Checked, row, tested, then, board_checked}
 use Rattle.checks.specs.View.{view_of, good_shape}
 use Rattle.checks.specs.Promises.{Opened}
 use Rattle.checks.specs.Laws.{held_as, then_both, passed_row, board_opened}
@@ -138,7 +136,7 @@ module _ (board : List ℕ) (reader : Reader) (text : List ℕ) where
   abbrev content : List ℕ
   content = content_of (in_capitals text)
 
-  pub accepted_told : (v : View) → Passed v ≡ import_checked board reader text → Accepted board reader text v
+  pub accepted_told : (v : View) → Ok v ≡ import_checked board reader text → Accepted board reader text v
   unfolding import_checked
   accepted_told v e =
       let both = then_both (board_checked board) (import_rows reader (in_capitals text)) v e in
@@ -173,8 +171,8 @@ module _ (board : List ℕ) (reader : Reader) (text : List ℕ) where
   upper_moved moved = go (import_checked board reader text) refl moved
     where
       go : (k : Checked) → import_checked board reader text ≡ k → (reader_for k reader content).upper ≢ reader.upper → AcceptedAs bank_type
-      go (Refused why value) e moved = absurd (moved refl)
-      go (Passed v) e moved = typed (type_in content == bank_type) refl moved
+      go (Err why) e moved = absurd (moved refl)
+      go (Ok v) e moved = typed (type_in content == bank_type) refl moved
         where
           typed : (t : Bool) → (type_in content == bank_type) ≡ t → cond t (word_of (held_in content)) reader.upper ≢ reader.upper → AcceptedAs bank_type
           typed true f moved = record { ok = rw e; type_is = eqb-true (type_in content) bank_type f }
@@ -186,8 +184,8 @@ module _ (board : List ℕ) (reader : Reader) (text : List ℕ) where
   ended_moved moved = go (import_checked board reader text) refl moved
     where
       go : (k : Checked) → import_checked board reader text ≡ k → (reader_for k reader content).ended ≢ reader.ended → AcceptedAs end_type
-      go (Refused why value) e moved = absurd (moved refl)
-      go (Passed v) e moved = typed (type_in content == end_type) refl moved
+      go (Err why) e moved = absurd (moved refl)
+      go (Ok v) e moved = typed (type_in content == end_type) refl moved
         where
           typed : (t : Bool) → (type_in content == end_type) ≡ t → t ≢ reader.ended → AcceptedAs end_type
           typed true f moved = record { ok = rw e; type_is = eqb-true (type_in content) end_type f }
@@ -214,8 +212,8 @@ module _ (board : List ℕ) (reader : Reader) (text : List ℕ) where
     every_made Q each = every_take Q made (import_stores board reader text) (go (import_checked board reader text) refl)
       where
         go : (k : Checked) → import_checked board reader text ≡ k → Every Q (stores_for k reader content)
-        go (Refused why value) e = tt
-        go (Passed v) e =
+        go (Err why) e = tt
+        go (Ok v) e =
             subst (λ (w : View). Every Q (map (line_store (lines_at w.shape.entries)) named)) (sym (accepted_told v (sym e)).opened.is) each
 
     -- the control word, the shape word and the log stay

@@ -1,6 +1,6 @@
 -- Laws of the export beyond its contract: every record's sum (`sums`) and length (`texts_short`), and that the calls with one number after the
 -- other give the file (`exported_joined`), which is read back as the board's lines (`exported_read`).
-use Rattle.std.specs.Prelude.{◌≡◌, ℕ, zero, suc, ◌+◌, ◌-◌, ◌*◌, ◌/◌, ◌%◌, ◌^◌, ◌<◌, ◌≤◌, List, [], ◌∷◌, ◌++◌, length, take, drop, ◌==◌}
+use Rattle.std.specs.Prelude.{Ok, Err, ◌≡◌, ℕ, zero, suc, ◌+◌, ◌-◌, ◌*◌, ◌/◌, ◌%◌, ◌^◌, ◌<◌, ◌≤◌, List, [], ◌∷◌, ◌++◌, length, take, drop, ◌==◌}
 use Rattle.std.proofs.Math.Path.{refl}
 use Rattle.std.proofs.Common.{sym, ap, ◌∙◌, arith, length-append, length-drop, take-suc, get_or-drop}
 use borrow.Author.Tests.{ltb-false, le-ltb, le-leb, lt-leb}
@@ -11,10 +11,8 @@ use Rattle.layout.specs.Bytes.{byte_bits, bytes_of_word, bytes_of, AreBytes}
 use Rattle.layout.specs.Fields.{width, unpack}
 use Rattle.layout.specs.Memory.{lines_at, shape_in}
 use Rattle.status.specs.declared.Status.TheVariants as status
-use Rattle.checks.specs.declared.Checked.{Checked}
-use Rattle.checks.specs.declared.Checked.TheVariants.{Refused, Passed}
 use Rattle.checks.specs.declared.View.{View}
-use Rattle.checks.specs.Refusals.{board_checked}
+use Rattle.checks.specs.Refusals.{Checked, unvalued, board_checked}
 use Rattle.checks.specs.View.{view_of}
 use Rattle.checks.specs.Promises.{Opened}
 use Rattle.checks.specs.Laws.{then_both, passed_row, board_opened}
@@ -150,7 +148,7 @@ records_on board = length (records_of (lines_on board))
 unfoldable pub given : (board : List ℕ) (number : ℕ) (text : List ℕ) → List ℕ
 given board number text = take (export_report board number text).value (export_text board number text)
 
-long_passed : (board : List ℕ) (text_bytes number : ℕ) (v : View) → Passed v ≡ export_checked board text_bytes number → most_text ≤ text_bytes
+long_passed : (board : List ℕ) (text_bytes number : ℕ) (v : View) → Ok v ≡ export_checked board text_bytes number → most_text ≤ text_bytes
 unfolding export_checked
 long_passed board text_bytes number v e =
     let both = then_both (board_checked board) (export_rows board text_bytes number) v e in
@@ -162,17 +160,17 @@ unfolding export_text
 text_kept board number text = go (export_checked board (length text) number) refl
   where
     go : (k : Checked) → k ≡ export_checked board (length text) number → length (text_for k (record_at board number) text) ≡ length text
-    go (Refused why value) e = refl
-    go (Passed v) e =
+    go (Err why) e = refl
+    go (Ok v) e =
         let room : most_text ≤ length text = long_passed board (length text) number v e in
         rw (length-append (record_at board number) (drop (length (record_at board number)) text), length-drop (length (record_at board number)) text)
         (omega (arith, record_short board number))
 
 -- on a board that passes 1, with a text that has room for any record
-module _ (board : List ℕ) (v : View) (passed : Passed v ≡ board_checked board) (number : ℕ) (text : List ℕ) (room : most_text ≤ length text) where
+module _ (board : List ℕ) (v : View) (passed : Ok v ≡ board_checked board) (number : ℕ) (text : List ℕ) (room : most_text ≤ length text) where
   -- "17 past, no record of that number"
   module _ (past : records_on board ≤ number) where
-    past_checked : export_checked board (length text) number ≡ Refused status.Past 0
+    past_checked : export_checked board (length text) number ≡ Err (unvalued status.Past)
     unfolding export_checked
     past_checked = rw (← passed, le-ltb (length text) most_text room, le-leb (records_on board) number past)
 
@@ -186,7 +184,7 @@ module _ (board : List ℕ) (v : View) (passed : Passed v ≡ board_checked boar
 
   -- and, where the log is empty, each number before is that of a record
   module _ (empty : v.control.length ≡ 0) (below : number < records_on board) where
-    exports_checked : export_checked board (length text) number ≡ Passed v
+    exports_checked : export_checked board (length text) number ≡ Ok v
     unfolding export_checked
     exports_checked = rw (← passed, le-ltb (length text) most_text room, lt-leb (records_on board) number below, empty)
 
@@ -212,7 +210,7 @@ exported_by board texts zero = []
 exported_by board texts (suc n) = exported_by board texts n ++ (given board n (texts n) ∷ [])
 
 -- on a board that passes 1 and 18, with texts that have room for any record
-module _ (board : List ℕ) (v : View) (passed : Passed v ≡ board_checked board) (empty : v.control.length ≡ 0)
+module _ (board : List ℕ) (v : View) (passed : Ok v ≡ board_checked board) (empty : v.control.length ≡ 0)
     (texts : ℕ → List ℕ) (room : (n : ℕ) → most_text ≤ length (texts n)) where
   exported_so_far : (n : ℕ) → n ≤ records_on board → exported_by board texts n ≡ take n (records_of (lines_on board))
   unfolding exported_by record_at

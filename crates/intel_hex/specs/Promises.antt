@@ -1,13 +1,12 @@
 -- What the functions promise that write a record into a text, and those that read one. `sets text at piece` is the text with a piece of it replaced,
 -- from a place on.
-use Rattle.std.specs.Prelude.{◌≡◌, ℕ, ◌+◌, ◌-◌, ◌*◌, ◌/◌, ◌%◌, ◌^◌, ◌<◌, ◌≤◌, Bool, true, false, cond, ◌&&◌, ◌||◌, List, [], ◌∷◌, ◌++◌, map, length, take, drop, replicate, ◌==◌, nat_lt, slice_index, slice_index_or}
+use Rattle.std.specs.Prelude.{Ok, ◌≡◌, ℕ, ◌+◌, ◌-◌, ◌*◌, ◌/◌, ◌%◌, ◌^◌, ◌<◌, ◌≤◌, Bool, true, false, cond, ◌&&◌, ◌||◌, List, [], ◌∷◌, ◌++◌, map, length, take, drop, replicate, ◌==◌, nat_lt, slice_index, slice_index_or}
 use Rattle.std.proofs.lemmas.List.Edits.{sets}
 use Rattle.layout.specs.Bytes.{byte_bits, bytes_of_word, word_of}
 use Rattle.layout.specs.Limits.{most_lines}
 use Rattle.layout.specs.Memory.{lines_at}
 use Rattle.status.specs.Names.{bytes}
 use Rattle.status.specs.declared.Status.{Status}
-use Rattle.checks.specs.declared.Checked.TheVariants.{Passed}
 use Rattle.checks.specs.declared.View.{View}
 use Rattle.checks.specs.Promises.{GoodBoard, Opened}
 use Rattle.checks.specs.Refusals.{board_checked}
@@ -221,7 +220,7 @@ pub record Inside (board : List ℕ) (upper from count : ℕ) (v : View) : Type 
 
 -- 1, 18 and the end have passed
 pub record Ready (board : List ℕ) (reader : Reader) (v : View) : Type 0 where
-  pub passed : Passed v ≡ board_checked board
+  pub passed : Ok v ≡ board_checked board
   pub opened : Opened board v
   pub empty : v.control.length ≡ 0
   pub before_end : reader.ended ≡ false

@@ -2,7 +2,7 @@
 -- rebuild every line": `rebuilds`, and of what the export's calls give `exported_rebuilds`, both in either case of
 -- digits. On the way: which records are taken (`bank_took`, `data_took`, `end_took`), and that of texts that are all
 -- accepted the board gets what their records hold (`stored_as_held`).
-use Rattle.std.specs.Prelude.{◌≡◌, ℕ, suc, ◌+◌, ◌*◌, ◌/◌, ◌%◌, ◌^◌, ◌<◌, ◌≤◌, Bool, true, false, cond, ◌||◌, List, [], ◌∷◌, ◌++◌, map, length, take, drop, ◌==◌, slice_set}
+use Rattle.std.specs.Prelude.{Ok, ◌≡◌, ℕ, suc, ◌+◌, ◌*◌, ◌/◌, ◌%◌, ◌^◌, ◌<◌, ◌≤◌, Bool, true, false, cond, ◌||◌, List, [], ◌∷◌, ◌++◌, map, length, take, drop, ◌==◌, slice_set}
 use Rattle.std.proofs.Math.Path.{refl, ap}
 use Rattle.std.proofs.Common.{sym, subst, ◌∙◌, append-nil, append_assoc, length-set, length-drop, take_all, take-suc-set}
 use Rattle.std.proofs.lemmas.List.{map-append, drop-set-add}
@@ -15,7 +15,6 @@ use Rattle.layout.specs.Memory.{lines_at, shape_in}
 use Rattle.status.specs.declared.Status.TheVariants as status
 use Rattle.board.specs.Stores.{applied}
 use Rattle.board.specs.Laws.{applied_append}
-use Rattle.checks.specs.declared.Checked.TheVariants.{Passed}
 use Rattle.checks.specs.declared.View.{View}
 use Rattle.checks.specs.Refusals.{board_checked}
 use Rattle.checks.specs.View.{view_of}
@@ -47,7 +46,7 @@ use Rattle.intel_hex.specs.ImportLaws.{board_kept, import_kept, checked_kept, sh
 -- every record passes, the board's view being v
 unfoldable pub Passing : View → Importing → (texts : List (List ℕ)) → Type 0
 Passing v s [] = Unit {0}
-Passing v s (t ∷ ts) = (import_checked s.board s.reader t ≡ Passed v) × Passing v (behind_text s t) ts
+Passing v s (t ∷ ts) = (import_checked s.board s.reader t ≡ Ok v) × Passing v (behind_text s t) ts
 
 -- so every call answers 0
 abbrev pub AllOk : List Report → Type 0
@@ -102,13 +101,13 @@ lines_set (w ∷ ws) k b many =
 
 -- an import under way: its board's view is v, and the end was not seen
 pub record Ready (v : View) (upper : ℕ) (s : Importing) : Type 0 where
-  pub passes : board_checked s.board ≡ Passed v
+  pub passes : board_checked s.board ≡ Ok v
   pub reader_is : s.reader ≡ record { upper = upper; ended = false }
 
 -- a text that passes, and what it leaves
 pub record Took (v : View) (s : Importing) (text : List ℕ) (left : Reader) : Type 0 where
-  pub checked : import_checked s.board s.reader text ≡ Passed v
-  pub board_passes : board_checked (import_board s.board s.reader text) ≡ Passed v
+  pub checked : import_checked s.board s.reader text ≡ Ok v
+  pub board_passes : board_checked (import_board s.board s.reader text) ≡ Ok v
   pub reader_left : import_reader s.board s.reader text ≡ left
 
 module _ (v : View) (log_empty : v.control.length ≡ 0) (upper : ℕ) (s : Importing) (ready : Ready v upper s) where
@@ -117,7 +116,7 @@ module _ (v : View) (log_empty : v.control.length ≡ 0) (upper : ℕ) (s : Impo
     content = content_for address type held
 
     written_passes : is_offered content ≡ true → is_outside v.shape.lines upper content ≡ false
-        → import_checked s.board s.reader (record_text address type held) ≡ Passed v
+        → import_checked s.board s.reader (record_text address type held) ≡ Ok v
     unfolding import_checked well_formed
     written_passes offered inside =
         rw (
@@ -262,7 +261,7 @@ rebuilds_alike lines board texts texts' alike r =
     }
 
 -- "into a board of the same N that passes 1 and 18"
-module _ (board : List ℕ) (v : View) (passed : Passed v ≡ board_checked board) (log_empty : v.control.length ≡ 0) where
+module _ (board : List ℕ) (v : View) (passed : Ok v ≡ board_checked board) (log_empty : v.control.length ≡ 0) where
   module _ (lines : List ℕ) (words : AreWords lines) (many : length lines ≡ v.shape.lines) where
     opened : Opened board v
     opened = board_opened board v passed
@@ -299,7 +298,7 @@ module _ (board : List ℕ) (v : View) (passed : Passed v ≡ board_checked boar
         }
 
   -- "All records of an export", of a board of as many lines that passes 1, in either case of digits
-  module _ (source : List ℕ) (w : View) (source_passed : Passed w ≡ board_checked source) (same : w.shape.lines ≡ v.shape.lines)
+  module _ (source : List ℕ) (w : View) (source_passed : Ok w ≡ board_checked source) (same : w.shape.lines ≡ v.shape.lines)
       (words : AreWords (lines_on source)) (texts : List (List ℕ)) where
     pub rebuilds : Alike texts (records_of (lines_on source)) → Rebuilds (lines_on source) board texts
     rebuilds alike =

@@ -7,9 +7,8 @@ mod record;
 mod taking;
 mod writing;
 
-ghost use Rattle.std.specs.Prelude.{◌≡◌, ◌≤◌, [], slice_index_or};
+ghost use Rattle.std.specs.Prelude.{Ok, ◌≡◌, ◌≤◌, [], slice_index_or};
 ghost use Rattle.layout.specs.Limits.{most_lines};
-ghost use Rattle.checks.specs.declared.Checked.TheVariants.{Passed};
 ghost use Rattle.checks.specs.Refusals.{board_checked};
 ghost use Rattle.checks.specs.Promises.{Opened};
 ghost use Rattle.intel_hex.specs.Records.{records_of};
@@ -17,7 +16,7 @@ ghost use Rattle.intel_hex.specs.Places.{last_of};
 ghost use Rattle.intel_hex.specs.Export.{Exports};
 ghost use Rattle.intel_hex.specs.Promises.{Puts, Numbered};
 
-use checks::{Checked, View};
+use checks::View;
 use picl::Report;
 use record::MOST_TEXT;
 use status::Status;
@@ -72,7 +71,7 @@ fn put_numbered(text: &mut [u8], lines: &[u64], number: u64, last: u64) -> usize
 
 // 1 has passed: 16, 17 and 18, and then the record.
 fn put_shaped(board: &[u64], text: &mut [u8], number: u64, view: View) -> Report
-    requires view_value { Passed view ≡ board_checked board.now }
+    requires view_value { Ok view ≡ board_checked board.now }
     requires opened { Opened board.now view }
     ensures { Exports board.now number text.old text.new result }
 {
@@ -99,7 +98,7 @@ pub fn put_record(board: &[u64], text: &mut [u8], number: u64) -> Report
 {
     let checked = checks::check_board(board);
     match checked {
-        Checked::Refused(status, value) => Report::unstored(status, value),
-        Checked::Passed(view) => put_shaped(board, text, number, view),
+        Err(refusal) => Report::from(refusal),
+        Ok(view) => put_shaped(board, text, number, view),
     }
 }

@@ -1,10 +1,9 @@
 // Takes the record that a text is: lines of the board, the upper address or the end.
-ghost use Rattle.std.specs.Prelude.{◌≡◌, ◌+◌, ◌*◌, ◌/◌, ◌<◌, ◌≤◌, true, length};
+ghost use Rattle.std.specs.Prelude.{Ok, ◌≡◌, ◌+◌, ◌*◌, ◌/◌, ◌<◌, ◌≤◌, true, length};
 ghost use Rattle.std.proofs.lemmas.List.Edits.{sets};
 ghost use Rattle.layout.specs.ByteWords.{words_of};
 ghost use Rattle.layout.specs.Bytes.{bytes_of_word};
 ghost use Rattle.layout.specs.Limits.{most_lines};
-ghost use Rattle.checks.specs.declared.Checked.TheVariants.{Passed};
 ghost use Rattle.checks.specs.Refusals.{board_checked};
 ghost use Rattle.checks.specs.Promises.{Opened};
 ghost use Rattle.intel_hex.specs.Records.{address_bytes, bank_bytes, record_bytes};
@@ -14,7 +13,7 @@ ghost use Rattle.intel_hex.specs.Promises.{text_bytes, has_lines, taken_as, line
 use crate::reading::{BANK_TEXT, LINE_TEXT, PLACE_BYTES, count_of, is_end, read_bank, read_lines};
 use crate::record::{MOST_DATA, MOST_TEXT};
 use crate::{Reader, Taken, record};
-use checks::{Checked, View};
+use checks::View;
 use layout::BYTES_OF_WORD;
 use picl::Report;
 use status::Status;
@@ -167,7 +166,7 @@ fn take_text(board: &mut [u64], reader: Reader, text: &[u8], view: View) -> Take
 
 // 1 has passed.
 fn take_shaped(board: &mut [u64], reader: Reader, text: &[u8], view: View) -> Taken
-    requires view_value { Passed view ≡ board_checked board.old }
+    requires view_value { Ok view ≡ board_checked board.old }
     requires opened { Opened board.old view }
     ensures { Imports board.old reader text.now board.new result }
 {
@@ -186,10 +185,10 @@ pub fn take_record(board: &mut [u64], reader: Reader, text: &[u8]) -> Taken
 {
     let checked = checks::check_board(board);
     match checked {
-        Checked::Refused(status, value) => Taken {
-            report: Report::unstored(status, value),
+        Err(refusal) => Taken {
+            report: Report::from(refusal),
             reader,
         },
-        Checked::Passed(view) => take_shaped(board, reader, text, view),
+        Ok(view) => take_shaped(board, reader, text, view),
     }
 }

@@ -1,4 +1,5 @@
 -- Tally and the number of filter bits, questions that change nothing: one law for each way out of a function.
+use Rattle.std.specs.Prelude.{Ok, Err}
 use Prim.Native.Nat.{ℕ, ◌-◌, ◌≤◌}
 use mathlib.Core.Path.{◌≡◌}
 use mathlib.Core.Bool.{Bool, true, false, not}
@@ -11,11 +12,10 @@ use Rattle.layout.specs.Memory.{filter_words, buffer_at, buffer_words}
 use Rattle.status.specs.declared.Status.{Status}
 use Rattle.status.specs.declared.Status.TheVariants as status
 use Rattle.undo.specs.Filter.{ones_of}
-use Rattle.checks.specs.declared.Checked.{Checked}
-use Rattle.checks.specs.declared.Checked.TheVariants.{Refused, Passed}
+use Rattle.checks.specs.declared.Refusal.{Refusal}
 use Rattle.checks.specs.declared.Registers.{Registers}
 use Rattle.checks.specs.declared.View.{View}
-use Rattle.checks.specs.Refusals.{running_checked}
+use Rattle.checks.specs.Refusals.{Checked, running_checked}
 use Rattle.checks.specs.Laws.{work_buffer}
 use Rattle.checks.specs.View.{good_work}
 use Rattle.picl.specs.declared.Report.{Report}
@@ -24,11 +24,11 @@ use Rattle.picl.specs.Calls.{report, tally_report, filter_bits_verdict, filter_b
 
 -- the tally
 module _ (board work : List ℕ) (r : Registers) (k : Checked) (is : k ≡ running_checked board work r) (a : Report) where
-  pub tally_refused : (s : Status) (value : ℕ) → k ≡ Refused s value → a ≡ report s value → a ≡ tally_report board work r
+  pub tally_refused : (why : Refusal) → k ≡ Err why → a ≡ report why.status why.value → a ≡ tally_report board work r
   unfolding tally_report answer_of
-  tally_refused s value e x = rw (← is, e) x
+  tally_refused why e x = rw (← is, e) x
 
-  pub tally_answered : (v : View) → k ≡ Passed v → a ≡ report status.Ok r.dirty → a ≡ tally_report board work r
+  pub tally_answered : (v : View) → k ≡ Ok v → a ≡ report status.Ok r.dirty → a ≡ tally_report board work r
   unfolding tally_report answer_of
   tally_answered v e x = rw (← is, e) x
 

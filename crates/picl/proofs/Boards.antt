@@ -1,4 +1,5 @@
 -- Power-up and format: one law for each way out of a function.
+use Rattle.std.specs.Prelude.{Ok, Err}
 use Prim.Native.Nat.{ℕ, ◌+◌, ◌<◌, ◌≤◌}
 use mathlib.Core.Path.{◌≡◌, refl, sym, ap, ◌∙◌}
 use mathlib.Core.Bool.{Bool, true, false, not}
@@ -20,13 +21,12 @@ use Rattle.undo.specs.declared.LogState.{LogState}
 use Rattle.undo.specs.Promises.{RecoverReady}
 use Rattle.undo.specs.Log.{log_in, recover_stores}
 use Rattle.undo.specs.Recovery.{first_improper, proper_at}
-use Rattle.checks.specs.declared.Checked.{Checked}
-use Rattle.checks.specs.declared.Checked.TheVariants.{Refused, Passed}
+use Rattle.checks.specs.declared.Refusal.{Refusal}
 use Rattle.checks.specs.declared.Registers.{Registers}
 use Rattle.checks.specs.declared.View.{View}
 use Rattle.checks.specs.Promises.{Shaped}
 use Rattle.checks.specs.Laws.{sizes_told, words_told, entries_shaped, entries_proper}
-use Rattle.checks.specs.Refusals.{power_up_checked}
+use Rattle.checks.specs.Refusals.{Checked, power_up_checked}
 use Rattle.checks.specs.Registers as registers
 use Rattle.checks.specs.Stages.{told_refused}
 use Rattle.checks.specs.View.{good_sizes, undo_of}
@@ -39,7 +39,7 @@ use Rattle.picl.proofs.Finishing.{answers_due}
 use Rattle.picl.proofs.Calling.{judged_refused}
 
 -- power-up
-module _ (board work : List ℕ) (v : View) (passed : Passed v ≡ power_up_checked board work) where
+module _ (board work : List ℕ) (v : View) (passed : Ok v ≡ power_up_checked board work) where
   shaped : Shaped board work v
   shaped = entries_shaped board work v passed
 
@@ -71,12 +71,12 @@ module _ (allowance : ℕ) (board board' : List ℕ) (u : LogState) (m m' : Mete
       (ap length z ∙ length-replicate (length work) 0) (λ h. z) (λ h. refl) (λ h. e) f
 
 -- a power-up that is refused leaves registers zero
-pub power_up_refused : (allowance : ℕ) (board work : List ℕ) (k : Checked) (s : Status) (value : ℕ) (z : Registers) (a : Answer)
-    → k ≡ power_up_checked board work → k ≡ Refused s value → z ≡ registers.all_zero → a ≡ refusal s value z
+pub power_up_refused : (allowance : ℕ) (board work : List ℕ) (k : Checked) (why : Refusal) (z : Registers) (a : Answer)
+    → k ≡ power_up_checked board work → k ≡ Err why → z ≡ registers.all_zero → a ≡ refusal why.status why.value z
     → Answers allowance registers.all_zero board work (power_up_verdict board work) board work a
 unfolding power_up_verdict
-power_up_refused allowance board work k s value z a is e n x =
-    judged_refused allowance board work registers.all_zero (power_up_checked board work) (power_up_outcome board work) s value a (told_refused _ k is s value e)
+power_up_refused allowance board work k why z a is e n x =
+    judged_refused allowance board work registers.all_zero (power_up_checked board work) (power_up_outcome board work) why a (told_refused _ k is why e)
     (rw n at x)
 
 -- format

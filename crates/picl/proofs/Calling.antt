@@ -1,4 +1,5 @@
 -- The calls: one law for each way out of a function.
+use Rattle.std.specs.Prelude.{Ok, Err}
 use Prim.Native.Nat.{ℕ, ◌+◌, ◌*◌, ◌<◌, ◌≤◌}
 use mathlib.Core.Path.{◌≡◌, refl, ap}
 use mathlib.Core.Bool.{Bool}
@@ -19,13 +20,12 @@ use Rattle.steps.specs.Effects.{loading, storing, evicting, visiting, persisting
 use Rattle.steps.specs.Promises.{Acts, Carries}
 use Rattle.slots.specs.Sets.{spot_of}
 use Rattle.slots.specs.Slots.{dirty_at}
-use Rattle.checks.specs.declared.Checked.{Checked}
-use Rattle.checks.specs.declared.Checked.TheVariants.{Refused, Passed}
+use Rattle.checks.specs.declared.Refusal.{Refusal}
 use Rattle.checks.specs.declared.Registers.{Registers}
 use Rattle.checks.specs.declared.View.{View}
 use Rattle.checks.specs.Laws.{line_running, line_named, line_proper, line_countable, store_line, store_room, commit_running}
 use Rattle.checks.specs.Laws.{scan_running, scan_proper, scan_countable, scan_aims}
-use Rattle.checks.specs.Refusals.{line_checked, store_checked, commit_checked, begin_checked, scan_checked}
+use Rattle.checks.specs.Refusals.{Checked, line_checked, store_checked, commit_checked, begin_checked, scan_checked}
 use Rattle.checks.specs.Registers.{leaving, committed, begun, stepped, ended, recounted, scan_target}
 use Rattle.checks.specs.Stages.{told_passed}
 use Rattle.checks.specs.View.{undo_of}
@@ -40,11 +40,11 @@ use Rattle.picl.specs.Calls as calls
 
 -- a call's verdict, once its check has come to a result
 module _ (allowance : ℕ) (board work : List ℕ) (r : Registers) (k : Checked) (outcome : View → Outcome) where
-  pub judged_refused : (s : Status) (value : ℕ) (a : Answer) → Refused s value ≡ k → a ≡ refusal s value r
+  pub judged_refused : (why : Refusal) (a : Answer) → Err why ≡ k → a ≡ refusal why.status why.value r
       → Answers allowance r board work (judged k outcome) board work a
-  judged_refused s value a e x = rw (← e) (answers_refused allowance r board work s value a x)
+  judged_refused why a e x = rw (← e) (answers_refused allowance r board work why.status why.value a x)
 
-  pub judged_passed : (v : View) (board' work' : List ℕ) (a : Answer) → Passed v ≡ k
+  pub judged_passed : (v : View) (board' work' : List ℕ) (a : Answer) → Ok v ≡ k
       → Answers allowance r board work (due (outcome v)) board' work' a → Answers allowance r board work (judged k outcome) board' work' a
   judged_passed v board' work' a e x = rw (← e) x
 
@@ -75,7 +75,7 @@ unfolding load_outcome
 load_found allowance board work r address v spot u board' work' a at is x = rw (at, is) at x
 
 -- what load and evict require of their tests
-pub line_told : (board work : List ℕ) (r : Registers) (address : ℕ) (v : View) → Passed v ≡ line_checked board work r address
+pub line_told : (board work : List ℕ) (r : Registers) (address : ℕ) (v : View) → Ok v ≡ line_checked board work r address
     → LinePassed board work r address v
 line_told board work r address v p =
     record {
@@ -125,7 +125,7 @@ pub store_found : (allowance : ℕ) (board work : List ℕ) (r : Registers) (add
 unfolding store_outcome
 store_found allowance board work r address value v spot u board' work' a at is x = rw (at, is) at x
 
-pub store_told : (board work : List ℕ) (r : Registers) (address : ℕ) (v : View) → Passed v ≡ store_checked board work r address
+pub store_told : (board work : List ℕ) (r : Registers) (address : ℕ) (v : View) → Ok v ≡ store_checked board work r address
     → StorePassed board work r address v
 store_told board work r address v p =
     record {
@@ -134,7 +134,7 @@ store_told board work r address v p =
     }
 
 -- commit
-module _ (board work : List ℕ) (r : Registers) (k : Checked) (is : k ≡ commit_checked board work r) (v : View) (passed : k ≡ Passed v) where
+module _ (board work : List ℕ) (r : Registers) (k : Checked) (is : k ≡ commit_checked board work r) (v : View) (passed : k ≡ Ok v) where
   pub commit_within : r.epoch ≤ last_epoch
   commit_within = (commit_running board work r v (told_passed _ k is v passed)).proper.epoch_most
 
@@ -146,7 +146,7 @@ module _ (board work : List ℕ) (r : Registers) (k : Checked) (is : k ≡ commi
 
 -- begin
 pub begin_answered : (allowance : ℕ) (board work : List ℕ) (r : Registers) (target : ℕ) (k : Checked) (v : View) (a : Answer)
-    → k ≡ begin_checked board work r target → k ≡ Passed v → a ≡ answer status.Ok 0 0 (begun r target)
+    → k ≡ begin_checked board work r target → k ≡ Ok v → a ≡ answer status.Ok 0 0 (begun r target)
     → Answers allowance r board work (verdict_of board work r (calls.begin target)) board work a
 begin_answered allowance board work r target k v a is e x =
     judged_passed allowance board work r (begin_checked board work r target) (λ u. unstored 0 (begun r target) work) v board work a
@@ -190,7 +190,7 @@ module _ (allowance : ℕ) (board work : List ℕ) (r next : Registers) (v : Vie
   unfolding scan_outcome
   scan_aimed e x = rw e at x
 
-pub scan_told : (board work : List ℕ) (r : Registers) (v : View) → Passed v ≡ scan_checked board work r → ScanPassed board work r v
+pub scan_told : (board work : List ℕ) (r : Registers) (v : View) → Ok v ≡ scan_checked board work r → ScanPassed board work r v
 scan_told board work r v p =
     record {
       running = scan_running board work r v p;

@@ -1,5 +1,5 @@
 -- The calls: what each comes to on any memories, registers and arguments.
-use Rattle.std.specs.Prelude.{ℕ, cond, List, [], ltb, length, replicate}
+use Rattle.std.specs.Prelude.{Ok, Err, ℕ, cond, List, [], ltb, length, replicate}
 use Rattle.layout.specs.declared.Shape.{Shape}
 use Rattle.layout.specs.Memory.{filter_words, data_in, buffer_in, formatted}
 use Rattle.layout.specs.Words.{bit}
@@ -12,21 +12,19 @@ use Rattle.slots.specs.declared.Spot.{Spot}
 use Rattle.slots.specs.Sets.{spot_of}
 use Rattle.slots.specs.Slots.{dirty_at}
 use Rattle.steps.specs.Effects.{Effect, loading, storing, evicting, visiting, persisting}
-use Rattle.checks.specs.declared.Checked.{Checked}
-use Rattle.checks.specs.declared.Checked.TheVariants.{Refused, Passed}
 use Rattle.checks.specs.declared.Registers.{Registers}
 use Rattle.checks.specs.declared.View.{View}
 use Rattle.checks.specs.Registers as registers
 use Rattle.checks.specs.View.{good_sizes, good_work, undo_of}
-use Rattle.checks.specs.Refusals.{power_up_checked, running_checked, line_checked, store_checked, commit_checked, begin_checked, scan_checked}
+use Rattle.checks.specs.Refusals.{Checked, power_up_checked, running_checked, line_checked, store_checked, commit_checked, begin_checked, scan_checked}
 use Rattle.picl.specs.declared.Report.{Report}
 use Rattle.picl.specs.Answers.{Outcome, Verdict, answer_of}
 use Rattle.board.specs.Verdict.{refused, due}
 
 -- refused by its first row that holds, or else due
 abbrev pub judged : Checked → (View → Outcome) → Verdict
-judged (Refused why value) outcome = refused why value
-judged (Passed v) outcome = due (outcome v)
+judged (Err why) outcome = refused why.status why.value
+judged (Ok v) outcome = due (outcome v)
 
 -- what an effect on log and cache comes to, with the registers taking over what it leaves
 abbrev pub carried : (value : ℕ) → Registers → Effect → Outcome

@@ -12,7 +12,6 @@ use Rattle.slots.specs.Sets.{places_of, proper_set, spot_of}
 use Rattle.slots.specs.Slots.{proper_at, dirty_at, dirty_slot, undo_due}
 use Rattle.checks.specs.declared.View.{View}
 use Rattle.checks.specs.Promises.{Running, Countable}
-use Rattle.checks.specs.declared.Checked.TheVariants.{Passed}
 use Rattle.checks.specs.Refusals.{tested, line_rows, running_checked}
 use Rattle.checks.specs.Registers.{scan_target}
 use Rattle.checks.specs.View.{bounds_of}

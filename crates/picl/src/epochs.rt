@@ -1,8 +1,7 @@
 // Commit, begin, scan and power-up: the calls that end, persist and restore epochs. The names of their functions tell how far a call has
 // come, as those of the calls of lines do; running: 1, 2 and 4 have passed.
-ghost use Rattle.std.specs.Prelude.{◌<◌, ◌≤◌, length, ◌≡◌};
+ghost use Rattle.std.specs.Prelude.{Ok, ◌<◌, ◌≤◌, length, ◌≡◌};
 ghost use Rattle.board.specs.Verdict.{due};
-ghost use Rattle.checks.specs.declared.Checked.TheVariants.{Passed};
 ghost use Rattle.checks.specs.Refusals.{power_up_checked, running_checked};
 ghost use Rattle.steps.specs.Promises.{SlotReady, PersistReady};
 ghost use Rattle.steps.specs.Effects.{visiting, persisting};
@@ -15,9 +14,9 @@ ghost use Rattle.picl.specs.Calls as call;
 ghost use Rattle.picl.specs.Calls.{no_allowance, scan_outcome, scan_at, carried, carried_at, power_up_outcome, power_up_verdict};
 ghost use Rattle.picl.specs.Promises.{Answers, Calls, ScanPassed, Found};
 
-use crate::{Answer, finish, finish_slot, refusal};
+use crate::{Answer, finish, finish_slot, refused};
 use board::Meter;
-use checks::{Checked, Registers, View};
+use checks::{Registers, View};
 use status::Status;
 use undo::LogState;
 
@@ -39,8 +38,8 @@ pub fn commit(board: &[u64], work: &[u64], registers: Registers, allowance: u32)
 {
     let checked = checks::check_commit(board, work, registers);
     match checked {
-        Checked::Refused(status, value) => refusal(status, value, registers),
-        Checked::Passed(_) => commit_passed(registers),
+        Err(refusal) => refused(refusal, registers),
+        Ok(_) => commit_passed(registers),
     }
 }
 
@@ -61,8 +60,8 @@ pub fn begin(board: &[u64], work: &[u64], registers: Registers, target: u64) -> 
 {
     let checked = checks::check_begin(board, work, registers, target);
     match checked {
-        Checked::Refused(status, value) => refusal(status, value, registers),
-        Checked::Passed(_) => begin_passed(registers, target),
+        Err(refusal) => refused(refusal, registers),
+        Ok(_) => begin_passed(registers, target),
     }
 }
 
@@ -168,13 +167,13 @@ fn scan_running(
     view: View,
     allowance: u32,
 ) -> Answer
-    requires { Passed view ≡ running_checked board.old work.old registers }
+    requires { Ok view ≡ running_checked board.old work.old registers }
     ensures { Calls call.scan allowance registers board.old work.old board.new work.new result }
 {
     let checked = checks::check_scan(view, work, registers);
     match checked {
-        Checked::Refused(status, value) => refusal(status, value, registers),
-        Checked::Passed(_) => scan_passed(board, work, registers, view, allowance),
+        Err(refusal) => refused(refusal, registers),
+        Ok(_) => scan_passed(board, work, registers, view, allowance),
     }
 }
 
@@ -184,13 +183,13 @@ pub fn scan(board: &mut [u64], work: &mut [u64], registers: Registers, allowance
 {
     let running = checks::check_running(board, work, registers);
     match running {
-        Checked::Refused(status, value) => refusal(status, value, registers),
-        Checked::Passed(view) => scan_running(board, work, registers, view, allowance),
+        Err(refusal) => refused(refusal, registers),
+        Ok(view) => scan_running(board, work, registers, view, allowance),
     }
 }
 
 fn power_up_passed(board: &mut [u64], work: &mut [u64], view: View, allowance: u32) -> Answer
-    requires { Passed view ≡ power_up_checked board.old work.old }
+    requires { Ok view ≡ power_up_checked board.old work.old }
     ensures { Answers allowance all_zero board.old work.old (due (power_up_outcome board.old work.old view)) board.new work.new result }
 {
     let meter = undo::recover(board, view.log(), view.shape.lines, Meter::new(allowance));
@@ -210,7 +209,7 @@ pub fn power_up(board: &mut [u64], work: &mut [u64], allowance: u32) -> Answer
 {
     let checked = checks::check_power_up(board, work);
     match checked {
-        Checked::Refused(status, value) => refusal(status, value, Registers::all_zero()),
-        Checked::Passed(view) => power_up_passed(board, work, view, allowance),
+        Err(refusal) => refused(refusal, Registers::all_zero()),
+        Ok(view) => power_up_passed(board, work, view, allowance),
     }
 }

@@ -1,6 +1,5 @@
 // Evict. Its functions are named as those of load are.
-ghost use Rattle.std.specs.Prelude.{◌≡◌};
-ghost use Rattle.checks.specs.declared.Checked.TheVariants.{Passed};
+ghost use Rattle.std.specs.Prelude.{Ok, ◌≡◌};
 ghost use Rattle.checks.specs.Refusals.{named_checked, line_checked};
 ghost use Rattle.steps.specs.Promises.{SlotReady};
 ghost use Rattle.board.specs.Verdict.{due};
@@ -9,9 +8,9 @@ ghost use Rattle.picl.specs.Calls.{evict_at};
 ghost use Rattle.picl.specs.Promises.{Answers, Calls, Found};
 ghost use Rattle.slots.specs.Sets.{spot_of};
 
-use crate::{Answer, finish_slot, refusal};
+use crate::{Answer, finish_slot, refused};
 use board::Meter;
-use checks::{Checked, Registers, View};
+use checks::{Registers, View};
 use slots::Spot;
 use undo::LogState;
 
@@ -42,7 +41,7 @@ fn evict_passed(
     spot: Spot,
     allowance: u32,
 ) -> Answer
-    requires view_value { Passed view ≡ line_checked board.old work.old registers address }
+    requires view_value { Ok view ≡ line_checked board.old work.old registers address }
     requires spot_value { spot ≡ spot_of work.old view.slots address }
     ensures { Calls (call.evict address) allowance registers board.old work.old board.new work.new result }
 {
@@ -59,7 +58,7 @@ fn evict_named(
     view: View,
     allowance: u32,
 ) -> Answer
-    requires { Passed view ≡ named_checked board.old work.old registers address }
+    requires { Ok view ≡ named_checked board.old work.old registers address }
     ensures { Calls (call.evict address) allowance registers board.old work.old board.new work.new result }
 {
     let least = view.least_tag();
@@ -67,8 +66,8 @@ fn evict_named(
     let site = slots::site_for(work, view.slots, view.shape.lines, least, tags, address);
     let checked = checks::check_site(view, work, registers, site);
     match checked {
-        Checked::Refused(status, value) => refusal(status, value, registers),
-        Checked::Passed(_) => evict_passed(
+        Err(refusal) => refused(refusal, registers),
+        Ok(_) => evict_passed(
             board,
             work,
             registers,
@@ -92,7 +91,7 @@ pub fn evict(
 {
     let named = checks::check_named(board, work, registers, address);
     match named {
-        Checked::Refused(status, value) => refusal(status, value, registers),
-        Checked::Passed(view) => evict_named(board, work, registers, address, view, allowance),
+        Err(refusal) => refused(refusal, registers),
+        Ok(view) => evict_named(board, work, registers, address, view, allowance),
     }
 }

@@ -16,7 +16,7 @@ ghost use Rattle.checks.specs.Registers.{recounted, leaving};
 ghost use Rattle.picl.specs.Promises.{Finishes, FinishReady};
 
 use board::Meter;
-use checks::Registers;
+use checks::{Refusal, Registers};
 pub use epochs::{begin, commit, power_up, scan};
 pub use evictions::evict;
 pub use loads::load;
@@ -55,13 +55,21 @@ impl Report {
     }
 }
 
+impl From<Refusal> for Report {
+    ghost from_gives = { λ refusal r. r ≡ report refusal.status refusal.value };
+
+    fn from(refusal: Refusal) -> Report {
+        Report::unstored(refusal.status, refusal.value)
+    }
+}
+
 // The answer of a call that has changed nothing.
-fn refusal(status: Status, value: u64, registers: Registers) -> Answer
-    ensures { result ≡ refused status value registers }
+fn refused(refusal: Refusal, registers: Registers) -> Answer
+    ensures { result ≡ refused refusal.status refusal.value registers }
 {
     Answer {
-        status,
-        value,
+        status: refusal.status,
+        value: refusal.value,
         stores: 0,
         registers,
     }

@@ -1,8 +1,7 @@
 // Load, store and evict are the calls that name a line. Each makes its tests in the order of the paper's table. The names of their
 // functions tell how far a call has come: named, 1, 2, 4 and 5 have passed; passed, one pass over the set has found the line's slot, and
 // all other tests have passed; at, and the log's numbers are known. This is load.
-ghost use Rattle.std.specs.Prelude.{◌+◌, ◌*◌, ◌≡◌};
-ghost use Rattle.checks.specs.declared.Checked.TheVariants.{Passed};
+ghost use Rattle.std.specs.Prelude.{Ok, ◌+◌, ◌*◌, ◌≡◌};
 ghost use Rattle.checks.specs.Refusals.{named_checked, line_checked};
 ghost use Rattle.steps.specs.Promises.{FillReady};
 ghost use Rattle.board.specs.Verdict.{due};
@@ -11,9 +10,9 @@ ghost use Rattle.picl.specs.Calls.{load_at};
 ghost use Rattle.picl.specs.Promises.{Answers, Calls, Found};
 ghost use Rattle.slots.specs.Sets.{spot_of};
 
-use crate::{Answer, finish_slot, refusal};
+use crate::{Answer, finish_slot, refused};
 use board::Meter;
-use checks::{Checked, Registers, View};
+use checks::{Registers, View};
 use layout::SLOT_WORDS;
 use slots::Spot;
 use undo::LogState;
@@ -48,7 +47,7 @@ fn load_passed(
     spot: Spot,
     allowance: u32,
 ) -> Answer
-    requires view_value { Passed view ≡ line_checked board.old work.old registers address }
+    requires view_value { Ok view ≡ line_checked board.old work.old registers address }
     requires spot_value { spot ≡ spot_of work.old view.slots address }
     ensures { Calls (call.load address) allowance registers board.old work.old board.new work.new result }
 {
@@ -65,7 +64,7 @@ fn load_named(
     view: View,
     allowance: u32,
 ) -> Answer
-    requires { Passed view ≡ named_checked board.old work.old registers address }
+    requires { Ok view ≡ named_checked board.old work.old registers address }
     ensures { Calls (call.load address) allowance registers board.old work.old board.new work.new result }
 {
     let least = view.least_tag();
@@ -73,8 +72,8 @@ fn load_named(
     let site = slots::site_for(work, view.slots, view.shape.lines, least, tags, address);
     let checked = checks::check_site(view, work, registers, site);
     match checked {
-        Checked::Refused(status, value) => refusal(status, value, registers),
-        Checked::Passed(_) => load_passed(
+        Err(refusal) => refused(refusal, registers),
+        Ok(_) => load_passed(
             board,
             work,
             registers,
@@ -98,7 +97,7 @@ pub fn load(
 {
     let named = checks::check_named(board, work, registers, address);
     match named {
-        Checked::Refused(status, value) => refusal(status, value, registers),
-        Checked::Passed(view) => load_named(board, work, registers, address, view, allowance),
+        Err(refusal) => refused(refusal, registers),
+        Ok(view) => load_named(board, work, registers, address, view, allowance),
     }
 }

@@ -4,7 +4,7 @@ ghost use Rattle.picl.specs.Calls.{tally_report, filter_bits_report};
 ghost use Rattle.picl.specs.Promises.{Formats};
 
 use crate::Report;
-use checks::{Checked, Registers};
+use checks::Registers;
 use layout::{BOARD_VERSION, SHAPE_AT, Shape};
 use status::Status;
 
@@ -42,7 +42,7 @@ pub fn tally(board: &[u64], work: &[u64], registers: Registers) -> Report
 {
     let running = checks::check_running(board, work, registers);
     match running {
-        Checked::Refused(status, value) => Report::unstored(status, value),
-        Checked::Passed(_) => Report::unstored(Status::Ok, registers.dirty),
+        Err(refusal) => Report::from(refusal),
+        Ok(_) => Report::unstored(Status::Ok, registers.dirty),
     }
 }

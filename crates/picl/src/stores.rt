@@ -1,6 +1,5 @@
 // Store. Its functions are named as those of load are; buffered: all tests but 8 have passed.
-ghost use Rattle.std.specs.Prelude.{◌≡◌};
-ghost use Rattle.checks.specs.declared.Checked.TheVariants.{Passed};
+ghost use Rattle.std.specs.Prelude.{Ok, ◌≡◌};
 ghost use Rattle.checks.specs.Refusals.{named_checked, line_checked};
 ghost use Rattle.steps.specs.Promises.{StoreReady};
 ghost use Rattle.board.specs.Verdict.{due};
@@ -9,9 +8,9 @@ ghost use Rattle.picl.specs.Calls.{store_at, store_outcome};
 ghost use Rattle.picl.specs.Promises.{Answers, Calls, StorePassed, Found};
 ghost use Rattle.slots.specs.Sets.{spot_of};
 
-use crate::{Answer, finish_slot, refusal};
+use crate::{Answer, finish_slot, refused};
 use board::Meter;
-use checks::{Checked, Registers, View};
+use checks::{Registers, View};
 use slots::Spot;
 use undo::LogState;
 
@@ -76,14 +75,14 @@ fn store_buffered(
     spot: Spot,
     allowance: u32,
 ) -> Answer
-    requires view_value { Passed view ≡ line_checked board.old work.old registers address }
+    requires view_value { Ok view ≡ line_checked board.old work.old registers address }
     requires spot_value { spot ≡ spot_of work.old view.slots address }
     ensures { Calls (call.store address value) allowance registers board.old work.old board.new work.new result }
 {
     let checked = checks::check_room(view, work, registers, spot);
     match checked {
-        Checked::Refused(status, refused_with) => refusal(status, refused_with, registers),
-        Checked::Passed(_) => store_passed(
+        Err(refusal) => refused(refusal, registers),
+        Ok(_) => store_passed(
             board, work, registers, address, value, view, spot, allowance,
         ),
     }
@@ -98,7 +97,7 @@ fn store_named(
     view: View,
     allowance: u32,
 ) -> Answer
-    requires { Passed view ≡ named_checked board.old work.old registers address }
+    requires { Ok view ≡ named_checked board.old work.old registers address }
     ensures { Calls (call.store address value) allowance registers board.old work.old board.new work.new result }
 {
     let least = view.least_tag();
@@ -106,8 +105,8 @@ fn store_named(
     let site = slots::site_for(work, view.slots, view.shape.lines, least, tags, address);
     let checked = checks::check_site(view, work, registers, site);
     match checked {
-        Checked::Refused(status, refused_with) => refusal(status, refused_with, registers),
-        Checked::Passed(_) => store_buffered(
+        Err(refusal) => refused(refusal, registers),
+        Ok(_) => store_buffered(
             board,
             work,
             registers,
@@ -133,9 +132,7 @@ pub fn store(
 {
     let named = checks::check_named(board, work, registers, address);
     match named {
-        Checked::Refused(status, refused_with) => refusal(status, refused_with, registers),
-        Checked::Passed(view) => store_named(
-            board, work, registers, address, value, view, allowance,
-        ),
+        Err(refusal) => refused(refusal, registers),
+        Ok(view) => store_named(board, work, registers, address, value, view, allowance),
     }
 }

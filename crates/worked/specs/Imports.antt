@@ -1,6 +1,6 @@
 -- Request 10/13, row by row: which texts are taken, what each leaves, and the refusals in their order. Sums are worked as for 7/13, `rising` and
 -- `falling` being 7F8 together. Where a row is about something else the sum is right, so that it is no second reason for 19.
-use Rattle.std.specs.Prelude.{ℕ, ◌+◌, ◌-◌, ◌^◌, ◌≡◌, refl, true, false, List, [], ◌∷◌, ◌++◌, length, take}
+use Rattle.std.specs.Prelude.{Ok, ℕ, ◌+◌, ◌-◌, ◌^◌, ◌≡◌, refl, true, false, List, [], ◌∷◌, ◌++◌, length, take}
 use Prim.Native.String as text
 use Rattle.base.specs.Listed.{listed}
 use Rattle.board.specs.Stores.{Store, applied, one}
@@ -13,7 +13,6 @@ use Rattle.layout.specs.Words.{encode_control, encode_shape}
 use Rattle.status.specs.declared.Status.{Status}
 use Rattle.status.specs.declared.Status.TheVariants as status
 use Rattle.status.specs.Names.{bytes}
-use Rattle.checks.specs.declared.Checked.TheVariants.{Passed}
 use Rattle.checks.specs.View.{view_of, good_sizes, good_control, good_shape}
 use Rattle.checks.specs.Refusals.{board_checked}
 use Rattle.picl.specs.Calls.{report}
@@ -79,12 +78,12 @@ Outside r = Refuses three first_reader (told r) status.Outside
 -- on any board of so many lines that rests, with room for one log entry: the record is refused by 20, or one line is stored
 abbrev OutsideOf : (lines upper : ℕ) → text.String → Type 0
 OutsideOf lines upper r =
-    (board : List ℕ) → board_checked board ≡ Passed (record { control = control 9 0 0; shape = shape_for lines 1; slots = 0 })
+    (board : List ℕ) → board_checked board ≡ Ok (record { control = control 9 0 0; shape = shape_for lines 1; slots = 0 })
     → import_report board (in_bank upper) (told r) ≡ report status.Outside 0
 
 abbrev StoresOf : (lines upper : ℕ) → text.String → (stores : List Store) → Type 0
 StoresOf lines upper r stores =
-    (board : List ℕ) → board_checked board ≡ Passed (record { control = control 9 0 0; shape = shape_for lines 1; slots = 0 })
+    (board : List ℕ) → board_checked board ≡ Ok (record { control = control 9 0 0; shape = shape_for lines 1; slots = 0 })
     → import_stores board (in_bank upper) (told r) ≡ stores
 
 pub record FromHex : Type 0 where

@@ -5,7 +5,7 @@ pub returns-then-is_buffer_sound : goal.returns-then-is_buffer_sound
 returns-then-is_buffer_sound c = search (buffer_passed)
 
 pub returns-then-is_buffer_proper : goal.returns-then-is_buffer_proper
-returns-then-is_buffer_proper c = search (buffer_unmarked)
+returns-then-is_buffer_proper c = rw c.from.ensures (search (buffer_unmarked))
 
 pub returns : goal.returns
-returns c = search (buffer_refused)
+returns c = rw c.from-2.ensures (search (buffer_refused))

@@ -1,12 +1,12 @@
 use Rattle.checks.specs.Laws.{then_refused}
-use Rattle.checks.specs.Stages.{told_refused, told_passed, staged}
+use Rattle.checks.specs.Stages.{handed, staged}
 use Rattle.checks.specs.Refusals.{named_checked}
 use Rattle.checks.proofs.refusals.check_named.Goals as goal
 
-pub returns-in-Refused : goal.returns-in-Refused
+pub returns-in_err-view : goal.returns-in_err-view
 unfolding named_checked
-returns-in-Refused c = search (then_refused, told_refused)
+returns-in_err-view c = handed _ _ _ c.from_residual.ensures.1 (then_refused _ _ _ c.in_err-view.ensures)
 
-pub returns-in-Passed : goal.returns-in-Passed
+pub returns : goal.returns
 unfolding named_checked
-returns-in-Passed c = search (staged, told_passed)
+returns c = search (staged, c.in_ok-view.ensures)

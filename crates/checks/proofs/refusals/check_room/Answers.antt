@@ -5,7 +5,7 @@ pub returns-then-not-is_undo_due : goal.returns-then-not-is_undo_due
 returns-then-not-is_undo_due c = search (room_spared)
 
 pub returns-then-view-registers : goal.returns-then-view-registers
-returns-then-view-registers c = search (room_refused)
+returns-then-view-registers c = rw c.from.ensures (search (room_refused))
 
 pub returns : goal.returns
 returns c = search (room_found)

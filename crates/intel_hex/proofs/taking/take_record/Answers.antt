@@ -8,5 +8,5 @@ take_shaped-requires c = record {
   opened = search (board_open);
 }
 
-pub returns-in-Refused : goal.returns-in-Refused
-returns-in-Refused c = search (board_out)
+pub returns-in-Err : goal.returns-in-Err
+returns-in-Err c = search (board_out)

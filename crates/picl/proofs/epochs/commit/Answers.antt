@@ -5,8 +5,8 @@ use Rattle.picl.proofs.epochs.commit.Goals as goal
 pub commit_passed-requires : goal.commit_passed-requires
 commit_passed-requires c = search (commit_within)
 
-pub returns-in-Refused : goal.returns-in-Refused
-returns-in-Refused c = search (judged_refused, told_refused)
+pub returns-in-Err : goal.returns-in-Err
+returns-in-Err c = search (judged_refused, told_refused)
 
-pub returns-in-Passed : goal.returns-in-Passed
-returns-in-Passed c = search (commit_answered)
+pub returns-in-Ok : goal.returns-in-Ok
+returns-in-Ok c = search (commit_answered)

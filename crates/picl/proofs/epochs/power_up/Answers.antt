@@ -7,9 +7,9 @@ use Rattle.picl.proofs.epochs.power_up.Goals as goal
 pub power_up_passed-requires : goal.power_up_passed-requires
 power_up_passed-requires c = search (told_passed)
 
-pub returns-in-Refused : goal.returns-in-Refused
-returns-in-Refused c = search (power_up_refused)
+pub returns-in-Err : goal.returns-in-Err
+returns-in-Err c = search (power_up_refused)
 
-pub returns-in-Passed : goal.returns-in-Passed
+pub returns-in-Ok : goal.returns-in-Ok
 unfolding power_up_verdict
-returns-in-Passed c = search (judged_passed, told_passed)
+returns-in-Ok c = search (judged_passed, told_passed)

@@ -7,6 +7,6 @@ use Rattle.picl.proofs.epochs.scan.Goals as goal
 pub scan_running-requires : goal.scan_running-requires
 scan_running-requires c = search (told_passed)
 
-pub returns-in-Refused : goal.returns-in-Refused
+pub returns-in-Err : goal.returns-in-Err
 unfolding scan_checked
-returns-in-Refused c = search (judged_refused, then_refused, told_refused)
+returns-in-Err c = search (judged_refused, then_refused, told_refused)

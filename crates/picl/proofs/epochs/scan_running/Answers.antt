@@ -10,10 +10,10 @@ pub scan_passed-requires : goal.scan_passed-requires
 unfolding scan_checked
 scan_passed-requires c = search (scan_told, staged_passed)
 
-pub returns-in-Refused : goal.returns-in-Refused
+pub returns-in-Err : goal.returns-in-Err
 unfolding scan_checked
-returns-in-Refused c = search (judged_refused, told_refused, staged)
+returns-in-Err c = search (judged_refused, told_refused, staged)
 
-pub returns-in-Passed : goal.returns-in-Passed
+pub returns-in-Ok : goal.returns-in-Ok
 unfolding scan_checked
-returns-in-Passed c = search (judged_passed, staged_passed)
+returns-in-Ok c = search (judged_passed, staged_passed)

@@ -7,6 +7,6 @@ use Rattle.picl.proofs.loads.load.Goals as goal
 pub load_named-requires : goal.load_named-requires
 load_named-requires c = search (told_passed)
 
-pub returns-in-Refused : goal.returns-in-Refused
+pub returns-in-Err : goal.returns-in-Err
 unfolding line_checked
-returns-in-Refused c = search (judged_refused, then_refused, told_refused)
+returns-in-Err c = search (judged_refused, then_refused, told_refused)

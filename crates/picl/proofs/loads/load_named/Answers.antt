@@ -23,5 +23,5 @@ load_passed-requires c = record {
   spot_value = search (line_spot _ _ _ _ _ c.requires _ _ c.least_tag-least.ensures c.tags-tags.ensures _ c.site_for-site.ensures);
 }
 
-pub returns-in-Refused : goal.returns-in-Refused
-returns-in-Refused c = search (judged_refused, told_refused, line_staged)
+pub returns-in-Err : goal.returns-in-Err
+returns-in-Err c = search (judged_refused, told_refused, line_staged)

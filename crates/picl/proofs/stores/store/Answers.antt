@@ -7,6 +7,6 @@ use Rattle.picl.proofs.stores.store.Goals as goal
 pub store_named-requires : goal.store_named-requires
 store_named-requires c = search (told_passed)
 
-pub returns-in-Refused : goal.returns-in-Refused
+pub returns-in-Err : goal.returns-in-Err
 unfolding store_checked line_checked
-returns-in-Refused c = search (judged_refused, then_refused, told_refused)
+returns-in-Err c = search (judged_refused, then_refused, told_refused)

@@ -11,8 +11,8 @@ check_room-checked-requires c = record {
 pub store_passed-requires : goal.store_passed-requires
 store_passed-requires c = search (store_told, room_passed)
 
-pub returns-in-Refused : goal.returns-in-Refused
-returns-in-Refused c = search (judged_refused, told_refused, room_staged)
+pub returns-in-Err : goal.returns-in-Err
+returns-in-Err c = search (judged_refused, told_refused, room_staged)
 
-pub returns-in-Passed : goal.returns-in-Passed
-returns-in-Passed c = search (judged_passed, room_passed)
+pub returns-in-Ok : goal.returns-in-Ok
+returns-in-Ok c = search (judged_passed, room_passed)

@@ -25,6 +25,6 @@ store_buffered-requires c = record {
   spot_value = search (line_spot _ _ _ _ _ c.requires _ _ c.least_tag-least.ensures c.tags-tags.ensures _ c.site_for-site.ensures);
 }
 
-pub returns-in-Refused : goal.returns-in-Refused
+pub returns-in-Err : goal.returns-in-Err
 unfolding store_checked
-returns-in-Refused c = search (judged_refused, then_refused, told_refused, line_staged)
+returns-in-Err c = search (judged_refused, then_refused, told_refused, line_staged)
