@@ -27,7 +27,7 @@ pub enum Refusal {
     Outside = 20,
 }
 
-// What became of a call: "0 ok", a refusal, or "12 cut".
+// What became of a call: it went through, it was refused, or "12 cut".
 #[derive(Clone, Copy, PartialEq, Eq)]
 pub enum Status {
     Ok,

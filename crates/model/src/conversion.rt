@@ -34,9 +34,10 @@ fn undo_log(old: &[u64], board: &mut [u64]) {
     }
 }
 
-// Row 1: that of the old board, and "L above 4,095 and a second memory of another size are shape"; then "refusal 3 is
-// as at power-up until now". "The old board is never touched, nor the second memory by a refusal." "It takes no
-// allowance and reports 0 stores." It has no registers: those of its answer are zero.
+// Row 1 of the old board: "fewer than 2 board words; 24 bits not zero; N or L out of range; wrong word count;
+// P = 2^24 - 1; start >= L; length > L"; and "L above 4,095 and a second memory of another size are shape". Then
+// "refusal 3 is as at power-up until now". "The old board is never touched, nor the second memory by a refusal." "It
+// takes no allowance and reports 0 stores." It has no registers: those of its answer are zero.
 pub fn convert(old: &[u64], board: &mut [u64]) -> Answer {
     let header = header_of::<Old>(old);
     if !board_good::<Old>(old) || !size_good::<Today>(board, header.lines, header.entries) {

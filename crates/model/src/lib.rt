@@ -48,7 +48,7 @@ pub fn format(board: &mut [u64], lines: u64, entries: u64) -> Answer {
 // the target is 0. Its rows are 1, 2, 3, "value is i of the first", and 12. Of the registers "Power-up
 // takes none and returns them"; refused, it returns them "all zero".
 pub fn power_up(board: &mut [u64], work: &mut [u64], allowance: u32) -> Answer {
-    if let Err(refusal) = memories_pass(board, work) {
+    if let Err(refusal) = test_memories(board, work) {
         return Answer::refused(refusal, Registers::default());
     }
     if let Some(i) = first_improper::<Today>(board) {
@@ -72,7 +72,7 @@ pub fn load(
     address: u64,
     allowance: u32,
 ) -> Answer {
-    if let Err(refusal) = State::of(board, work, registers).may_load(address) {
+    if let Err(refusal) = State::of(board, work, registers).test_line(address) {
         return Answer::refused(refusal, registers);
     }
     let k = slot_for(work, address);
@@ -91,7 +91,7 @@ pub fn store(
     value: u64,
     allowance: u32,
 ) -> Answer {
-    if let Err(refusal) = State::of(board, work, registers).may_store(address) {
+    if let Err(refusal) = State::of(board, work, registers).test_store(address) {
         return Answer::refused(refusal, registers);
     }
     let mut run = Run::started(board, work, registers, allowance);
@@ -107,7 +107,7 @@ pub fn evict(
     address: u64,
     allowance: u32,
 ) -> Answer {
-    if let Err(refusal) = State::of(board, work, registers).may_load(address) {
+    if let Err(refusal) = State::of(board, work, registers).test_line(address) {
         return Answer::refused(refusal, registers);
     }
     let k = slot_for(work, address);
@@ -126,7 +126,7 @@ pub fn commit(
     registers: Registers,
     _allowance: u32,
 ) -> Answer {
-    if let Err(refusal) = State::of(board, work, registers).may_commit() {
+    if let Err(refusal) = State::of(board, work, registers).test_commit() {
         return Answer::refused(refusal, registers);
     }
     let epoch = registers.epoch.wrapping_add(1);
@@ -136,7 +136,7 @@ pub fn commit(
 // "A begin call takes a target from P + 1 to s - 1; it visits no slot": "The registers gain the
 // target". "like every later call without board stores, it takes no allowance and reports 0".
 pub fn begin(board: &[u64], work: &[u64], registers: Registers, target: u64) -> Answer {
-    if let Err(refusal) = State::of(board, work, registers).may_begin(target) {
+    if let Err(refusal) = State::of(board, work, registers).test_begin(target) {
         return Answer::refused(refusal, registers);
     }
     Answer::ok(
@@ -150,7 +150,7 @@ pub fn begin(board: &[u64], work: &[u64], registers: Registers, target: u64) -> 
 
 // Scan: its tests, then what `Run::scan` says.
 pub fn scan(board: &mut [u64], work: &mut [u64], registers: Registers, allowance: u32) -> Answer {
-    if let Err(refusal) = State::of(board, work, registers).may_scan() {
+    if let Err(refusal) = State::of(board, work, registers).test_scan() {
         return Answer::refused(refusal, registers);
     }
     let mut run = Run::started(board, work, registers, allowance);
@@ -170,7 +170,7 @@ pub fn dirty_count(work: &[u64]) -> u64 {
 
 // Tally: "The tally is then read from the registers". It returns none: those of its answer are zero.
 pub fn tally(board: &[u64], work: &[u64], registers: Registers) -> Answer {
-    match State::of(board, work, registers).passes() {
+    match State::of(board, work, registers).test_state() {
         Ok(()) => Answer::ok(registers.dirty, Registers::default()),
         Err(refusal) => Answer::refused(refusal, Registers::default()),
     }

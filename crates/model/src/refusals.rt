@@ -38,7 +38,7 @@ pub fn board_good<L: Layout>(board: &[u64]) -> bool {
 }
 
 // Rows 1 and 2.
-pub fn memories_pass(board: &[u64], work: &[u64]) -> Result<(), Refusal> {
+pub fn test_memories(board: &[u64], work: &[u64]) -> Result<(), Refusal> {
     if !board_good::<Today>(board) {
         return Err(Refusal::Shape);
     }
@@ -48,9 +48,9 @@ pub fn memories_pass(board: &[u64], work: &[u64]) -> Result<(), Refusal> {
     Ok(())
 }
 
-// Whether entry i of the log is proper: "A proper log entry has .., P < ValidTill, and a ValidTill not
-// below that of the next older entry", which is 0 for the oldest. "A log entry is now proper only if
-// ValidTill <= P + 16 as well."
+// Whether entry i of the log is proper: "A proper log entry has address < N, ValidFrom < ValidTill, P < ValidTill,
+// and a ValidTill not below that of the next older entry", which is 0 for the oldest. "A log entry is now proper only
+// if ValidTill <= P + 16 as well."
 fn log_entry_proper<L: Layout>(board: &[u64], header: Header, i: u64) -> bool {
     let entry = logged::<L>(board, header, i);
     let older_till = if i == 0 {
@@ -121,8 +121,8 @@ impl<'a> State<'a> {
     }
 
     // Rows 1, 2 and 4. "Tally now refuses as commit does up to 4": these are all that it refuses by.
-    pub fn passes(self) -> Result<(), Refusal> {
-        memories_pass(self.board, self.work)?;
+    pub fn test_state(self) -> Result<(), Refusal> {
+        test_memories(self.board, self.work)?;
         if !self.registers_proper() {
             return Err(Refusal::Registers);
         }
@@ -136,7 +136,7 @@ impl<'a> State<'a> {
 
     // "7 buffer: a buffered entry is not proper", which asks for "ValidTill <= s" too; then 14, "tested
     // right after 7 wherever 7 is": so 7 of any entry comes before 14 of any.
-    fn buffer_passes(self) -> Result<(), Refusal> {
+    fn test_buffer(self) -> Result<(), Refusal> {
         let header = self.header();
         let Registers {
             epoch,
@@ -195,7 +195,7 @@ impl<'a> State<'a> {
 
     // "Load, store and evict now test the whole set by 6": that of an address. Right after it "5/13's count test
     // refuses 0 if any slot of it is dirty, S if any is not".
-    fn set_passes(self, address: u64) -> Result<(), Refusal> {
+    fn test_set(self, address: u64) -> Result<(), Refusal> {
         if !set_of(self.work, address).all(|k| self.way_proper(k)) {
             return Err(Refusal::Slot);
         }
@@ -206,18 +206,18 @@ impl<'a> State<'a> {
     }
 
     // Load and evict: rows 1, 2 and 4, "5 address: a >= N", 6, the count's test "Right after 6", 7 and 14.
-    pub fn may_load(self, address: u64) -> Result<(), Refusal> {
-        self.passes()?;
+    pub fn test_line(self, address: u64) -> Result<(), Refusal> {
+        self.test_state()?;
         if address >= self.header().lines {
             return Err(Refusal::Address);
         }
-        self.set_passes(address)?;
-        self.buffer_passes()
+        self.test_set(address)?;
+        self.test_buffer()
     }
 
     // Store: the rows of load, then "8 room: an undo entry is due and length + b + 1 > L".
-    pub fn may_store(self, address: u64) -> Result<(), Refusal> {
-        self.may_load(address)?;
+    pub fn test_store(self, address: u64) -> Result<(), Refusal> {
+        self.test_line(address)?;
         let header = self.header();
         let longer = header
             .length
@@ -230,15 +230,15 @@ impl<'a> State<'a> {
     }
 
     // Rows 1, 2, 4, 7 and 14 of commit, which are begin's too: "after commit's 1, 2, 4, 7 and 14".
-    fn epoch_passes(self) -> Result<(), Refusal> {
-        self.passes()?;
-        self.buffer_passes()
+    fn test_epochs(self) -> Result<(), Refusal> {
+        self.test_state()?;
+        self.test_buffer()
     }
 
     // Commit: rows 1, 2, 4, 7 and 14; then "9 waiting: s - P = 16"; "10 last: s = 2^24 - 1", now
     // 2^40 - 1.
-    pub fn may_commit(self) -> Result<(), Refusal> {
-        self.epoch_passes()?;
+    pub fn test_commit(self) -> Result<(), Refusal> {
+        self.test_epochs()?;
         let epoch = self.registers.epoch;
         if epoch.wrapping_sub(self.header().persisted) == MOST_AHEAD {
             return Err(Refusal::Waiting);
@@ -251,8 +251,8 @@ impl<'a> State<'a> {
 
     // Begin: rows 1, 2, 4, 7 and 14; then "15 target, a begin call inside a pass or with a target out of
     // range": "A begin call takes a target from P + 1 to s - 1".
-    pub fn may_begin(self, target: u64) -> Result<(), Refusal> {
-        self.epoch_passes()?;
+    pub fn test_begin(self, target: u64) -> Result<(), Refusal> {
+        self.test_epochs()?;
         let in_range = self.header().persisted < target && target < self.registers.epoch;
         if self.registers.target != 0 || !in_range {
             return Err(Refusal::Target);
@@ -263,8 +263,8 @@ impl<'a> State<'a> {
     // Scan: rows 1, 2 and 4; "6 slot: the slot visited is not proper: .. slot c if c < S", and the
     // count's test "Right after 6": "The scan keeps visiting and testing single slots"; 7 and 14; then "11
     // none: s = P + 1".
-    pub fn may_scan(self) -> Result<(), Refusal> {
-        self.passes()?;
+    pub fn test_scan(self) -> Result<(), Refusal> {
+        self.test_state()?;
         let visited = self.registers.cursor;
         if visited < slot_count(self.work) {
             if !self.slot_proper(visited) {
@@ -274,7 +274,7 @@ impl<'a> State<'a> {
                 return Err(Refusal::Registers);
             }
         }
-        self.buffer_passes()?;
+        self.test_buffer()?;
         if self.registers.epoch == self.header().persisted.wrapping_add(1) {
             return Err(Refusal::None);
         }
