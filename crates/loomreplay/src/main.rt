@@ -2,139 +2,108 @@
 // and so may its lines: input and output go through buffers of a fixed size.
 #![tactic(auto)]
 
-ghost use Rattle.std.specs.Prelude.{◌≡◌, ◌<◌, ◌≤◌, length, IfOk, OnErr};
-ghost use Rattle.benchboard.specs.Sizes.{bench_board, bench_work};
-ghost use Rattle.loomreplay.specs.Pieces.{Pieced, Left};
-ghost use Rattle.transcript.specs.Printing.{longest};
-ghost use Rattle.transcript.specs.Session.{Ready, emptied_session};
+ghost use Rattle.std.specs.Prelude.{◌<◌, ◌≤◌, length, IfOk};
 
 use benchboard::{BOARD_WORDS, WORK_WORDS};
 use std::io;
 use std::io::Read;
-use transcript::{Fed, Session};
+use std::marker::Model;
+use transcript::Session;
 
 // A read goes through a buffer of so many bytes, and so does what is printed.
 const BUFFER_BYTES: usize = 65536;
 
-// Writes out what has been printed.
-fn write_out(rt: &impl Print, session: Session, out: &[u8]) -> io::Result<Session>
-    requires { session.used ≤ length out.now }
-    ensures { IfOk result (λ after. after ≡ emptied_session session) }
-{
-    let used = session.used;
-    rt.write_all(&out[0..used])?;
-    Ok(session.emptied())
+// A replay, its memories, and what it prints. In contracts: whether it is over.
+#[derive(Drop)]
+struct Replay {
+    session: Session,
+    board: [u64; BOARD_WORDS],
+    work: [u64; WORK_WORDS],
+    out: [u8; BUFFER_BYTES],
 }
 
-// As much of the input as there is room for, which is some of it. Where what is printed can't be written, that is lost, and
-// the memories are left as the replay has them behind the piece: so it is in all that follows.
-fn replay_piece(
-    rt: &impl Print,
-    session: Session,
-    input: &[u8],
-    board: &mut [u64],
-    work: &mut [u64],
-    out: &mut [u8],
-) -> io::Result<Fed>
-    requires ready { Ready session board.old work.old out.old }
-    requires input_nonzero { 0 < length input.now }
-    ensures pieced { IfOk result (λ fed. Pieced input.now board.new work.new out.new fed) }
-    ensures left { OnErr result (Left board.new work.new out.new) }
-{
-    let fed = transcript::feed_bytes(session, input, board, work, out);
-    let after = fed.session;
-    Ok(Fed {
-        session: write_out(rt, after, out)?,
-        taken: fed.taken,
-    })
+impl Model for Replay {
+    ghost use Rattle.std.specs.Prelude.{Bool};
+    ghost use Rattle.transcript.specs.Session.{Ready};
+
+    ghost Value = { Bool };
+
+    ghost view = { λ r. r.session.over };
+
+    // All that was printed has been written out.
+    ghost invariant = { λ r. Ready r.session r.board r.work r.out };
 }
 
-fn replay_bytes(
-    rt: &impl Print,
-    session: Session,
-    input: &[u8],
-    board: &mut [u64],
-    work: &mut [u64],
-    out: &mut [u8],
-) -> io::Result<Session>
-    requires { Ready session board.old work.old out.old }
-    ensures ready { IfOk result (λ after. Ready after board.new work.new out.new) }
-    ensures left { OnErr result (Left board.new work.new out.new) }
-{
-    let mut s = session;
-    let mut at = 0;
-    while at < input.len() {
-        let fed = replay_piece(rt, s, &input[at..], board, work, out)?;
-        s = fed.session;
-        at += fed.taken;
+impl Replay {
+    fn new() -> Replay {
+        Replay {
+            session: Session::new(),
+            board: [0; BOARD_WORDS],
+            work: [0; WORK_WORDS],
+            out: [0; BUFFER_BYTES],
+        }
     }
-    Ok(s)
-}
 
-fn replay_end(
-    rt: &impl Print,
-    session: Session,
-    board: &mut [u64],
-    work: &mut [u64],
-    out: &mut [u8],
-) -> io::Result<Session>
-    requires { Ready session board.old work.old out.old }
-    ensures ready { IfOk result (λ after. Ready after board.new work.new out.new) }
-    ensures left { OnErr result (Left board.new work.new out.new) }
-{
-    let finished = transcript::finish(session, board, work, out);
-    write_out(rt, finished, out)
-}
-
-// Reads once. Where nothing comes, or the read fails, the script is at its end.
-fn replay_some(
-    rt: &impl Print,
-    source: &mut impl Read,
-    session: Session,
-    board: &mut [u64],
-    work: &mut [u64],
-    out: &mut [u8],
-) -> io::Result<Session>
-    requires { Ready session board.old work.old out.old }
-    ensures ready { IfOk result (λ after. Ready after board.new work.new out.new) }
-    ensures left { OnErr result (Left board.new work.new out.new) }
-{
-    let mut input = [0u8; BUFFER_BYTES];
-    let count = source.read(&mut input).unwrap_or(0);
-    if count == 0 {
-        return replay_end(rt, session, board, work, out);
+    // Replays as much of the input as there is room for, which is some of it, and answers how many bytes. Where what is
+    // printed can't be written, that is lost.
+    fn feed(&mut self, rt: &impl Print, input: &[u8]) -> io::Result<usize>
+        requires { 0 < length input.now }
+        ensures some { IfOk result (λ taken. 0 < taken) }
+        ensures most { IfOk result (λ taken. taken ≤ length input.now) }
+    {
+        let fed = transcript::feed_bytes(
+            self.session,
+            input,
+            &mut self.board,
+            &mut self.work,
+            &mut self.out,
+        );
+        let after = fed.session;
+        self.session = after.emptied();
+        rt.write_all(&self.out[..after.used])?;
+        Ok(fed.taken)
     }
-    replay_bytes(rt, session, &input[..count], board, work, out)
+
+    fn feed_all(&mut self, rt: &impl Print, input: &[u8]) -> io::Result<()> {
+        let mut rest = input;
+        while !rest.is_empty() {
+            let taken = self.feed(rt, rest)?;
+            rest = &rest[taken..];
+        }
+        Ok(())
+    }
+
+    fn finish(&mut self, rt: &impl Print) -> io::Result<()> {
+        let after = transcript::finish(
+            self.session,
+            &mut self.board,
+            &mut self.work,
+            &mut self.out,
+        );
+        self.session = after.emptied();
+        rt.write_all(&self.out[..after.used])
+    }
+
+    // Reads once. Where nothing comes, or the read fails, the script is at its end.
+    fn read(&mut self, rt: &impl Print, source: &mut impl Read) -> io::Result<()> {
+        let mut input = [0u8; BUFFER_BYTES];
+        match source.read(&mut input) {
+            Ok(0) => self.finish(rt),
+            Ok(count) => self.feed_all(rt, &input[..count]),
+            Err(_) => self.finish(rt),
+        }
+    }
 }
 
-// A proved loop has to end, and nothing says that a script does. So the loop counts its turns down from a number that no run uses up.
-fn replay_all(
-    rt: &impl Print,
-    source: &mut impl Read,
-    board: &mut [u64],
-    work: &mut [u64],
-    out: &mut [u8],
-) -> io::Result<()>
-    requires bench_board_in_bounds { bench_board ≤ length board.old }
-    requires bench_work_in_bounds { bench_work ≤ length work.old }
-    requires longest_in_bounds { longest ≤ length out.old }
-{
-    let mut session = Session::new();
-    let mut turns = u64::MAX;
-    while turns > 0 {
-        if session.over {
+// A proved loop has to end, and nothing says that a script does: no run uses up so many turns.
+fn main(rt: HostRuntime) -> io::Result<()> {
+    let mut replay = Replay::new();
+    let mut source = rt.stdin();
+    for _ in 0..u64::MAX {
+        if replay.session.over {
             break;
         }
-        session = replay_some(rt, source, session, board, work, out)?;
-        turns -= 1;
+        replay.read(&rt, &mut source)?;
     }
     Ok(())
-}
-
-fn main(rt: HostRuntime) -> io::Result<()> {
-    let mut board = [0u64; BOARD_WORDS];
-    let mut work = [0u64; WORK_WORDS];
-    let mut out = [0u8; BUFFER_BYTES];
-    let mut source = rt.stdin();
-    replay_all(&rt, &mut source, &mut board, &mut work, &mut out)
 }

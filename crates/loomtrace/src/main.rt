@@ -3,8 +3,9 @@
 // of a fixed size.
 #![tactic(auto)]
 
-ghost use Rattle.std.specs.Prelude.{◌≤◌, length};
-ghost use Rattle.benchboard.specs.Sizes.{bench_board, bench_work, Sizes};
+ghost use Rattle.std.specs.Prelude.{◌≤◌, IfSome};
+ghost use Rattle.benchboard.specs.Sizes.{bench_board, bench_work};
+ghost use Rattle.layout.specs.Memory.{board_words, work_words};
 
 use benchboard::{BOARD_WORDS, WORK_WORDS};
 use checks::Registers;
@@ -12,6 +13,7 @@ use script::{Command, Reader};
 use status::Status;
 use std::env::FillError;
 use std::io::Read;
+use std::ops::ControlFlow;
 use std::rt::{Env, Files};
 use std::{fs, io, str};
 use trace::Run;
@@ -29,193 +31,118 @@ const TEXT_BYTES: usize = 4096;
 // A read of the file goes through a buffer of so many bytes.
 const FILE_BYTES: usize = 65536;
 
-// A run, and whether its file may have more for it.
-#[derive(Clone, Copy)]
-struct Progress {
+// Reads once. The run goes on where the file may have more for it.
+fn run_some(
     run: Run,
-    more: bool,
-}
-
-// Reads once.
-fn run_some(run: Run, file: &mut impl Read, board: &mut [u64], work: &mut [u64]) -> Progress {
+    file: &mut impl Read,
+    board: &mut [u64],
+    work: &mut [u64],
+) -> ControlFlow<Run, Run> {
     let mut input = [0u8; FILE_BYTES];
     match file.read(&mut input) {
-        Err(_) => Progress {
-            run: trace::fail(run, board, work),
-            more: false,
-        },
-        Ok(0) => Progress {
-            run: trace::finish(run, board, work),
-            more: false,
-        },
+        Err(_) => ControlFlow::Break(trace::fail(run, board, work)),
+        Ok(0) => ControlFlow::Break(trace::finish(run, board, work)),
         Ok(count) => run_bytes(run, &input[..count], board, work),
     }
 }
 
-fn run_bytes(run: Run, input: &[u8], board: &mut [u64], work: &mut [u64]) -> Progress {
+fn run_bytes(run: Run, input: &[u8], board: &mut [u64], work: &mut [u64]) -> ControlFlow<Run, Run> {
     let after = trace::feed_bytes(run, input, board, work);
-    let status = after.status;
-    Progress {
-        run: after,
-        more: status.is_ok(),
+    match after.status {
+        Status::Ok => ControlFlow::Continue(after),
+        _ => ControlFlow::Break(after),
     }
 }
 
-// A proved loop has to end, and nothing says that a file does. So the loop counts its turns down from a number that no run uses up.
+// A proved loop has to end, and nothing says that a file does: no run uses up so many turns.
 fn run_all(run: Run, file: &mut impl Read, board: &mut [u64], work: &mut [u64]) -> Run {
-    let mut now = run;
-    let mut turns = u64::MAX;
-    while turns > 0 {
-        let progress = run_some(now, file, board, work);
-        now = progress.run;
-        if !progress.more {
-            break;
+    let mut run = run;
+    for _ in 0..u64::MAX {
+        match run_some(run, file, board, work) {
+            ControlFlow::Continue(after) => run = after,
+            ControlFlow::Break(last) => return last,
         }
-        turns -= 1;
     }
-    now
+    run
 }
 
-// The file of a name, opened. A name that is no text names none.
-fn open<R: Files>(rt: &R, name: &[u8]) -> io::Result<R::File> {
-    match str::from_utf8(name) {
-        Ok(text) => fs::open(rt, text),
-        Err(_) => Err(io::Error::from(io::ErrorKind::InvalidInput)),
-    }
+// An argument, in a buffer. One that is missing or too long is empty.
+// It is read by its bytes: `env::args` fails for all arguments where one is no text, and here that one alone is no number, or no file's name.
+fn argument<'a>(rt: &impl Env, place: usize, buffer: &'a mut [u8]) -> &'a [u8] {
+    let length = rt.arg(place, buffer).unwrap_or(0);
+    &buffer[..length]
+}
+
+// The file, opened. A name that is no text names none.
+fn open_file<R: Env + Files>(rt: &R) -> Option<R::File> {
+    let mut buffer = [0u8; TEXT_BYTES];
+    let name = argument(rt, FILE, &mut buffer);
+    let name = str::from_utf8(name).ok()?;
+    fs::open(rt, name).ok()
 }
 
 fn run_file<R: Env + Files>(rt: &R, run: Run, board: &mut [u64], work: &mut [u64]) -> Run {
-    let mut name = [0u8; TEXT_BYTES];
-    let length = argument(rt, FILE, &mut name);
-    match open(rt, &name[..length]) {
-        Ok(file) => {
-            let mut file = file;
-            run_all(run, &mut file, board, work)
-        }
-        Err(_) => trace::fail(run, board, work),
+    match open_file(rt) {
+        Some(mut file) => run_all(run, &mut file, board, work),
+        None => trace::fail(run, board, work),
     }
-}
-
-// The board powers up before the file is opened.
-fn run_board<R: Env + Files>(
-    rt: &R,
-    board: &mut [u64],
-    work: &mut [u64],
-    lines: u64,
-    entries: u64,
-) -> Run {
-    let run = trace::start(board, work, lines, entries);
-    let status = run.status;
-    if !status.is_ok() {
-        return run;
-    }
-    run_file(rt, run, board, work)
-}
-
-fn too_large() -> Run {
-    Run::new(Status::Shape, Registers::all_zero())
-}
-
-fn run_sized<R: Env + Files>(
-    rt: &R,
-    board: &mut [u64],
-    work: &mut [u64],
-    lines: u64,
-    entries: u64,
-    slots: u64,
-) -> Run
-    requires { Sizes lines entries slots board.old work.old }
-{
-    let words = layout::board_words(lines, entries);
-    let work_words = layout::work_words(slots as usize);
-    run_board(
-        rt,
-        &mut board[0..words],
-        &mut work[0..work_words],
-        lines,
-        entries,
-    )
-}
-
-fn run_sizes<R: Env + Files>(
-    rt: &R,
-    board: &mut [u64],
-    work: &mut [u64],
-    lines: u64,
-    entries: u64,
-    slots: u64,
-) -> Run
-    requires bench_board_in_bounds { bench_board ≤ length board.old }
-    requires bench_work_in_bounds { bench_work ≤ length work.old }
-{
-    if !benchboard::is_bench_sized(lines, entries, slots) {
-        return too_large();
-    }
-    run_sized(rt, board, work, lines, entries, slots)
-}
-
-fn step_all(reader: Reader, text: &[u8]) -> Reader {
-    let mut now = reader;
-    for i in 0..text.len() {
-        now = now.step(text[i]);
-    }
-    now
-}
-
-// Puts an argument to the start of a buffer, and answers how many bytes it has. One that is missing or too long is empty.
-fn argument(rt: &impl Env, place: usize, text: &mut [u8]) -> usize
-    ensures { result ≤ length text.new }
-{
-    rt.arg(place, text).unwrap_or(0)
 }
 
 fn is_given(rt: &impl Env, place: usize) -> bool {
-    let mut text = [0u8; TEXT_BYTES];
-    match rt.arg(place, &mut text) {
-        Ok(_) => true,
-        Err(FillError::TooLong) => true,
-        Err(FillError::NotPresent) => false,
-    }
+    let mut buffer = [0u8; TEXT_BYTES];
+    !matches!(rt.arg(place, &mut buffer), Err(FillError::NotPresent))
 }
 
 // A space and an argument. One that is missing or too long is empty here, and so no number.
 fn step_argument(rt: &impl Env, reader: Reader, place: usize) -> Reader {
-    let mut text = [0u8; TEXT_BYTES];
-    let length = argument(rt, place, &mut text);
-    step_all(reader.step(b' '), &text[..length])
+    let mut buffer = [0u8; TEXT_BYTES];
+    let mut reader = reader.step(b' ');
+    for byte in argument(rt, place, &mut buffer) {
+        reader = reader.step(*byte);
+    }
+    reader
 }
 
-// The sizes are what the replay reads in its line `n N L S`: an argument that has a space is no number there either.
-fn sizes(rt: &impl Env) -> Command {
+// N, L and S are what the replay reads in its line `n N L S`: an argument that has a space is no number there either. None, where the
+// arguments are others, or these are not the sizes of a bench.
+fn sizes(rt: &impl Env) -> Option<(u64, u64, u64)>
+    ensures board { IfSome result (λ sizes. board_words sizes.0 sizes.1 ≤ bench_board) }
+    ensures work { IfSome result (λ sizes. work_words sizes.2 ≤ bench_work) }
+{
+    if !is_given(rt, FILE) || is_given(rt, WORDS) {
+        return None;
+    }
     let mut reader = Reader::new().step(b'n');
     for place in FIRST_SIZE..FILE {
         reader = step_argument(rt, reader, place);
     }
-    reader.command()
+    match reader.command() {
+        Command::Format(lines, entries, slots)
+            if benchboard::is_bench_sized(lines, entries, slots) => {
+            Some((lines, entries, slots))
+        }
+        _ => None,
+    }
 }
 
-fn run_arguments<R: Env + Files>(rt: &R, board: &mut [u64], work: &mut [u64]) -> Run
-    requires bench_board_in_bounds { bench_board ≤ length board.old }
-    requires bench_work_in_bounds { bench_work ≤ length work.old }
-{
-    if !is_given(rt, FILE) {
-        return too_large();
+// The run that the arguments ask for. The board powers up before the file is opened.
+fn run_arguments<R: Env + Files>(rt: &R) -> Option<Run> {
+    let (lines, entries, slots) = sizes(rt)?;
+    let mut board = [0u64; BOARD_WORDS];
+    let mut work = [0u64; WORK_WORDS];
+    let board = &mut board[..layout::board_words(lines, entries)];
+    let work = &mut work[..layout::work_words(slots as usize)];
+    let run = trace::start(board, work, lines, entries);
+    match run.status {
+        Status::Ok => Some(run_file(rt, run, board, work)),
+        _ => Some(run),
     }
-    if is_given(rt, WORDS) {
-        return too_large();
-    }
-    let given = sizes(rt);
-    if let Command::Format(lines, entries, slots) = given {
-        return run_sizes(rt, board, work, lines, entries, slots);
-    }
-    too_large()
 }
 
 fn main(rt: HostRuntime) -> io::Result<()> {
-    let mut board = [0u64; BOARD_WORDS];
-    let mut work = [0u64; WORK_WORDS];
+    let refused = Run::new(Status::Shape, Registers::all_zero());
+    let run = run_arguments(&rt).unwrap_or(refused);
     let mut out = [0u8; TEXT_BYTES];
-    let run = run_arguments(&rt, &mut board, &mut work);
     let length = trace::put_line(&mut out, run);
-    rt.write_all(&out[0..length])
+    rt.write_all(&out[..length])
 }
