@@ -57,7 +57,7 @@ pub fn slot_at(work: &[u64], k: usize) -> Slot
     requires { slot_at k + slot_words ≤ length work.now }
     ensures { Decoded SlotFits (slot_in work.now k) result }
 {
-    Slot::decode(work[SLOT_WORDS * k])
+    Slot::from(work[SLOT_WORDS * k])
 }
 
 // Whether the line in slot k is dirty.

@@ -1,6 +1,6 @@
 -- The filter's functions, one law for each way out.
 use Prim.Native.Nat.{ℕ, ◌+◌, ◌-◌, ◌*◌, ◌/◌, ◌%◌, ◌^◌, ◌<◌, ◌≤◌}
-use mathlib.Core.Path.{◌≡◌, refl, ap₂, ◌∙◌}
+use mathlib.Core.Path.{◌≡◌, refl, ap, ap₂, ◌∙◌}
 use mathlib.Core.Bool.{Bool, true, false, not, ◌&&◌, and-true, and-false}
 use mathlib.Core.List.{List}
 use mir.Syntax.{w64}
@@ -12,10 +12,12 @@ use borrow.Author.Tests.{not-true, not-false}
 use lib.Bits.{bit_and, bit_or}
 use lib.Count.{ones, ones-le}
 use lib.Dec.{ltb}
-use lib.ListN.{get_or, set}
+use lib.ListN.{length, get_or, set, take, drop, length-drop}
+use lib.Seq.{get_or-drop}
 use lib.Pow.{pow_pos}
 use Rattle.layout.specs.Limits.{word_bits}
-use Rattle.layout.specs.Memory.{filter_at, filter_words}
+use Rattle.base.specs.Parts.{rest_lent}
+use Rattle.layout.specs.Memory.{filter_at, filter_words, buffer_words}
 use Rattle.undo.specs.Promises.{FirstBit, SecondBit, starts_with_one, ReadsBit, CountsOnes}
 use Rattle.undo.specs.Digits.{both_start, shifted_start, shifted_first}
 use Rattle.undo.specs.Filter.{is_set, with_bit, marking, marks, hits, ones_of}
@@ -74,10 +76,24 @@ pub count_start : (buffer : List ℕ) → Counting buffer 0 0
 unfolding ones_of
 count_start buffer = record { within = omega arith; most = omega arith; is = refl }
 
-module _ (buffer : List ℕ) (count k : ℕ) (so_far : Counting buffer count k) where
-  pub count_next : (n : ℕ) → k < filter_words → CountsOnes (get_or buffer (filter_at + k) 0) n → Counting buffer (count + n) (k + 1)
-  unfolding ones_of
-  count_next n h c = record { within = omega arith; most = omega (arith, so_far.most, c.most); is = rw (add-one, ← so_far.is, ← c.is) }
+-- the filter's words as they are lent
+abbrev lent : List ℕ → List ℕ
+lent buffer = take (length buffer - filter_at) (drop filter_at buffer)
 
-  pub count_end : filter_words ≤ k → count ≡ ones_of buffer filter_words
-  count_end h = let e : k ≡ filter_words = omega (arith, so_far.within) in rw e at so_far.is
+module _ (buffer : List ℕ) (count k : ℕ) (so_far : Counting buffer count k) (words : length buffer ≡ buffer_words) where
+  lent_length : length (lent buffer) ≡ filter_words
+  lent_length = rw (rest_lent filter_at buffer, length-drop) (omega arith)
+
+  pub count_next : (n : ℕ) → k < length (lent buffer) → CountsOnes (get_or (lent buffer) k 0) n → Counting buffer (count + n) (k + 1)
+  unfolding ones_of
+  count_next n h c =
+      let read : get_or (lent buffer) k 0 ≡ get_or buffer (filter_at + k) 0 =
+      ap (λ (xs : List ℕ). get_or xs k 0) (rest_lent filter_at buffer) ∙ get_or-drop filter_at buffer k 0 in
+      record {
+        within = omega (arith, lent_length);
+        most = omega (arith, so_far.most, c.most);
+        is = rw (add-one, ← so_far.is) (ap (λ (m : ℕ). count + m) (c.is ∙ ap ones read));
+      }
+
+  pub count_end : length (lent buffer) ≤ k → count ≡ ones_of buffer filter_words
+  count_end h = let e : k ≡ filter_words = omega (arith, so_far.within, lent_length) in rw e at so_far.is

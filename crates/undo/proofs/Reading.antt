@@ -1,30 +1,41 @@
 -- Reading the log and the buffer: the search for the first improper entry, the test of the buffered entries and of their bits, and the run that an
 -- advance drops.
-use Prim.Native.Nat.{ℕ, zero, suc, ◌+◌, ◌-◌, ◌*◌, ◌<◌, ◌≤◌}
-use mathlib.Core.Path.{◌≡◌, refl, sym, ap, ◌∙◌}
-use mathlib.Core.Bool.{Bool, true, false, not, ◌&&◌, and-true, and-false}
-use mathlib.Core.List.{List}
+use Prim.Native.Nat.{ℕ, zero, suc, ◌+◌, ◌-◌, ◌<◌, ◌≤◌}
+use mathlib.Core.Path.{◌≡◌, refl, sym, ap, ap₂, subst, ◌∙◌}
+use mathlib.Core.Bool.{Bool, true, false, cond, not, ◌&&◌, and-false}
+use mathlib.Core.List.{List, []}
 use native.Mathlib.Numerals.{add-one}
 use native.Mathlib.Omega.{arith}
 use borrow.Author.Tests.{lt-ltb, le-leb, lt-leb, ltb-true, ltb-false, leb-true, not-true, not-false}
+use mir.Syntax.{w64}
+use mir.Val.{Fits}
 use lib.Dec.{ltb, leb}
 use lib.ListN.{length, get_or}
-use Rattle.base.specs.Walk.{first, Walked, walk_start, walk_end, walk_stop, walk_pass, walk_found, walk_next, walk_all, walk_not_all, first_same, first_early, first_late, first_all, both_first}
+use Rattle.std.specs.Prelude.{None, Some}
+use Rattle.std.specs.List.{slice_get}
+use Rattle.std.specs.Option.{is_some}
+use Rattle.std.proofs.Math.Decide.{ℕ_discrete}
+use Rattle.std.proofs.lemmas.Bool.{false≢true}
+use Rattle.std.proofs.lemmas.Option.{slice_get_within, slice_get-get_or, get_or_from_slice_get}
+use Rattle.base.specs.Cases.{below_or_not}
+use Rattle.base.specs.Walk.{first, first_from, Walked, walk_start, walk_end, walk_found, walk_next, walk_all, walk_not_all, first_same, first_early, first_late, first_all, first_most, both_first}
 use Rattle.ranges.specs.Ranges.{Range, proper_range}
 use Rattle.layout.specs.declared.Entry.{Entry}
-use Rattle.layout.specs.Limits.{most_lines, most_ahead}
-use Rattle.layout.specs.Memory.{log_at, lines_at}
+use Rattle.layout.specs.Limits.{most_ahead}
 use Rattle.layout.specs.Words.{Decoded, EntryFits, decode_entry, formed}
 use Rattle.layout.specs.Laws.{entry_laws}
 use Rattle.undo.specs.declared.LogState.{LogState}
 use Rattle.undo.specs.Entries.{range_of, proper_word, proper_entry}
 use Rattle.undo.specs.Recovery.{older_till, proper_at, first_improper}
-use Rattle.undo.specs.Log.{Sound, Placed, place_of, entry_in, log_in}
+use Rattle.undo.specs.Log.{Sound, entry_in, log_in}
 use Rattle.undo.specs.Filter.{marks}
-use Rattle.undo.specs.Log.{buffered_in, buffered_proper, buffer_proper, buffered_marked, buffer_marked, expired, dropped, KeptBy}
-use Rattle.undo.specs.Promises.{Straight, Bounds, Searched, SearchReady, expired_from, KeptFrom}
+use Rattle.undo.specs.Log.{buffered_in, buffered_proper, buffer_proper, buffered_marked, buffer_marked, expired, dropped, DroppedBy}
+use Rattle.undo.specs.Stretches.{Entries, Stretches, entry_of, least_till, in_order, useless_at}
 use Rattle.undo.specs.Laws.{formed_nonempty, proper_till}
-use Rattle.undo.proofs.Ring.{straight_place, turned_place}
+
+-- one lower bound stands for both: what is at or above least is above P, and not below the older entry's ValidTill
+abbrev pub Bounds : (persisted older least : ℕ) → Type 0
+Bounds persisted older least = (till : ℕ) → leb least till ≡ ltb persisted till && leb older till
 
 -- the test of an epoch, one law for each way out
 module _ (epoch least most : ℕ) where
@@ -85,53 +96,165 @@ proper_between lines persisted older least h r =
     go true some = refl
     go false some = rw and-false
 
--- the search for the first improper entry, from one on up to another
-module _ {board : List ℕ} {u : LogState} {lines i at least to : ℕ} (s : Searched board u lines i at least to) where
-  pub search_end : to ≤ i → i ≡ first (proper_at (log_in board u) lines) to
-  search_end h = walk_end s.walked h
+-- two tests that agree at every place before which the second has passed stop at one place
+from_agree : (f g : ℕ → Bool) (k i : ℕ) → ((j : ℕ) → j < i → g j ≡ true)
+    → ((j : ℕ) → j < i + k → ((l : ℕ) → l < j → g l ≡ true) → f j ≡ g j) → first_from f i k ≡ first_from g i k
+unfolding first_from
+from_agree f g zero i before same = refl
+from_agree f g (suc k) i before same =
+    go (λ t. from_agree f g k (suc i) (λ j h. passed t j h (ℕ_discrete j i)) (λ j h past. same j (omega arith) past)) (f i) refl
+  where
+    here : f i ≡ g i
+    here = same i (omega arith) before
 
-  module _ (h : i < to) where
-    word_read : decode_entry (get_or board (log_at + at) 0) ≡ entry_in board u i
-    unfolding entry_in
-    word_read =
-        let here : place_of u (i + 0) ≡ at + 2 * 0 = s.straight.placed 0 (omega arith) in
-        let i_here : i + 0 ≡ i = omega arith in
-        let at_here : at + 2 * 0 ≡ at = omega arith in
-        let same : place_of u i ≡ at = ap (place_of u) (sym i_here) ∙ here ∙ at_here in
-        ap (λ (p : ℕ). decode_entry (get_or board (log_at + p) 0)) (sym same)
+    passed : g i ≡ true → (j : ℕ) → j < suc i → Dec (j ≡ i) → g j ≡ true
+    passed e j h (yes p) = rw p e
+    passed e j h (no n) = before j (omega arith)
 
-    straight_next : Straight u (i + 1) (at + 2) to
-    straight_next =
+    go : (g i ≡ true → first_from f (suc i) k ≡ first_from g (suc i) k)
+        → (t : Bool) → f i ≡ t → cond t (first_from f (suc i) k) i ≡ cond (g i) (first_from g (suc i) k) i
+    go rest true e = let t : g i ≡ true = sym here ∙ e in rw t (rest t)
+    go rest false e = let t : g i ≡ false = sym here ∙ e in rw t
+
+first_agree : (f g : ℕ → Bool) (n : ℕ) → ((i : ℕ) → i < n → ((j : ℕ) → j < i → g j ≡ true) → f i ≡ g i) → first f n ≡ first g n
+first_agree f g n same = from_agree f g n 0 (λ j h. absurd (omega arith)) (λ j h before. same j (omega arith) before)
+
+-- entries that stand behind each other in the log, from one on
+module _ (board : List ℕ) (u : LogState) (entries : List (List ℕ)) (at : ℕ → ℕ) (step : (j : ℕ) → at (suc j) ≡ suc (at j))
+    (same : (i : ℕ) → i < length entries → entry_of entries i ≡ entry_in board u (at i)) where
+  useless_same : (target : ℕ) → first (useless_at entries target) (length entries) ≡ first (λ i. expired board u target (at i)) (length entries)
+  unfolding useless_at expired
+  useless_same target =
+      first_same (useless_at entries target) (λ i. expired board u target (at i)) (length entries)
+      (λ i h. ap (λ (e : Entry). leb e.till target) (same i h))
+
+  module _ (lines bound : ℕ) (begun : Bounds u.control.persisted (older_till (log_in board u) (at 0)) bound) where
+    above : (k : ℕ) → proper_at (log_in board u) lines k ≡ true
+        → Bounds u.control.persisted (older_till (log_in board u) (suc k)) (entry_in board u k).till
+    unfolding older_till
+    above k p = bounds_next u.control.persisted (entry_in board u k).till (proper_till (log_in board u) lines k p)
+
+    carried : (i : ℕ) → i < length entries → ((j : ℕ) → j < i → proper_at (log_in board u) lines (at j) ≡ true)
+        → Bounds u.control.persisted (older_till (log_in board u) (at i)) (least_till entries bound i)
+    unfolding least_till
+    carried zero h before = begun
+    carried (suc j) h before =
+        subst (λ (k : ℕ). Bounds u.control.persisted (older_till (log_in board u) k) (entry_of entries j).till) (sym (step j))
+        (subst (λ (e : Entry). Bounds u.control.persisted (older_till (log_in board u) (suc (at j))) e.till) (sym (same j (omega arith)))
+        (above (at j) (before j (omega arith))))
+
+    order_same : first (in_order entries lines u.control.persisted bound) (length entries)
+        ≡ first (λ i. proper_at (log_in board u) lines (at i)) (length entries)
+    unfolding in_order proper_word proper_at
+    order_same =
+        first_agree (in_order entries lines u.control.persisted bound) (λ i. proper_at (log_in board u) lines (at i)) (length entries)
+        (λ i h before.
+        rw (same i h)
+        (ap (λ (p : Bool). formed (entry_in board u (at i)) && p)
+        (proper_between lines _ _ (least_till entries bound i) (carried i h before) (range_of (entry_in board u (at i))))))
+
+-- the log in its two stretches
+module _ {board : List ℕ} {u : LogState} {older newer : List (List ℕ)} (s : Stretches board u older newer) where
+  older_entry : (i : ℕ) → i < length older → entry_of older i ≡ entry_in board u i
+  unfolding entry_in
+  older_entry i h = rw (s.older_same i h)
+
+  newer_entry : (i : ℕ) → i < length newer → entry_of newer i ≡ entry_in board u (length older + i)
+  unfolding entry_in
+  newer_entry i h = rw (s.newer_same i h)
+
+  module _ (lines found : ℕ) (walked : found ≡ first (in_order older lines u.control.persisted (u.control.persisted + 1)) (length older)) where
+    walked_older : found ≡ first (proper_at (log_in board u) lines) (length older)
+    unfolding older_till
+    walked_older =
+        walked ∙ order_same board u older (λ i. i) (λ j. refl) older_entry lines (u.control.persisted + 1) (bounds_first u.control.persisted)
+
+    pub search_most : found ≤ length older
+    search_most = rw walked (first_most (in_order older lines u.control.persisted (u.control.persisted + 1)) (length older))
+
+    pub search_early : found < length older → found ≡ first_improper (log_in board u) lines
+    unfolding first_improper
+    search_early h =
+        walked_older ∙ sym (first_early (proper_at (log_in board u) lines) (length older) (length newer) (omega (arith, walked_older)))
+        ∙ ap (first (proper_at (log_in board u) lines)) s.all
+
+    pub search_none : None ≡ slice_get older (length older - 1) → 0 ≡ first_improper (log_in board u) lines
+    unfolding first_improper
+    search_none e =
+        let empty : length older ≡ 0 =
+        below_or_not (length older - 1) (length older)
+        (λ h. absurd (false≢true (ap is_some (e ∙ slice_get-get_or older (length older - 1) [] h)))) (λ h. omega arith) in
+        let behind : length newer ≡ 0 = s.none empty in
+        let all : 0 ≡ u.control.length = omega (arith, s.all) in
+        walk_end (walk_start (proper_at (log_in board u) lines) 0) (omega arith) ∙ ap (first (proper_at (log_in board u) lines)) all
+
+    module _ (all : length older ≤ found) (words : List ℕ) (taken : Some words ≡ slice_get older (length older - 1)) where
+      abbrev last : ℕ
+      last = length older - 1
+
+      search_last : last < length older
+      search_last = slice_get_within older last words (sym taken)
+
+      last_words : get_or older last [] ≡ words
+      last_words = get_or_from_slice_get older last words [] (sym taken)
+
+      pub search_late : (e : Entry) → Decoded EntryFits (decode_entry (get_or words 0 0)) e → (behind : ℕ)
+          → behind ≡ first (in_order newer lines u.control.persisted e.till) (length newer)
+          → found + behind ≡ first_improper (log_in board u) lines
+      unfolding first_improper older_till
+      search_late e d behind h =
+          let whole : found ≡ length older = omega (arith, search_most) in
+          let same : first (in_order newer lines u.control.persisted e.till) (length newer)
+          ≡ first (λ i. proper_at (log_in board u) lines (length older + i)) (length newer) =
+          order_same board u newer (λ i. length older + i) (λ j. omega arith) newer_entry lines e.till begun in
+          ap₂ (λ (x y : ℕ). x + y) whole (h ∙ same)
+          ∙ sym (first_late (proper_at (log_in board u) lines) (length older) (length newer) (omega (arith, walked_older)))
+          ∙ ap (first (proper_at (log_in board u) lines)) s.all
+        where
+          begun : Bounds u.control.persisted (older_till (log_in board u) (length older + 0)) e.till
+          begun =
+              let here : length older + 0 ≡ suc last = omega (arith, search_last) in
+              let same : e ≡ entry_in board u last =
+              d.is ∙ ap (λ (w : List ℕ). decode_entry (get_or w 0 0)) (sym last_words) ∙ older_entry last search_last in
+              let passed : proper_at (log_in board u) lines last ≡ true =
+              first_all (proper_at (log_in board u) lines) (length older) (omega (arith, walked_older)) last search_last in
+              rw (here, same) (bounds_next u.control.persisted (entry_in board u last).till (proper_till (log_in board u) lines last passed))
+
+  pub both_fit : Sound u → (f g : ℕ → Bool) (a b : ℕ) → a ≡ first f (length older) → b ≡ first g (length newer) → Fits w64 (a + b)
+  both_fit sound f g a b x y =
+      let in_older : a ≤ length older = rw x (first_most f (length older)) in
+      let in_newer : b ≤ length newer = rw y (first_most g (length newer)) in
+      record { fits = omega (arith, s.all, sound.room, sound.most) }
+
+  -- the run that an advance drops
+  module _ (target run : ℕ) (walked : run ≡ first (useless_at older target) (length older)) where
+    run_older : run ≡ first (expired board u target) (length older)
+    run_older = walked ∙ useless_same board u older (λ i. i) (λ j. refl) older_entry target
+
+    pub run_most : run ≤ length older
+    run_most = rw walked (first_most (useless_at older target) (length older))
+
+    pub run_early : run < length older → DroppedBy board u target run
+    unfolding dropped
+    run_early h = record {
+      is =
+          run_older ∙ sym (first_early (expired board u target) (length older) (length newer) (omega (arith, run_older)))
+          ∙ ap (first (expired board u target)) s.all;
+      within = omega (arith, s.all);
+    }
+
+    pub run_late : length older ≤ run → (behind : ℕ) → behind ≡ first (useless_at newer target) (length newer) → DroppedBy board u target (run + behind)
+    unfolding dropped
+    run_late h behind x =
+        let whole : run ≡ length older = omega (arith, run_most) in
+        let most : behind ≤ length newer = rw x (first_most (useless_at newer target) (length newer)) in
         record {
-          within = omega arith;
-          room = omega (arith, s.straight.room);
-          placed = λ k below.
-              let e : i + 1 + k ≡ i + (k + 1) = omega arith in
-              let p : at + 2 * (k + 1) ≡ at + 2 + 2 * k = omega arith in
-              ap (place_of u) e ∙ s.straight.placed (k + 1) (omega arith) ∙ p;
+          is =
+              ap₂ (λ (x y : ℕ). x + y) whole (x ∙ useless_same board u newer (λ i. length older + i) (λ j. omega arith) newer_entry target)
+              ∙ sym (first_late (expired board u target) (length older) (length newer) (omega (arith, run_older)))
+              ∙ ap (first (expired board u target)) s.all;
+          within = omega (arith, s.all, run_most);
         }
-
-    module _ (t : Bool) (a : t ≡ proper_word lines least (u.control.persisted + most_ahead) (decode_entry (get_or board (log_at + at) 0))) where
-      tested : t ≡ proper_at (log_in board u) lines i
-      unfolding proper_at proper_word
-      tested =
-          a ∙ ap (proper_word lines least (u.control.persisted + most_ahead)) word_read
-          ∙ ap (λ (p : Bool). formed (entry_in board u i) && p) (proper_between lines _ _ least s.carried (range_of (entry_in board u i)))
-
-      pub search_found : not t ≡ true → i ≡ first (proper_at (log_in board u) lines) to
-      search_found x = walk_found s.walked t tested h x
-
-      pub search_next : (e : Entry) → not t ≡ false → Decoded EntryFits (decode_entry (get_or board (log_at + at) 0)) e
-          → Searched board u lines (i + 1) (at + 2) e.till to
-      unfolding older_till
-      search_next e x d =
-          let same : e ≡ entry_in board u i = d.is ∙ word_read in
-          let above : u.control.persisted < (entry_in board u i).till = proper_till (log_in board u) lines i (sym tested ∙ not-false t x) in
-          record {
-            walked = walk_next s.walked t tested h x;
-            straight = straight_next;
-            carried = rw (add-one, same) (bounds_next u.control.persisted (entry_in board u i).till above);
-          }
 
 -- the test of a buffered entry's word, one law for each way out
 module _ (word lines epoch : ℕ) (t : Bool) (address : t ≡ ltb (decode_entry word).address lines) where
@@ -155,241 +278,92 @@ module _ (word lines epoch : ℕ) (t : Bool) (address : t ≡ ltb (decode_entry 
             e ∙ word_till word lines 0 epoch t address named (decode_entry word) read r span true (ap not e)
             (sym (rw (le-leb 0 (decode_entry word).till (omega arith), ← till, not-false s x)))
 
+-- the walk over a stretch that tests each entry, and carries the bound
+pub record Ordered (entries : List (List ℕ)) (lines persisted bound i least : ℕ) : Type 0 where
+  pub walked : Walked (in_order entries lines persisted bound) (length entries) i
+  pub carried : least ≡ least_till entries bound i
+
+module _ (entries : List (List ℕ)) (lines persisted bound : ℕ) where
+  pub order_start : Ordered entries lines persisted bound 0 bound
+  unfolding least_till
+  order_start = record { walked = walk_start (in_order entries lines persisted bound) (length entries); carried = refl }
+
+  module _ (i least : ℕ) (s : Ordered entries lines persisted bound i least) where
+    pub order_end : length entries ≤ i → length entries ≡ first (in_order entries lines persisted bound) (length entries)
+    order_end h = let e : length entries ≡ i = omega (arith, s.walked.within) in e ∙ walk_end s.walked h
+
+    module _ (h : i < length entries) (t : Bool) (a : t ≡ proper_word lines least (persisted + most_ahead) (entry_of entries i)) where
+      tested : t ≡ in_order entries lines persisted bound i
+      unfolding in_order
+      tested = rw (← s.carried) a
+
+      pub order_found : not t ≡ true → i ≡ first (in_order entries lines persisted bound) (length entries)
+      order_found x = walk_found s.walked t tested h x
+
+      pub order_next : (e : Entry) → not t ≡ false → Decoded EntryFits (entry_of entries i) e → Ordered entries lines persisted bound (i + 1) e.till
+      unfolding least_till
+      order_next e x d = record { walked = walk_next s.walked t tested h x; carried = rw (add-one, d.is) }
+
+-- the walk over a stretch up to the first entry that is not useless
+module _ (entries : List (List ℕ)) (target i : ℕ) (w : Walked (useless_at entries target) (length entries) i) where
+  pub useless_end : length entries ≤ i → length entries ≡ first (useless_at entries target) (length entries)
+  useless_end h = let e : length entries ≡ i = omega (arith, w.within) in e ∙ walk_end w h
+
+  module _ (h : i < length entries) (t : Bool) (tested : t ≡ leb (entry_of entries i).till target) where
+    pub useless_found : not t ≡ true → i ≡ first (useless_at entries target) (length entries)
+    unfolding useless_at
+    useless_found x = walk_found w t tested h x
+
+    pub useless_next : not t ≡ false → Walked (useless_at entries target) (length entries) (i + 1)
+    unfolding useless_at
+    useless_next x = walk_next w t tested h x
+
 -- the walk over the buffered entries that tests each, and the filter's bits of each
 abbrev pub sound_at : List ℕ → (lines epoch : ℕ) → ℕ → Bool
 sound_at buffer lines epoch i = buffered_proper buffer lines epoch i && buffered_marked buffer i
 
-module _ (buffer : List ℕ) (count lines epoch i : ℕ) (w : Walked (sound_at buffer lines epoch) count i) where
-  sound_both : leb count (first (sound_at buffer lines epoch) count) ≡ buffer_proper buffer count lines epoch && buffer_marked buffer count
-  unfolding buffer_proper buffer_marked
-  sound_both = both_first (buffered_proper buffer lines epoch) (buffered_marked buffer) count
+module _ (buffer : List ℕ) (count lines epoch : ℕ) (entries : List (List ℕ)) (s : Entries buffer count entries) (i : ℕ) where
+  pub proper_end : (w : Walked (buffered_proper buffer lines epoch) count i) → length entries ≤ i → true ≡ buffer_proper buffer count lines epoch
+  unfolding buffer_proper
+  proper_end w h = walk_all w (omega (arith, s.count_is))
 
-  pub sound_end : count ≤ i → true ≡ buffer_proper buffer count lines epoch && buffer_marked buffer count
-  sound_end h = walk_all w h ∙ sound_both
+  module _ (h : i < length entries) (t : Bool) (proper : t ≡ proper_word lines 0 epoch (entry_of entries i)) where
+    pub within : i < count
+    within = omega (arith, s.count_is)
 
-  module _ (h : i < count) (t : Bool) (proper : t ≡ proper_word lines 0 epoch (decode_entry (get_or buffer (2 * i) 0))) where
-    pub sound_improper : not t ≡ true → false ≡ buffer_proper buffer count lines epoch && buffer_marked buffer count
+    pub proper_tested : t ≡ buffered_proper buffer lines epoch i
     unfolding buffered_proper buffered_in
-    sound_improper x =
-        walk_not_all w false (sym (rw (← proper, not-true t x))) h refl ∙ sound_both
+    proper_tested = proper ∙ ap (λ (words : List ℕ). proper_word lines 0 epoch (decode_entry (get_or words 0 0))) (s.same i within)
 
-    module _ (passed : not t ≡ false) (e : Entry) (d : Decoded EntryFits (decode_entry (get_or buffer (2 * i) 0)) e) (s : Bool)
-        (marked : s ≡ marks buffer e.address) where
-      tested_both : s ≡ sound_at buffer lines epoch i
-      unfolding buffered_proper buffered_marked buffered_in
-      tested_both = rw (← proper, not-false t passed, ← d.is) marked
+    module _ (w : Walked (buffered_proper buffer lines epoch) count i) where
+      pub proper_failed : not t ≡ true → false ≡ buffer_proper buffer count lines epoch
+      unfolding buffer_proper
+      proper_failed x = walk_not_all w t proper_tested within x
 
-      pub sound_unmarked : not s ≡ true → false ≡ buffer_proper buffer count lines epoch && buffer_marked buffer count
-      sound_unmarked x = walk_not_all w s tested_both h x ∙ sound_both
+      pub proper_next : not t ≡ false → Walked (buffered_proper buffer lines epoch) count (i + 1)
+      proper_next x = walk_next w t proper_tested within x
 
-      pub sound_next : not s ≡ false → Walked (sound_at buffer lines epoch) count (i + 1)
-      sound_next x = walk_next w s tested_both h x
+  module _ (w : Walked (sound_at buffer lines epoch) count i) where
+    sound_both : leb count (first (sound_at buffer lines epoch) count) ≡ buffer_proper buffer count lines epoch && buffer_marked buffer count
+    unfolding buffer_proper buffer_marked
+    sound_both = both_first (buffered_proper buffer lines epoch) (buffered_marked buffer) count
 
--- the run that an advance drops: a walk over entries that stand one behind the other counts down what is left of them, and carries the place
-pub record Dropping (board : List ℕ) (target at left least place rest : ℕ) : Type 0 where
-  pub fewer : least ≤ rest
-  pub within : rest ≤ left
-  pub here : place ≡ at + 2 * (left - rest)
-  pub walked : Walked (expired_from board target at) (left - least) (left - rest)
+    pub sound_end : length entries ≤ i → true ≡ buffer_proper buffer count lines epoch && buffer_marked buffer count
+    sound_end h = walk_all w (omega (arith, s.count_is)) ∙ sound_both
 
-module _ (board : List ℕ) (target at left least : ℕ) where
-  pub drop_start : least ≤ left → Dropping board target at left least at left
-  drop_start h =
-      let none : left - left ≡ 0 = omega arith in
-      record { fewer = h; within = omega arith; here = omega arith; walked = rw none (walk_start (expired_from board target at) (left - least)) }
+    module _ (h : i < length entries) (t : Bool) (proper : t ≡ proper_word lines 0 epoch (entry_of entries i)) where
+      pub sound_improper : not t ≡ true → false ≡ buffer_proper buffer count lines epoch && buffer_marked buffer count
+      sound_improper x =
+          walk_not_all w false (sym (rw (← (proper_tested h t proper), not-true t x))) (within h t proper) refl ∙ sound_both
 
-  module _ (place rest : ℕ) (s : Dropping board target at left least place rest) where
-    pub drop_end : rest ≡ least → KeptFrom board target at left least rest
-    drop_end h = record { within = s.within; fewer = s.fewer; rest = walk_end s.walked (omega arith) }
+      module _ (passed : not t ≡ false) (e : Entry) (d : Decoded EntryFits (entry_of entries i) e) (m : Bool) (marked : m ≡ marks buffer e.address) where
+        tested_both : m ≡ sound_at buffer lines epoch i
+        unfolding buffered_marked buffered_in
+        tested_both = rw (← (proper_tested h t proper), not-false t passed) (marked ∙ ap (λ (x : Entry). marks buffer x.address) d.is
+            ∙ ap (λ (words : List ℕ). marks buffer (decode_entry (get_or words 0 0)).address) (s.same i (within h t proper)))
 
-    module _ (some : rest ≡ least → ⊥) (t : Bool) (tested : t ≡ leb (decode_entry (get_or board (log_at + place) 0)).till target) where
-      before : left - rest < left - least
-      before = omega (arith, s.within, s.fewer)
+        pub sound_unmarked : not m ≡ true → false ≡ buffer_proper buffer count lines epoch && buffer_marked buffer count
+        sound_unmarked x = walk_not_all w m tested_both (within h t proper) x ∙ sound_both
 
-      useless : expired_from board target at (left - rest) ≡ t
-      unfolding expired_from
-      useless = sym (tested ∙ rw s.here)
-
-      pub drop_stop : not t ≡ true → KeptFrom board target at left least rest
-      drop_stop h = record { within = s.within; fewer = s.fewer; rest = walk_stop s.walked before (useless ∙ not-true t h) }
-
-      pub drop_next : not t ≡ false → Dropping board target at left least (place + 2) (rest - 1)
-      drop_next h =
-          let k : left - rest + 1 ≡ left - (rest - 1) = omega (arith, s.within, s.fewer) in
-          record {
-            fewer = omega (arith, s.fewer);
-            within = omega (arith, s.within);
-            here = omega (arith, s.here, s.within, s.fewer);
-            walked = rw k at (walk_pass s.walked before (useless ∙ not-false t h));
-          }
-
--- the log's entries before the ring's end, and from its beginning on
-module _ (u : LogState) (sound : Sound u) where
-  stretch_low : (to : ℕ) → u.control.start + to ≤ u.entries → Straight u 0 (2 * u.control.start) to
-  stretch_low to h =
-      record {
-        within = omega arith;
-        room = omega arith;
-        placed = λ k below.
-            let e : 0 + k ≡ k = omega arith in
-            ap (place_of u) e ∙ straight_place u sound k (omega arith);
-      }
-
-  stretch_high : u.entries - u.control.start ≤ u.control.length → Straight u (u.entries - u.control.start) 0 u.control.length
-  stretch_high h =
-      record {
-        within = h;
-        room = omega (arith, sound.room);
-        placed = λ k below. turned_place u sound k (omega (arith, sound.room, sound.begin));
-      }
-
--- the search over both
-walked_to : (f : ℕ → Bool) (n i : ℕ) → i ≤ n → ((j : ℕ) → j < i → f j ≡ true) → Walked f n i
-walked_to f n zero h all = walk_start f n
-walked_to f n (suc i) h all = rw add-one at (walk_pass (walked_to f n i (omega arith) (λ j below. all j (omega arith))) h (all i (omega arith)))
-
-module _ (board : List ℕ) (u : LogState) (lines : ℕ) (sound : Sound u) (some : 1 ≤ lines) (most : lines ≤ most_lines)
-    (words : lines_at u.entries ≤ length board) where
-  ready_low : (to : ℕ) → u.control.start + to ≤ u.entries → SearchReady board u lines 0 (2 * u.control.start) (u.control.persisted + 1) to
-  unfolding older_till
-  ready_low to h =
-      record {
-        sound = sound;
-        some = some;
-        most = most;
-        board_words_holds = words;
-        searched =
-            record {
-              walked = walk_start (proper_at (log_in board u) lines) to;
-              straight = stretch_low u sound to h;
-              carried = bounds_first u.control.persisted;
-            };
-      }
-
-  pub search_straight : u.control.length ≤ u.entries - u.control.start
-      → SearchReady board u lines 0 (2 * u.control.start) (u.control.persisted + 1) u.control.length
-  search_straight h = ready_low u.control.length (omega (arith, sound.begin))
-
-  abbrev before_end : ℕ
-  before_end = u.entries - u.control.start
-
-  pub search_low : SearchReady board u lines 0 (2 * u.control.start) (u.control.persisted + 1) before_end
-  search_low = ready_low before_end (omega (arith, sound.begin))
-
-  module _ (turns : before_end < u.control.length) (r : ℕ) (found : r ≡ first (proper_at (log_in board u) lines) before_end) where
-    pub search_early : r < before_end → r ≡ first_improper (log_in board u) lines
-    unfolding first_improper
-    search_early h =
-        let whole : u.control.length ≡ before_end + (u.control.length - before_end) = omega arith in
-        found ∙ sym (first_early (proper_at (log_in board u) lines) before_end (u.control.length - before_end) (omega (arith, found)))
-        ∙ ap (first (proper_at (log_in board u) lines)) (sym whole)
-
-    module _ (passed : before_end ≤ r) where
-      proper : (i : ℕ) → i < before_end → proper_at (log_in board u) lines i ≡ true
-      proper = first_all (proper_at (log_in board u) lines) before_end (omega (arith, found))
-
-      abbrev last : ℕ
-      last = before_end - 1
-
-      last_read : decode_entry (get_or board (lines_at u.entries - 2) 0) ≡ entry_in board u last
-      unfolding entry_in
-      last_read =
-          let here : place_of u last ≡ 2 * u.control.start + 2 * last = straight_place u sound last (omega (arith, sound.begin)) in
-          let e : lines_at u.entries - 2 ≡ log_at + place_of u last = omega (arith, here, sound.begin) in
-          ap (λ (p : ℕ). decode_entry (get_or board p 0)) e
-
-      last_older : (e : Entry) → Decoded EntryFits (decode_entry (get_or board (lines_at u.entries - 2) 0)) e
-          → Bounds u.control.persisted (older_till (log_in board u) before_end) e.till
-      unfolding older_till
-      last_older e d =
-          let same : e ≡ entry_in board u last = d.is ∙ last_read in
-          let behind : before_end ≡ suc last = omega (arith, sound.begin) in
-          let above : u.control.persisted < (entry_in board u last).till = proper_till (log_in board u) lines last (proper last (omega (arith, sound.begin))) in
-          rw (behind, same) (bounds_next u.control.persisted (entry_in board u last).till above)
-
-      pub search_high : (lines_place : ℕ) → lines_place ≡ lines_at u.entries → (e : Entry)
-          → Decoded EntryFits (decode_entry (get_or board (lines_place - 2) 0)) e
-          → SearchReady board u lines before_end 0 e.till u.control.length
-      search_high lines_place p e d =
-          record {
-            sound = sound;
-            some = some;
-            most = most;
-            board_words_holds = words;
-            searched =
-                record {
-                  walked = walked_to (proper_at (log_in board u) lines) u.control.length before_end (omega arith) proper;
-                  straight = stretch_high u sound (omega arith);
-                  carried = last_older e (rw p at d);
-                };
-          }
-
-pub search_all : (board : List ℕ) (u : LogState) (lines r : ℕ) → r ≡ first (proper_at (log_in board u) lines) u.control.length → r ≡ first_improper (log_in board u) lines
-unfolding first_improper
-search_all board u lines r h = h
-
--- the run that an advance drops, over both
-module _ (board : List ℕ) (u : LogState) (target : ℕ) (sound : Sound u) where
-  straight_same : (n : ℕ) → u.control.start + n ≤ u.entries
-      → first (expired board u target) n ≡ first (expired_from board target (2 * u.control.start)) n
-  unfolding expired expired_from entry_in
-  straight_same n h =
-      first_same (expired board u target) (expired_from board target (2 * u.control.start)) n
-      (λ i below. ap (λ (p : ℕ). leb (decode_entry (get_or board (log_at + p) 0)).till target) (straight_place u sound i (omega arith)))
-
-  pub kept_straight : (r : ℕ) → u.control.length ≤ u.entries - u.control.start
-      → KeptFrom board target (2 * u.control.start) u.control.length 0 r → KeptBy board u target r
-  unfolding dropped
-  kept_straight r h k =
-      let all : u.control.length - 0 ≡ u.control.length = omega arith in
-      record { within = k.within; rest = k.rest ∙ rw all (sym (straight_same u.control.length (omega (arith, sound.begin)))) }
-
-  module _ (turns : u.entries - u.control.start < u.control.length) where
-    abbrev straight : ℕ
-    straight = u.entries - u.control.start
-
-    abbrev turned : ℕ
-    turned = u.control.length - straight
-
-    whole : u.control.length ≡ straight + turned
-    whole = omega arith
-
-    part : u.control.length - turned ≡ straight
-    part = omega arith
-
-    turned_same : (i : ℕ) → i < turned → expired board u target (straight + i) ≡ expired_from board target 0 i
-    unfolding expired expired_from entry_in
-    turned_same i below =
-        ap (λ (p : ℕ). leb (decode_entry (get_or board (log_at + p) 0)).till target) (turned_place u sound i (omega (arith, sound.room, sound.begin)))
-
-    module _ (r : ℕ) (k : KeptFrom board target (2 * u.control.start) u.control.length turned r) where
-      walked : u.control.length - r ≡ first (expired board u target) straight
-      walked = k.rest ∙ rw part (sym (straight_same straight (omega (arith, sound.begin))))
-
-      pub kept_early : turned < r → KeptBy board u target r
-      unfolding dropped
-      kept_early h =
-          record {
-            within = k.within;
-            rest =
-                walked ∙ sym (first_early (expired board u target) straight turned (omega (arith, walked, k.within)))
-                ∙ ap (first (expired board u target)) (sym whole);
-          }
-
-      pub kept_late : (q : ℕ) → r ≤ turned → KeptFrom board target 0 turned 0 q → KeptBy board u target q
-      unfolding dropped
-      kept_late q h l =
-          let all : turned - 0 ≡ turned = omega arith in
-          let same : first (λ (i : ℕ). expired board u target (straight + i)) turned ≡ first (expired_from board target 0) turned =
-          first_same (λ (i : ℕ). expired board u target (straight + i)) (expired_from board target 0) turned turned_same in
-          let second : turned - q ≡ first (expired_from board target 0) turned = l.rest ∙ rw all in
-          let late = first_late (expired board u target) straight turned (omega (arith, walked, k.fewer)) in
-          record {
-            within = omega (arith, l.within);
-            rest =
-                sum q l.within ∙ ap (λ (n : ℕ). straight + n) (second ∙ sym same) ∙ sym late
-                ∙ ap (first (expired board u target)) (sym whole);
-          }
-        where
-          sum : (q : ℕ) → q ≤ turned → u.control.length - q ≡ straight + (turned - q)
-          sum q h = omega arith
+        pub sound_next : not m ≡ false → Walked (sound_at buffer lines epoch) count (i + 1)
+        sound_next x = walk_next w m tested_both (within h t proper) x

@@ -1,7 +1,7 @@
 -- The stores of the flush.
 use Prim.Native.Nat.{ℕ, ◌+◌, ◌-◌, ◌*◌, ◌<◌, ◌≤◌}
-use mathlib.Core.Path.{◌≡◌, refl, subst, ◌∙◌}
-use mathlib.Core.List.{List, ◌++◌}
+use mathlib.Core.Path.{◌≡◌, refl, ap, subst, ◌∙◌}
+use mathlib.Core.List.{List, [], ◌++◌}
 use native.Mathlib.Nat.{mod-lt}
 use native.Mathlib.Omega.{arith}
 use borrow.Author.Tests.{eq-eqb, ne_eqb}
@@ -19,6 +19,7 @@ use Rattle.undo.specs.Filter.{marking}
 use Rattle.undo.specs.Log.{Sound, Placed, entry_stores, flushed, flush_stores, flushed_buffer, pushed, counted}
 use Rattle.undo.specs.Log.{DroppedBy, advanced, advance_stores}
 use Rattle.undo.specs.Ring.{next_place}
+use Rattle.undo.specs.Stretches.{Entries}
 use Rattle.undo.proofs.Ring.{placed_next}
 use Rattle.undo.specs.Promises.{Flushes, FlushReady, Pushes, AdvanceReady}
 
@@ -41,23 +42,28 @@ module _ (log₀ buffer : List ℕ) (u : LogState) (m₀ : Meter) where
       record { within = omega arith; ran = each_none (entry_stores u buffer) log₀ m₀; placed = subst (λ (x : ℕ). Placed u x at) e p; same_words = refl }
 
   module _ (log : List ℕ) (m : Meter) (at i : ℕ) (so_far : Putting log₀ buffer u m₀ log m at i) where
-    pub put_next : (log' log'' : List ℕ) (m' m'' : Meter) (r : ℕ) → Sound u → i < u.buffered
-        → Ran log m (one at (get_or buffer (2 * i) 0)) log' m'
-        → Ran log' m' (one (at + 1) (get_or buffer (2 * i + 1) 0)) log'' m''
+    pub put_next : (entries : List (List ℕ)) → Entries buffer u.buffered entries
+        → (log' log'' : List ℕ) (m' m'' : Meter) (r : ℕ) → Sound u → i < length entries
+        → Ran log m (one at (get_or (get_or entries i []) 0 0)) log' m'
+        → Ran log' m' (one (at + 1) (get_or (get_or entries i []) 1 0)) log'' m''
         → length log' ≡ length log → length log'' ≡ length log'
         → r ≡ next_place (2 * u.entries) at → Putting log₀ buffer u m₀ log'' m'' r (i + 1)
     unfolding entry_stores
-    put_next log' log'' m' m'' r sound h x y l l' n =
+    put_next entries s log' log'' m' m'' r sound h x y l l' n =
+        let below : i < u.buffered = omega (arith, s.count_is) in
+        let word : get_or (get_or entries i []) 0 0 ≡ get_or buffer (2 * i) 0 = ap (λ (words : List ℕ). get_or words 0 0) (s.same i below) in
+        let old : get_or (get_or entries i []) 1 0 ≡ get_or buffer (2 * i + 1) 0 = ap (λ (words : List ℕ). get_or words 1 0) (s.same i below) in
         let e : u.control.length + i + 1 ≡ u.control.length + (i + 1) = omega arith in
         record {
           within = omega arith;
-          ran = each_next (entry_stores u buffer) i so_far.ran (rw (← so_far.placed.is) (ran_then x y));
+          ran = each_next (entry_stores u buffer) i so_far.ran (rw (← so_far.placed.is) (ran_then (rw word at x) (rw old at y)));
           placed = subst (λ (k : ℕ). Placed u k r) e (placed_next u sound (u.control.length + i) at r so_far.placed n);
           same_words = l' ∙ l ∙ so_far.same_words;
         }
 
-    pub put_end : u.buffered ≤ i → Ran log₀ m₀ (each (entry_stores u buffer) u.buffered) log m
-    put_end h = each_done (entry_stores u buffer) i u.buffered so_far.within h so_far.ran
+    pub put_end : (entries : List (List ℕ)) → Entries buffer u.buffered entries → length entries ≤ i
+        → Ran log₀ m₀ (each (entry_stores u buffer) u.buffered) log m
+    put_end entries s h = each_done (entry_stores u buffer) i u.buffered so_far.within (omega (arith, s.count_is)) so_far.ran
 
 module _ (board buffer : List ℕ) (u : LogState) (m : Meter) where
   pub flush_none : u.buffered ≡ 0 → Flushes board buffer u m board buffer (record { undo = u; meter = m })

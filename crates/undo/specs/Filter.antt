@@ -4,7 +4,7 @@ use Rattle.std.specs.Prelude.{ℕ, zero, suc, ◌+◌, ◌-◌, ◌*◌, ◌/◌
 use Rattle.std.specs.Int.Bits.{bit_or}
 use Rattle.std.specs.Int.Count.{ones}
 use Rattle.layout.specs.Limits.{word_bits, filter_size}
-use Rattle.layout.specs.Memory.{filter_at, filter_words}
+use Rattle.layout.specs.Memory.{filter_at}
 
 -- "bit a mod 4,096 and bit (a × 40503 mod 65,536) divided by 16, rounded down"
 unfoldable pub first_bit : (address : ℕ) → ℕ

@@ -3,6 +3,7 @@ pub mod Recovery
 pub mod Filter
 pub mod Log
 pub mod Ring
+pub mod Stretches
 pub mod Promises
 pub mod Laws
 pub mod Digits

@@ -1,6 +1,6 @@
 -- The undo log on the board and the undo buffer before it: where entries stand, and the stores that a flush, an advance of the
 -- persisted epoch and a recovery owe.
-use Rattle.std.specs.Prelude.{ℕ, zero, suc, ◌+◌, ◌-◌, ◌*◌, ◌%◌, ◌^◌, ◌<◌, ◌≤◌, ◌≡◌, Bool, true, false, cond, ◌||◌, List, [], ◌++◌, leb, eqb, length, get_or, set, replicate}
+use Rattle.std.specs.Prelude.{ℕ, zero, suc, ◌+◌, ◌-◌, ◌*◌, ◌%◌, ◌^◌, ◌<◌, ◌≤◌, ◌≡◌, Bool, false, cond, ◌||◌, List, [], ◌++◌, leb, eqb, length, get_or, set, replicate}
 use Rattle.base.specs.Walk.{first}
 use Rattle.board.specs.Stores.{Store, one, each, shifted}
 use Rattle.layout.specs.declared.Control.{Control}
@@ -10,7 +10,7 @@ use Rattle.layout.specs.Memory.{control_at, log_at, lines_at, entry_words}
 use Rattle.layout.specs.Words.{encode_control, encode_entry, decode_entry, formed}
 use Rattle.undo.specs.declared.LogState.{LogState}
 use Rattle.undo.specs.Entries.{range_of, proper_word}
-use Rattle.undo.specs.Recovery.{Log, proper_at, first_improper, restore_all}
+use Rattle.undo.specs.Recovery.{Log, restore_all}
 use Rattle.undo.specs.Filter.{is_bit_of, marks, marking}
 
 -- What holds of the log's numbers once a call's tests have passed.
@@ -108,11 +108,6 @@ dropped board u target = first (expired board u target) u.control.length
 pub record DroppedBy (board : List ℕ) (u : LogState) (target r : ℕ) : Type 0 where
   pub is : r ≡ dropped board u target
   pub within : r ≤ u.control.length
-
--- what is left of the log then
-pub record KeptBy (board : List ℕ) (u : LogState) (target r : ℕ) : Type 0 where
-  pub within : r ≤ u.control.length
-  pub rest : u.control.length - r ≡ dropped board u target
 
 -- "stores one control word with P = target and the oldest run .. dropped, start going up by their number, mod L"
 abbrev pub advanced : LogState → ℕ → ℕ → Control

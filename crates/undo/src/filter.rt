@@ -6,7 +6,7 @@ ghost use Rattle.layout.specs.Memory.{filter_words, buffer_words};
 ghost use Rattle.undo.specs.Filter.{with_bit, marking, marks, hits, ones_of};
 ghost use Rattle.undo.specs.Promises.{FirstBit, SecondBit, ReadsBit, CountsOnes};
 
-use layout::{FILTER_AT, FILTER_SIZE, FILTER_WORDS, WORD_BITS};
+use layout::{FILTER_AT, FILTER_SIZE, WORD_BITS};
 
 // The second bit of an address: a product of 16 bits, of which the filter's upper ones.
 const HASH_FACTOR: u64 = 40503;
@@ -96,8 +96,8 @@ pub fn bits_set(buffer: &[u64]) -> u64
     ensures { result ≡ ones_of buffer.now filter_words }
 {
     let mut count: u64 = 0;
-    for k in 0..FILTER_WORDS {
-        count += ones_in(buffer[FILTER_AT + k]);
+    for word in &buffer[FILTER_AT..] {
+        count += ones_in(*word);
     }
     count
 }

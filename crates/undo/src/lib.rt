@@ -11,11 +11,12 @@ ghost use Rattle.layout.specs.Limits.{epoch_bits, most_lines, most_entries, buff
 ghost use Rattle.layout.specs.Memory.{log_at, lines_at, buffer_words, entry_words};
 ghost use Rattle.layout.specs.Words.{decode_entry};
 ghost use Rattle.undo.specs.Entries.{proper_word};
-ghost use Rattle.undo.specs.Recovery.{proper_at, first_improper};
+ghost use Rattle.undo.specs.Recovery.{first_improper};
 ghost use Rattle.undo.specs.Log.{log_in, Sound, Placed, buffer_proper, buffer_marked};
-ghost use Rattle.undo.specs.Log.{DroppedBy, KeptBy, entry_stores, counted, flushed, advance_stores};
+ghost use Rattle.undo.specs.Log.{DroppedBy, entry_stores, counted, flushed, advance_stores};
 ghost use Rattle.undo.specs.Ring.{next_place};
-ghost use Rattle.undo.specs.Promises.{SearchReady, KeptFrom, Flushes, FlushReady, Pushes, PushReady, AdvanceReady};
+ghost use Rattle.undo.specs.Promises.{Flushes, FlushReady, Pushes, PushReady, AdvanceReady};
+ghost use Rattle.undo.specs.Stretches.{Entries, Stretches, in_order, useless_at};
 
 use board::Meter;
 pub use filter::{bits_set, is_hit};
@@ -89,7 +90,7 @@ fn is_proper_word(word: u64, lines: u64, least: u64, most: u64) -> bool
     if !layout::is_address_below(word, lines) {
         return false;
     }
-    let entry = Entry::decode(word);
+    let entry = Entry::from(word);
     if !entry.is_formed() {
         return false;
     }
@@ -121,41 +122,48 @@ fn next(end: usize, at: usize) -> usize
     at + ENTRY_WORDS
 }
 
-// The first improper entry of those from an entry on up to another, which stand one behind the other from a place on; the other where all are proper.
-// No till among them may be below the bound, nor below that of the entry before.
-fn improper_from(
-    board: &[u64],
-    undo: LogState,
-    lines: u64,
-    from: u64,
-    place: usize,
-    bound: u64,
-    to: u64,
-) -> u64
-    requires { SearchReady board.now undo lines from place bound to }
-    ensures { result ≡ first (proper_at (log_in board.now undo) lines) to }
+// Words of a memory as entries, so many: the packed word of each, and its old data.
+fn entries_in(words: &[u64], count: usize) -> &[[u64; ENTRY_WORDS]]
+    requires { entry_words * count ≤ length words.now }
+    ensures { Entries words.now count result.now }
 {
-    let mut i = from;
-    let mut at = place;
-    let mut least = bound;
-    let found = loop {
-        if i >= to {
-            break i;
-        }
-        let word = board[LOG_AT + at];
-        let most = undo.control.persisted + MOST_AHEAD;
-        if !is_proper_word(word, lines, least, most) {
-            break i;
-        }
-        least = Entry::decode(word).till;
-        at += ENTRY_WORDS;
-        i += 1;
-    };
-    found
+    let (entries, _) = words.as_chunks::<ENTRY_WORDS>();
+    &entries[..count]
 }
 
-// The place of the first improper entry of the log, the oldest counted 0, or the log's length where all are proper: first those before the ring's
-// end, then those from its beginning on.
+// The log's entries, oldest first: those before the ring's end, and those from its beginning on.
+fn stretches(board: &[u64], undo: LogState) -> (&[[u64; ENTRY_WORDS]], &[[u64; ENTRY_WORDS]])
+    requires sound { Sound undo }
+    requires entries_in_bounds { lines_at undo.entries ≤ length board.now }
+    ensures { Stretches board.now undo result.0.now result.1.now }
+{
+    let ring = entries_in(&board[LOG_AT..], undo.entries as usize);
+    let (turned, straight) = ring.split_at(undo.control.start as usize);
+    let length = undo.control.length as usize;
+    let older = length.min(straight.len());
+    (&straight[..older], &turned[..length - older])
+}
+
+// The first improper one of entries that stand behind others in the log, or their number where all are proper. No till among them may be below
+// the bound, nor below that of the entry before.
+fn improper_in(entries: &[[u64; ENTRY_WORDS]], lines: u64, persisted: u64, bound: u64) -> usize
+    requires le_lines { 1 ≤ lines }
+    requires lines_le_most_lines { lines ≤ most_lines }
+    requires persisted_bound { persisted < 2 ^ epoch_bits }
+    ensures { result ≡ first (in_order entries.now lines persisted bound) (length entries.now) }
+{
+    let most = persisted + MOST_AHEAD;
+    let mut least = bound;
+    for (i, &[word, _]) in entries.iter().enumerate() {
+        if !is_proper_word(word, lines, least, most) {
+            return i;
+        }
+        least = Entry::from(word).till;
+    }
+    entries.len()
+}
+
+// The place of the first improper entry of the log, the oldest counted 0, or the log's length where all are proper.
 pub fn first_improper(board: &[u64], undo: LogState, lines: u64) -> u64
     requires sound { Sound undo }
     requires le_lines { 1 ≤ lines }
@@ -163,61 +171,32 @@ pub fn first_improper(board: &[u64], undo: LogState, lines: u64) -> u64
     requires entries_in_bounds { lines_at undo.entries ≤ length board.now }
     ensures { result ≡ first_improper (log_in board.now undo) lines }
 {
-    let start = ENTRY_WORDS * undo.control.start as usize;
-    let least = undo.control.persisted + 1;
-    let straight = undo.entries - undo.control.start;
-    if undo.control.length <= straight {
-        return improper_from(board, undo, lines, 0, start, least, undo.control.length);
+    let (older, newer) = stretches(board, undo);
+    let persisted = undo.control.persisted;
+    let found = improper_in(older, lines, persisted, persisted + 1);
+    if found < older.len() {
+        return found as u64;
     }
-    let found = improper_from(board, undo, lines, 0, start, least, straight);
-    if found < straight {
-        return found;
+    match older.last() {
+        None => 0,
+        Some(&[word, _]) => {
+            let behind = improper_in(newer, lines, persisted, Entry::from(word).till);
+            (found + behind) as u64
+        }
     }
-    let end = layout::lines_at(undo.entries);
-    let older = Entry::decode(board[end - ENTRY_WORDS]).till;
-    improper_from(board, undo, lines, straight, 0, older, undo.control.length)
 }
 
-// Of left entries that stand one behind the other from a place on, those are dropped that the target makes useless, up to the first that it does
-// not. It stops where least are left.
-fn kept_from(board: &[u64], target: u64, at: usize, left: u64, least: u64) -> u64
-    requires target_bound { target < 2 ^ epoch_bits }
-    requires least_le_left { least ≤ left }
-    requires least_in_bounds { log_at + at + entry_words * (left - least) ≤ length board.now }
-    ensures { KeptFrom board.now target at left least result }
+// How many entries, from the first on, are useless once the target is persisted.
+fn useless_in(entries: &[[u64; ENTRY_WORDS]], target: u64) -> usize
+    requires { target < 2 ^ epoch_bits }
+    ensures { result ≡ first (useless_at entries.now target) (length entries.now) }
 {
-    let mut place = at;
-    let mut rest = left;
-    let kept = loop {
-        if rest == least {
-            break rest;
+    for (i, &[word, _]) in entries.iter().enumerate() {
+        if !layout::is_till_at_most(word, target) {
+            return i;
         }
-        if !layout::is_till_at_most(board[LOG_AT + place], target) {
-            break rest;
-        }
-        place += ENTRY_WORDS;
-        rest -= 1;
-    };
-    kept
-}
-
-// How many of the log's entries are left once the oldest run is dropped that the target makes useless: first those before the ring's end, then
-// those from its beginning on.
-fn kept_by(board: &[u64], undo: LogState, target: u64) -> u64
-    requires { AdvanceReady board.now undo target }
-    ensures { KeptBy board.now undo target result }
-{
-    let first = ENTRY_WORDS * undo.control.start as usize;
-    let straight = undo.entries - undo.control.start;
-    if undo.control.length <= straight {
-        return kept_from(board, target, first, undo.control.length, 0);
     }
-    let turned = undo.control.length - straight;
-    let kept = kept_from(board, target, first, undo.control.length, turned);
-    if kept > turned {
-        return kept;
-    }
-    kept_from(board, target, 0, turned, 0)
+    entries.len()
 }
 
 // How many of the oldest entries no longer matter once the target is persisted.
@@ -225,7 +204,12 @@ fn dropped_by(board: &[u64], undo: LogState, target: u64) -> u64
     requires { AdvanceReady board.now undo target }
     ensures { DroppedBy board.now undo target result }
 {
-    undo.control.length - kept_by(board, undo, target)
+    let (older, newer) = stretches(board, undo);
+    let run = useless_in(older, target);
+    if run < older.len() {
+        return run as u64;
+    }
+    (run + useless_in(newer, target)) as u64
 }
 
 // Whether the buffered entry with this first word is proper.
@@ -252,12 +236,10 @@ pub fn is_buffer_proper(buffer: &[u64], count: usize, lines: u64, epoch: u64) ->
     requires epoch_bound { epoch < 2 ^ epoch_bits }
     ensures { result ≡ buffer_proper buffer.now count lines epoch }
 {
-    let mut i: usize = 0;
-    while i < count {
-        if !is_buffered_proper(buffer[ENTRY_WORDS * i], lines, epoch) {
+    for &[word, _] in entries_in(buffer, count) {
+        if !is_buffered_proper(word, lines, epoch) {
             return false;
         }
-        i += 1;
     }
     true
 }
@@ -271,17 +253,14 @@ pub fn is_buffer_sound(buffer: &[u64], count: usize, lines: u64, epoch: u64) -> 
     requires epoch_bound { epoch < 2 ^ epoch_bits }
     ensures { result ≡ buffer_proper buffer.now count lines epoch && buffer_marked buffer.now count }
 {
-    let mut i: usize = 0;
-    while i < count {
-        let word = buffer[ENTRY_WORDS * i];
+    for &[word, _] in entries_in(buffer, count) {
         if !is_buffered_proper(word, lines, epoch) {
             return false;
         }
-        let entry = Entry::decode(word);
+        let entry = Entry::from(word);
         if !filter::is_marked(buffer, entry.address) {
             return false;
         }
-        i += 1;
     }
     true
 }
@@ -307,13 +286,10 @@ fn put_entries(log: &mut [u64], buffer: &[u64], undo: LogState, meter: Meter) ->
     let end = ENTRY_WORDS * undo.entries as usize;
     let mut last = meter;
     let mut at = place(undo, undo.control.length);
-    let mut i: usize = 0;
-    while i < undo.buffered as usize {
-        let from = ENTRY_WORDS * i;
-        let half = board::put(log, at, buffer[from], last);
-        last = board::put(log, at + 1, buffer[from + 1], half);
+    for &[word, old] in entries_in(buffer, undo.buffered as usize) {
+        let half = board::put(log, at, word, last);
+        last = board::put(log, at + 1, old, half);
         at = next(end, at);
-        i += 1;
     }
     last
 }

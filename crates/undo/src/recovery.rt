@@ -1,71 +1,59 @@
 // Recovery: the lines as the log's entries say that they were in the persisted epoch.
-ghost use Rattle.std.specs.Prelude.{◌-◌};
+ghost use Rattle.std.specs.Prelude.{◌^◌, ◌<◌, length};
 ghost use Rattle.board.specs.Stores.{Ran, each};
+ghost use Rattle.layout.specs.Limits.{epoch_bits};
 ghost use Rattle.layout.specs.Memory.{lines_at};
+ghost use Rattle.layout.specs.Words.{decode_entry};
 ghost use Rattle.undo.specs.Recovery.{restore_all};
 ghost use Rattle.undo.specs.Log.{log_in, recover_stores};
-ghost use Rattle.undo.specs.Ring.{restore_at};
-ghost use Rattle.undo.specs.Promises.{RecoverReady, turn_from, TurnsReady, RestoreReady};
+ghost use Rattle.undo.specs.Promises.{RecoverReady};
+ghost use Rattle.undo.specs.Stretches.{restore_line, restore_back, AllNamed};
 
-use crate::LogState;
+use crate::{LogState, stretches};
 use board::Meter;
-use layout::{CONTROL_AT, Control, ENTRY_WORDS, Entry, LOG_AT};
+use layout::{CONTROL_AT, Control, ENTRY_WORDS, Entry};
 
-// The old data of the entry at a place to its line, if it covers the persisted epoch. The log is proper: no entry ends at that
-// epoch or before it.
-fn restore_entry(board: &mut [u64], undo: LogState, at: usize, meter: Meter) -> Meter
-    requires { RestoreReady board.old undo at }
-    ensures { Ran board.old meter (restore_at board.old undo at) board.new result }
+// The old data of an entry to its line, if it covers the persisted epoch. The log is proper: no entry ends at that epoch or before it.
+fn restore_entry(lines: &mut [u64], persisted: u64, word: u64, old: u64, meter: Meter) -> Meter
+    requires persisted_bound { persisted < 2 ^ epoch_bits }
+    requires named { (decode_entry word).address < length lines.old }
+    ensures { Ran lines.old meter (restore_line persisted (decode_entry word) old) lines.new result }
 {
-    let entry = Entry::decode(board[LOG_AT + at]);
-    if entry.till > undo.control.persisted + entry.span {
+    let entry = Entry::from(word);
+    if entry.till > persisted + entry.span {
         return meter;
     }
-    let old = board[LOG_AT + at + 1];
-    let first_line = layout::lines_at(undo.entries);
-    board::put(&mut board[first_line..], entry.address as usize, old, meter)
+    board::put(lines, entry.address as usize, old, meter)
 }
 
-// The turns from one on up to another, of which the newest entry's is 0: their entries stand one before the other below a place.
-fn restore_from(
-    board: &mut [u64],
-    undo: LogState,
-    lines: u64,
-    place: usize,
-    from: u64,
-    to: u64,
+// The lines of entries, from the newest to the oldest.
+fn restore_in(
+    lines: &mut [u64],
+    persisted: u64,
+    entries: &[[u64; ENTRY_WORDS]],
     meter: Meter,
 ) -> Meter
-    requires { TurnsReady board.old undo lines place from to }
-    ensures { Ran board.old meter (each (turn_from board.old undo from) (to - from)) board.new result }
+    requires persisted_bound { persisted < 2 ^ epoch_bits }
+    requires named { AllNamed entries.now (length lines.old) }
+    ensures { Ran lines.old meter (each (restore_back persisted entries.now) (length entries.now)) lines.new result }
 {
     let mut last = meter;
-    let mut at = place;
-    let mut j = from;
-    while j < to {
-        at -= ENTRY_WORDS;
-        last = restore_entry(board, undo, at, last);
-        j += 1;
+    for &[word, old] in entries.iter().rev() {
+        last = restore_entry(lines, persisted, word, old, last);
     }
     last
 }
 
-// From the newest entry to the oldest, so that a line gets the data of its oldest covering entry: first those from the ring's beginning on, then
-// those before its end.
+// From the newest entry to the oldest, so that a line gets the data of its oldest covering entry.
 fn restore(board: &mut [u64], undo: LogState, lines: u64, meter: Meter) -> Meter
     requires { RecoverReady board.old undo lines }
     ensures { Ran board.old meter (restore_all (log_in board.old undo) (lines_at undo.entries)) board.new result }
 {
-    let straight = undo.entries - undo.control.start;
-    if undo.control.length <= straight {
-        let behind = ENTRY_WORDS * (undo.control.start + undo.control.length) as usize;
-        return restore_from(board, undo, lines, behind, 0, undo.control.length, meter);
-    }
-    let turned = undo.control.length - straight;
-    let behind = ENTRY_WORDS * turned as usize;
-    let newer = restore_from(board, undo, lines, behind, 0, turned, meter);
-    let end = ENTRY_WORDS * undo.entries as usize;
-    restore_from(board, undo, lines, end, turned, undo.control.length, newer)
+    let (head, lines) = board.split_at_mut(layout::lines_at(undo.entries));
+    let (older, newer) = stretches(head, undo);
+    let persisted = undo.control.persisted;
+    let newer_restored = restore_in(lines, persisted, newer, meter);
+    restore_in(lines, persisted, older, newer_restored)
 }
 
 // The lines as of the persisted epoch, and only then an empty log.

@@ -1,20 +1,20 @@
-use Rattle.undo.proofs.Reading.{search_straight, search_low, search_early, search_high, search_all}
+use Rattle.std.proofs.Common.{◌≡◌, ◌-◌, length, None, Some}
+use Rattle.std.specs.List.{slice_get}
+use Rattle.undo.proofs.Reading.{search_early, search_none, search_late, both_fit}
 use Rattle.undo.proofs.first_improper.Goals as goal
 
-pub improper_from-requires : goal.improper_from-requires
-improper_from-requires c = search (search_straight)
+pub returns-then-found-older : goal.returns-then-found-older
+returns-then-found-older c = search (search_early)
 
-pub returns-then-undo-straight : goal.returns-then-undo-straight
-returns-then-undo-straight c = search (search_all)
+pub overflow_add-result : goal.overflow_add-result
+overflow_add-result c = search (both_fit)
 
-pub improper_from-found-requires : goal.improper_from-found-requires
-improper_from-found-requires c = search (search_low)
+pub returns-in-None : goal.returns-in-None
+returns-in-None c =
+    let none : None ≡ slice_get c.stretches.result.0.now (length c.stretches.result.0.now - 1) = c.in-None.ensures.value in
+    search (search_none)
 
-pub returns-then-found-straight : goal.returns-then-found-straight
-returns-then-found-straight c = search (search_early)
-
-pub improper_from-requires-2 : goal.improper_from-requires-2
-improper_from-requires-2 c = search (search_high)
-
-pub returns : goal.returns
-returns c = search (search_all)
+pub returns-in-Some : goal.returns-in-Some
+returns-in-Some c =
+    let some : Some c.in-Some.field-0.now ≡ slice_get c.stretches.result.0.now (length c.stretches.result.0.now - 1) = c.in-Some.ensures.value in
+    search (search_late)

@@ -1,9 +1,5 @@
-use Prim.Native.Nat.{◌-◌}
 use Rattle.undo.proofs.Storing.{Putting}
 use Rattle.undo.proofs.put_entries.Given as goal
 
-abbrev pub invariant-loop-i : goal.invariant-loop-i
-invariant-loop-i l = Putting l.initial.log l.buffer l.undo l.initial.last l.log l.last l.at l.i
-
-abbrev pub decreases-loop-i : goal.decreases-loop-i
-decreases-loop-i l = l.undo.buffered - l.i
+abbrev pub invariant-loop-word : goal.invariant-loop-word
+invariant-loop-word l = Putting l.initial.log l.fn.buffer l.fn.undo l.initial.last l.log l.last l.at l.word-index

@@ -1,10 +1,5 @@
 use Rattle.undo.proofs.Filtering.{Counting}
-use Rattle.layout.specs.Memory.{filter_words}
-use Prim.Native.Nat.{◌-◌}
 use Rattle.undo.proofs.filter.bits_set.Given as goal
 
-abbrev pub invariant-loop-k : goal.invariant-loop-k
-invariant-loop-k l = Counting l.buffer l.count l.k
-
-abbrev pub decreases-loop-k : goal.decreases-loop-k
-decreases-loop-k l = filter_words - l.k
+abbrev pub invariant-loop-word : goal.invariant-loop-word
+invariant-loop-word l = Counting l.fn.buffer l.count l.word-index
