@@ -1,66 +1,54 @@
--- Four slots: whether one of them is dirty, and whether all are.
-use Prim.Native.Nat.{ℕ, ◌+◌}
-use mathlib.Core.Path.{◌≡◌, refl, ap, ◌∙◌}
-use mathlib.Core.Bool.{Bool, true, false, ◌&&◌, ◌||◌}
-use mathlib.Core.List.{List}
-use lib.Bits.{bit_and}
-use lib.Dec.{eqb}
+-- Four slots: whether one of them is dirty, and whether all are, from what `any` and `all` tell of a range.
+use Prim.Native.Nat.{ℕ, zero, suc, ◌+◌, ◌<◌}
+use mathlib.Core.Path.{◌≡◌, refl, sym, ap, ap₂, ◌∙◌}
+use mathlib.Core.Bool.{Bool, true, false}
+use mathlib.Core.List.{List, [], ◌∷◌}
+use native.Mathlib.Omega.{arith}
+use lib.ListN.{length, get_or}
+use Rattle.std.specs.Bool.{MatchBool}
+use Rattle.std.specs.List.{range_with_len, AllWithin, HoldsAt}
+use Rattle.std.proofs.Math.Bool.{or-true, and-false}
 use Rattle.base.specs.Several.{all_of, any_of}
-use Rattle.layout.specs.Words.{bit, IsBit}
+use Rattle.layout.specs.Limits.{ways}
 use Rattle.slots.specs.Sets.{slots_from}
-use Rattle.slots.specs.Slots.{dirty_at}
 
--- one law for each way out
+module _ (f : ℕ → Bool) where
+  any_true : (ks : List ℕ) (i : ℕ) → i < length ks → f (get_or ks i 0) ≡ true → any_of f ks ≡ true
+  any_true [] i h e = absurd (omega arith)
+  any_true (k ∷ ks) zero h e = rw e
+  any_true (k ∷ ks) (suc i) h e = rw (any_true ks i (omega arith) e, or-true)
 
-module _ (work : List ℕ) (k : ℕ) (t : Bool) (a : t ≡ dirty_at work k) where
-  abbrev some : Bool
-  some = any_of (dirty_at work) (slots_from k)
+  any_false : (ks : List ℕ) → ((i : ℕ) → i < length ks → f (get_or ks i 0) ≡ false) → any_of f ks ≡ false
+  any_false [] none = refl
+  any_false (k ∷ ks) none = rw (none 0 (omega arith), any_false ks (λ i h. none (suc i) (omega arith)))
 
-  pub dirty_first : t ≡ true → true ≡ some
-  dirty_first h = rw (← a, h)
+  all_false : (ks : List ℕ) (i : ℕ) → i < length ks → f (get_or ks i 0) ≡ false → all_of f ks ≡ false
+  all_false [] i h e = absurd (omega arith)
+  all_false (k ∷ ks) zero h e = rw e
+  all_false (k ∷ ks) (suc i) h e = rw (all_false ks i (omega arith) e, and-false)
 
-  module _ (u : Bool) (b : u ≡ dirty_at work (k + 1)) where
-    pub dirty_second : t ≡ false → u ≡ true → true ≡ some
-    dirty_second h i = rw (← a, ← b, h, i)
+  all_true : (ks : List ℕ) → ((i : ℕ) → i < length ks → f (get_or ks i 0) ≡ true) → all_of f ks ≡ true
+  all_true [] every = refl
+  all_true (k ∷ ks) every = rw (every 0 (omega arith), all_true ks (λ i h. every (suc i) (omega arith)))
 
-    module _ (v : Bool) (c : v ≡ dirty_at work (k + 2)) where
-      pub dirty_third : t ≡ false → u ≡ false → v ≡ true → true ≡ some
-      dirty_third h i j = rw (← a, ← b, ← c, h, i, j)
+  module _ (k : ℕ) where
+    abbrev set : List ℕ
+    set = range_with_len k ways
 
-      module _ (w : Bool) (d : w ≡ dirty_at work (k + 3)) where
-        last_some : (x : Bool) → x ≡ x || false
-        last_some true = refl
-        last_some false = refl
+    set_same : set ≡ slots_from k
+    set_same =
+        let two : k + 1 + 1 ≡ k + 2 = omega arith in
+        let three : k + 1 + 1 + 1 ≡ k + 3 = omega arith in
+        ap₂ (λ (x y : ℕ). k ∷ (k + 1) ∷ x ∷ y ∷ []) two three
 
-        pub dirty_fourth : t ≡ false → u ≡ false → v ≡ false → w ≡ some
-        dirty_fourth h i j = rw (← a, ← b, ← c, ← d, h, i, j) (last_some w)
+    pub any_told : (r : Bool)
+        → MatchBool r ((i : ℕ) × (i < length set) × HoldsAt (λ x. f x ≡ true) set i) (AllWithin (λ x. f x ≡ false) set 0 (length set))
+        → r ≡ any_of f (slots_from k)
+    any_told true told = sym (any_true set told.0 told.1 (told.2 0)) ∙ ap (any_of f) set_same
+    any_told false told = sym (any_false set (λ i h. told i 0 (omega arith) h)) ∙ ap (any_of f) set_same
 
-pub bit_of : (work : List ℕ) (k : ℕ) (t : Bool) (r : ℕ) → t ≡ dirty_at work k → IsBit t r → r ≡ bit (dirty_at work k)
-bit_of work k t r e b = b.is ∙ ap bit e
-
-bits_and : (p q : Bool) → bit_and (bit p) (bit q) ≡ bit (p && q)
-bits_and true true = refl
-bits_and true false = refl
-bits_and false true = refl
-bits_and false false = refl
-
-bits_four : (p q r t : Bool) → eqb (bit (((p && q) && r) && t)) 1 ≡ p && (q && (r && (t && true)))
-bits_four true true true true = refl
-bits_four true true true false = refl
-bits_four true true false t = refl
-bits_four true false r t = refl
-bits_four false q r t = refl
-
-pub all_dirty : (work : List ℕ) (k p q r t : ℕ) → p ≡ bit (dirty_at work k) → q ≡ bit (dirty_at work (k + 1)) → r ≡ bit (dirty_at work (k + 2))
-    → t ≡ bit (dirty_at work (k + 3)) → eqb (bit_and (bit_and (bit_and p q) r) t) 1 ≡ all_of (dirty_at work) (slots_from k)
-all_dirty work k p q r t a b c d =
-    rw (
-      a,
-      b,
-      c,
-      d,
-      bits_and (dirty_at work k) (dirty_at work (k + 1)),
-      bits_and (dirty_at work k && dirty_at work (k + 1)) (dirty_at work (k + 2)),
-      bits_and ((dirty_at work k && dirty_at work (k + 1)) && dirty_at work (k + 2)) (dirty_at work (k + 3)),
-    )
-    (bits_four (dirty_at work k) (dirty_at work (k + 1)) (dirty_at work (k + 2)) (dirty_at work (k + 3)))
+    pub all_told : (r : Bool)
+        → MatchBool r (AllWithin (λ x. f x ≡ true) set 0 (length set)) ((i : ℕ) × (i < length set) × HoldsAt (λ x. f x ≡ false) set i)
+        → r ≡ all_of f (slots_from k)
+    all_told true told = sym (all_true set (λ i h. told i 0 (omega arith) h)) ∙ ap (all_of f) set_same
+    all_told false told = sym (all_false set told.0 told.1 (told.2 0)) ∙ ap (all_of f) set_same

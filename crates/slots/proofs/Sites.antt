@@ -1,5 +1,5 @@
 -- Four slots: what the pass over a set finds.
-use Prim.Native.Nat.{ℕ, ◌+◌, ◌-◌, ◌*◌, ◌/◌, ◌%◌, ◌^◌, ◌<◌, ◌≤◌}
+use Prim.Native.Nat.{ℕ, min, ◌+◌, ◌-◌, ◌*◌, ◌/◌, ◌%◌, ◌^◌, ◌<◌, ◌≤◌}
 use mathlib.Core.Path.{◌≡◌, refl, sym, ap, ◌∙◌}
 use mathlib.Core.Bool.{Bool, true, false, not, cond, ◌&&◌, ◌||◌}
 use mathlib.Core.List.{List, [], ◌∷◌}
@@ -23,13 +23,13 @@ use Rattle.slots.specs.declared.Bounds.{Bounds}
 use Rattle.slots.specs.declared.sets.Line.{Line}
 use Rattle.slots.specs.declared.sets.Sets.{Sets}
 use Rattle.slots.specs.Promises.{SpotReady, TagsReady}
-use Rattle.slots.specs.Passes.{near, SetsOf, Remains, bounds_by, LinesReady, line_of, proper_in, no_line, address_or_none, LineIn, twice_of, lower_of, lowest_of, nowhere, beyond_of, site_by, site_among, site_for}
+use Rattle.slots.specs.Passes.{near, SetsOf, Remains, bounds_by, LinesReady, line_of, proper_in, no_line, address_or_none, LineIn, twice_of, lowest_of, nowhere, beyond_of, site_by, site_among, site_for}
 use Rattle.slots.specs.Sets.{slots_from, places_of, held_twice, proper_set, victim_of, spot_of}
 use Rattle.slots.specs.Slots.{set_of, proper_tag, proper_at, holds}
 use Rattle.slots.proofs.Lines.{proper_in_holds}
 use Rattle.slots.proofs.Victims.{Ranked, is_empty, is_clean, is_dirty, taken_least, whole, lowest_least}
 
-pub lowest_is : (a b c d x y z : ℕ) → z ≡ lower_of (c + 2) (d + 3) → y ≡ lower_of (b + 1) z → x ≡ lower_of a y → x % ways ≡ lowest_of a b c d
+pub lowest_is : (a b c d x y z : ℕ) → z ≡ min (c + 2) (d + 3) → y ≡ min (b + 1) z → x ≡ min a y → x % ways ≡ lowest_of a b c d
 lowest_is a b c d x y z p q r = rw (r, q, p)
 
 module _ (first address : ℕ) (a b c d : Line) where

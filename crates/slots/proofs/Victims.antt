@@ -1,10 +1,10 @@
 -- The victim of a set, the slot that an incoming line takes, is the one with the lowest form, the first of equals.
-use Prim.Native.Nat.{ℕ, ◌+◌, ◌-◌, ◌*◌, ◌%◌, ◌^◌, ◌<◌, ◌≤◌}
+use Prim.Native.Nat.{ℕ, min, ◌+◌, ◌-◌, ◌*◌, ◌%◌, ◌^◌, ◌<◌, ◌≤◌}
 use mathlib.Core.Path.{◌≡◌, refl, sym, ◌∙◌}
 use mathlib.Core.Bool.{Bool, true, false, cond, ◌||◌, false≢true}
 use mathlib.Core.List.{List, [], ◌∷◌}
 use native.Mathlib.Omega.{arith}
-use borrow.Author.Tests.{leb-true, leb-false, lt-ltb, le-ltb, le-leb, lt-leb, ne_eqb, eqb-true, eqb-false}
+use borrow.Author.Tests.{leb-true, leb-false, le-leb, lt-leb, ne_eqb, eqb-true, eqb-false}
 use lib.Dec.{leb, eqb}
 use Rattle.base.specs.Every.{Every, every_map}
 use Rattle.base.specs.Several.{any_of, first_of, first_holds, first_none}
@@ -12,7 +12,7 @@ use Rattle.base.specs.Tests.{hold_together}
 use Rattle.layout.specs.Limits.{ways, spare_bits}
 use Rattle.layout.specs.Memory.{slot_in}
 use Rattle.layout.specs.SlotTests.{slot_form}
-use Rattle.slots.specs.Passes.{lower_of, lowest_of}
+use Rattle.slots.specs.Passes.{lowest_of}
 use Rattle.slots.specs.Sets.{empty_at, clean_at, smallest_tag, victim_of}
 
 -- the lowest, the first of equals
@@ -160,16 +160,18 @@ module _ (f : ℕ → ℕ) (k : ℕ) where
     pub to : x < k + ways
     pub multiple : f x % ways ≡ 0
 
-  names_lower : (x y n m : ℕ) → Names x n → Names y m → x < y → Names (cond (leb (f x) (f y)) x y) (lower_of n m)
+  names_lower : (x y n m : ℕ) → Names x n → Names y m → x < y → Names (cond (leb (f x) (f y)) x y) (min n m)
   names_lower x y n m p q before = go (leb (f x) (f y)) refl
     where
-      go : (t : Bool) → leb (f x) (f y) ≡ t → Names (cond t x y) (lower_of n m)
+      go : (t : Bool) → leb (f x) (f y) ≡ t → Names (cond t x y) (min n m)
       go true e =
           let l = leb-true (f x) (f y) e in
-          rw (le-ltb m n (omega (arith, p, q))) p
+          let least : min n m ≡ n = omega (arith, p, q) in
+          rw least p
       go false e =
           let l = leb-false (f x) (f y) e in
-          rw (lt-ltb m n (omega (arith, p, q))) q
+          let least : min n m ≡ m = omega (arith, p, q) in
+          rw least q
 
   least_after : (x y : ℕ) (t : Bool) (z : ℕ) → z < x → z < y → z < cond t x y
   least_after x y true z p q = p
@@ -184,8 +186,8 @@ module _ (f : ℕ → ℕ) (k : ℕ) where
       let fourth : Names (k + 3) (f (k + 3) + 3) = record { is = omega arith; from = omega arith; to = omega arith; multiple = d } in
       let last = least_by f (k + 2) ((k + 3) ∷ []) in
       let rest = least_by f (k + 1) ((k + 2) ∷ (k + 3) ∷ []) in
-      let m = lower_of (f (k + 2) + 2) (f (k + 3) + 3) in
-      let n = lower_of (f (k + 1) + 1) m in
+      let m = min (f (k + 2) + 2) (f (k + 3) + 3) in
+      let n = min (f (k + 1) + 1) m in
       let behind = least_after (k + 2) (k + 3) (leb (f (k + 2)) (f (k + 3))) in
       let two : Names last m = names_lower (k + 2) (k + 3) (f (k + 2) + 2) (f (k + 3) + 3) third fourth (omega arith) in
       let three : Names rest n = names_lower (k + 1) last (f (k + 1) + 1) m second two (behind (k + 1) (omega arith) (omega arith)) in

@@ -1,5 +1,5 @@
 -- What the pass over a set answers, step by step.
-use Rattle.std.specs.Prelude.{ℕ, ◌+◌, ◌-◌, ◌*◌, ◌/◌, ◌%◌, ◌^◌, ◌<◌, ◌≤◌, ◌≡◌, Bool, true, cond, ◌&&◌, ◌||◌, not, List, ltb, eqb}
+use Rattle.std.specs.Prelude.{ℕ, ◌+◌, ◌-◌, ◌*◌, ◌/◌, ◌%◌, ◌^◌, ◌<◌, ◌≤◌, ◌≡◌, Bool, true, cond, ◌&&◌, ◌||◌, not, List, ltb, eqb, min}
 use Rattle.std.specs.Int.Bits.{bit_or}
 use Rattle.layout.specs.Limits.{address_bits, ways, most_slots}
 use Rattle.layout.specs.SlotTests.{slot_form}
@@ -81,11 +81,8 @@ pub record LineIn (b : Bounds) (set way word : ℕ) (r : Line) : Type 0 where
 abbrev pub twice_of : (a b c d : ℕ) → Bool
 twice_of a b c d = (eqb b a || (eqb c a || eqb d a)) || ((eqb c b || eqb d b) || eqb d c)
 
-abbrev pub lower_of : ℕ → ℕ → ℕ
-lower_of x y = cond (ltb y x) y x
-
 abbrev pub lowest_of : (a b c d : ℕ) → ℕ
-lowest_of a b c d = lower_of a (lower_of (b + 1) (lower_of (c + 2) (d + 3))) % ways
+lowest_of a b c d = min a (min (b + 1) (min (c + 2) (d + 3))) % ways
 
 -- a spot as one number, and one that is none
 abbrev pub site_of : Spot → ℕ

@@ -3,10 +3,9 @@ ghost use Rattle.std.specs.Prelude.{◌+◌, ◌-◌, ◌*◌, ◌^◌, ◌<◌,
 ghost use Rattle.base.specs.Several.{all_of, any_of};
 ghost use Rattle.layout.specs.Limits.{address_bits, ways, most_slots};
 ghost use Rattle.layout.specs.Memory.{slot_at, slot_words};
-ghost use Rattle.layout.specs.Words.{bit};
 ghost use Rattle.layout.specs.Sizes.{WholeSets};
 ghost use Rattle.slots.specs.Promises.{SpotReady, TagsReady};
-ghost use Rattle.slots.specs.Passes.{near, Dividing, SetsOf, fraction_of, Remains, bounds_by, LinesReady, lineless, LineIn, twice_of, lower_of, lowest_of};
+ghost use Rattle.slots.specs.Passes.{near, Dividing, SetsOf, fraction_of, Remains, bounds_by, LinesReady, lineless, LineIn, twice_of, lowest_of};
 ghost use Rattle.slots.specs.Passes.{nowhere, spot_at, first_slot_of, site_by, site_among, site_for};
 ghost use Rattle.slots.specs.Sets.{slots_from};
 ghost use Rattle.slots.specs.Slots.{dirty_at};
@@ -105,31 +104,7 @@ fn line_in(word: u64, lines: u64, least: u64, tags: u64, sets: Sets, away: u64, 
 fn is_twice(a: u64, b: u64, c: u64, d: u64) -> bool
     ensures { result ≡ twice_of a b c d }
 {
-    if b == a {
-        return true;
-    }
-    if c == a {
-        return true;
-    }
-    if d == a {
-        return true;
-    }
-    if c == b {
-        return true;
-    }
-    if d == b {
-        return true;
-    }
-    d == c
-}
-
-fn lower(x: u64, y: u64) -> u64
-    ensures { result ≡ lower_of x y }
-{
-    if y < x {
-        return y;
-    }
-    x
+    b == a || c == a || d == a || c == b || d == b || d == c
 }
 
 // The slot of a set that an incoming line takes, the victim. The forms have no last bits of their own, so that these tell the slots apart.
@@ -139,7 +114,8 @@ fn lowest(a: u64, b: u64, c: u64, d: u64) -> usize
     requires d_bound { d + 3 < 2 ^ 64 }
     ensures { result ≡ lowest_of a b c d }
 {
-    (lower(a, lower(b + 1, lower(c + 2, d + 3))) % WAYS as u64) as usize
+    let first_of_least = a.min((b + 1).min((c + 2).min(d + 3)));
+    (first_of_least % WAYS as u64) as usize
 }
 
 // A spot as one number: the slot, doubled, and one more where the line is held.
@@ -246,33 +222,13 @@ pub fn is_any_dirty(work: &[u64], first: usize) -> bool
     requires { slot_at (first + ways) ≤ length work.now }
     ensures { result ≡ any_of (dirty_at work.now) (slots_from first) }
 {
-    if is_dirty_at(work, first) {
-        return true;
-    }
-    if is_dirty_at(work, first + 1) {
-        return true;
-    }
-    if is_dirty_at(work, first + 2) {
-        return true;
-    }
-    is_dirty_at(work, first + 3)
+    (first..first + WAYS).any(|k| is_dirty_at(work, k))
 }
 
-fn dirty_bit(work: &[u64], k: usize) -> u64
-    requires { slot_at k + slot_words ≤ length work.now }
-    ensures { result ≡ bit (dirty_at work.now k) }
-{
-    layout::bit(is_dirty_at(work, k))
-}
-
-// Whether each of four slots is dirty: one test of all four words.
+// Whether each of four slots is dirty.
 pub fn is_all_dirty(work: &[u64], first: usize) -> bool
     requires { slot_at (first + ways) ≤ length work.now }
     ensures { result ≡ all_of (dirty_at work.now) (slots_from first) }
 {
-    dirty_bit(work, first)
-        & dirty_bit(work, first + 1)
-        & dirty_bit(work, first + 2)
-        & dirty_bit(work, first + 3)
-        == 1
+    (first..first + WAYS).all(|k| is_dirty_at(work, k))
 }

@@ -13,7 +13,6 @@ ghost use Rattle.steps.specs.Effects.{loading, storing, evicting, cleaning, visi
 ghost use Rattle.steps.specs.Promises.{Acts, Carries, SlotReady, FillReady, StoreHeldReady, StoreAbsentReady};
 ghost use Rattle.steps.specs.Promises.{Logs, LogReady, logging_store, LogStoreReady, Window, StoreReady, PersistReady};
 
-use board::Meter;
 use layout::{BUFFER_PLACES, Entry, SLOT_WORDS, Slot};
 use slots::Spot;
 use undo::{LogState, Progress};
@@ -55,99 +54,83 @@ fn push_entry(work: &mut [u64], undo: LogState, entry: Entry, old: u64) -> LogSt
 fn log_store(
     board: &mut [u64],
     work: &mut [u64],
-    undo: LogState,
+    progress: Progress,
     k: usize,
     entry: Entry,
     old: u64,
     value: u64,
-    meter: Meter,
 ) -> Progress
-    requires { LogStoreReady board.old work.old undo k entry }
-    ensures { Acts board.old meter (logging_store undo work.old k entry old value) board.new work.new result }
+    requires { LogStoreReady board.old work.old progress.undo k entry }
+    ensures { Acts board.old progress.meter (logging_store progress.undo work.old k entry old value) board.new work.new result }
 {
-    let counted = push_entry(work, undo, entry, old);
-    base::set_pair(
-        work,
-        SLOT_WORDS * k,
-        slots::dirty_word(entry.address, entry.till),
-        value,
-    );
-    moves::flush_if(
-        counted.buffered == BUFFER_PLACES as u64,
-        board,
-        work,
-        counted,
-        meter,
-    )
+    let undo = push_entry(work, progress.undo, entry, old);
+    let word = slots::dirty_word(entry.address, entry.till);
+    base::set_pair(work, SLOT_WORDS * k, word, value);
+    let full = undo.buffered == BUFFER_PLACES as u64;
+    moves::flush_if(full, board, work, Progress { undo, ..progress })
 }
 
 // A store to the line that slot k holds.
 fn store_held(
     board: &mut [u64],
     work: &mut [u64],
-    undo: LogState,
+    progress: Progress,
     k: usize,
     address: u64,
     epoch: u64,
     value: u64,
-    meter: Meter,
 ) -> Progress
-    requires { StoreHeldReady board.old work.old undo k address epoch }
-    ensures { Acts board.old meter (storing_held undo work.old k address epoch value) board.new work.new result }
+    requires { StoreHeldReady board.old work.old progress.undo k address epoch }
+    ensures { Acts board.old progress.meter (storing_held progress.undo work.old k address epoch value) board.new work.new result }
 {
     let slot = slots::slot_at(work, k);
     if !slots::is_entry_due(slot, epoch) {
-        base::set_pair(
-            work,
-            SLOT_WORDS * k,
-            slots::dirty_word(address, epoch),
-            value,
-        );
-        return Progress { undo, meter };
+        let word = slots::dirty_word(address, epoch);
+        base::set_pair(work, SLOT_WORDS * k, word, value);
+        return progress;
     }
-    let entry = entry_for(slot, undo.control.persisted, epoch, address);
+    let entry = entry_for(slot, progress.undo.control.persisted, epoch, address);
     let old = work[SLOT_WORDS * k + 1];
-    log_store(board, work, undo, k, entry, old, value, meter)
+    log_store(board, work, progress, k, entry, old, value)
 }
 
 // A store to a line that slot k takes from the board: what `store_held` does once the slot is filled, without filling it.
 fn store_absent(
     board: &mut [u64],
     work: &mut [u64],
-    undo: LogState,
+    progress: Progress,
     k: usize,
     address: u64,
     epoch: u64,
     value: u64,
-    meter: Meter,
 ) -> Progress
-    requires { StoreAbsentReady board.old work.old undo k address epoch }
-    ensures { Acts board.old meter
-        (storing_held undo (filled work.old k address (line_in board.old undo address)) k address epoch value) board.new work.new result }
+    requires { StoreAbsentReady board.old work.old progress.undo k address epoch }
+    ensures { Acts board.old progress.meter
+        (storing_held progress.undo (filled work.old k address (line_in board.old progress.undo address)) k address epoch value)
+        board.new work.new result }
 {
-    let at = layout::lines_at(undo.entries) + address as usize;
+    let at = layout::lines_at(progress.undo.entries) + address as usize;
     let old = board[at];
-    let entry = entry_between(address, undo.control.persisted, epoch);
-    log_store(board, work, undo, k, entry, old, value, meter)
+    let entry = entry_between(address, progress.undo.control.persisted, epoch);
+    log_store(board, work, progress, k, entry, old, value)
 }
 
 // The line of slot k to the board, and clean from then on.
 fn clean(
     board: &mut [u64],
     work: &mut [u64],
-    undo: LogState,
+    progress: Progress,
     k: usize,
     address: u64,
-    meter: Meter,
 ) -> Progress
-    requires slot_ready { SlotReady board.old work.old undo k }
+    requires slot_ready { SlotReady board.old work.old progress.undo k }
     requires address_value { address ≡ (slot_in work.old k).address }
     requires address_bound { address < 2 ^ address_bits }
-    ensures { Acts board.old meter (cleaning undo work.old k) board.new work.new result }
+    ensures { Acts board.old progress.meter (cleaning progress.undo work.old k) board.new work.new result }
 {
     let at = SLOT_WORDS * k;
     let value = work[at + 1];
-    let done = moves::write_out(board, work, undo, address, value, meter);
+    let done = moves::write_out(board, work, progress, address, value);
     work[at] = slots::clean_word(address);
     done
 }
@@ -156,63 +139,50 @@ fn clean(
 pub fn visit(
     board: &mut [u64],
     work: &mut [u64],
-    undo: LogState,
+    progress: Progress,
     k: usize,
     target: u64,
-    meter: Meter,
 ) -> Progress
-    requires { SlotReady board.old work.old undo k }
-    ensures { Acts board.old meter (visiting undo work.old k target) board.new work.new result }
+    requires { SlotReady board.old work.old progress.undo k }
+    ensures { Acts board.old progress.meter (visiting progress.undo work.old k target) board.new work.new result }
 {
     let slot = slots::slot_at(work, k);
     if !slot.dirty {
-        return Progress { undo, meter };
+        return progress;
     }
     if slot.tag > target {
-        return Progress { undo, meter };
+        return progress;
     }
-    clean(board, work, undo, k, slot.address, meter)
+    clean(board, work, progress, k, slot.address)
 }
 
 // A scan's last step: the buffer to the log, and then the control word with the target as persisted epoch.
-pub fn persist(
-    board: &mut [u64],
-    work: &mut [u64],
-    undo: LogState,
-    target: u64,
-    meter: Meter,
-) -> Progress
-    requires { PersistReady board.old work.old undo target }
-    ensures { Carries board.old meter (persisting board.old undo work.old target) board.new work.new result }
+pub fn persist(board: &mut [u64], work: &mut [u64], progress: Progress, target: u64) -> Progress
+    requires { PersistReady board.old work.old progress.undo target }
+    ensures { Carries board.old progress.meter (persisting board.old progress.undo work.old target) board.new work.new result }
 {
-    let flushed = moves::flush_if(true, board, work, undo, meter);
-    let after = flushed.undo;
-    let left = flushed.meter;
-    let advanced = undo::advance(board, after, target, left);
-    Progress {
-        undo: after,
-        meter: advanced,
-    }
+    let flushed = moves::flush_if(true, board, work, progress);
+    let meter = undo::advance(board, flushed.undo, target, flushed.meter);
+    Progress { meter, ..flushed }
 }
 
 // The line at an address in its slot.
 pub fn load(
     board: &mut [u64],
     work: &mut [u64],
-    undo: LogState,
+    progress: Progress,
     address: u64,
     spot: Spot,
-    meter: Meter,
 ) -> Progress
-    requires { FillReady board.old work.old undo spot.slot address }
-    ensures { Carries board.old meter (loading board.old undo work.old address spot) board.new work.new result }
+    requires { FillReady board.old work.old progress.undo spot.slot address }
+    ensures { Carries board.old progress.meter (loading board.old progress.undo work.old address spot) board.new work.new result }
 {
     if spot.held {
-        return Progress { undo, meter };
+        return progress;
     }
     let slot = slots::slot_at(work, spot.slot);
-    let left = moves::write_back(board, work, undo, spot.slot, slot, meter);
-    moves::fill(board, work, undo, spot.slot, address);
+    let left = moves::write_back(board, work, progress, spot.slot, slot);
+    moves::fill(board, work, progress.undo, spot.slot, address);
     left
 }
 
@@ -220,39 +190,30 @@ pub fn load(
 pub fn store(
     board: &mut [u64],
     work: &mut [u64],
-    undo: LogState,
+    progress: Progress,
     address: u64,
     spot: Spot,
     epoch: u64,
     value: u64,
-    meter: Meter,
 ) -> Progress
-    requires { StoreReady board.old work.old undo address spot epoch }
-    ensures { Carries board.old meter (storing board.old undo work.old address spot epoch value) board.new work.new result }
+    requires { StoreReady board.old work.old progress.undo address spot epoch }
+    ensures { Carries board.old progress.meter (storing board.old progress.undo work.old address spot epoch value) board.new work.new result }
 {
     if spot.held {
-        return store_held(board, work, undo, spot.slot, address, epoch, value, meter);
+        return store_held(board, work, progress, spot.slot, address, epoch, value);
     }
     let slot = slots::slot_at(work, spot.slot);
-    let left = moves::write_back(board, work, undo, spot.slot, slot, meter);
-    let after = left.undo;
-    let rest = left.meter;
-    store_absent(board, work, after, spot.slot, address, epoch, value, rest)
+    let left = moves::write_back(board, work, progress, spot.slot, slot);
+    store_absent(board, work, left, spot.slot, address, epoch, value)
 }
 
 // An empty slot where the line at an address was held.
-pub fn evict(
-    board: &mut [u64],
-    work: &mut [u64],
-    undo: LogState,
-    spot: Spot,
-    meter: Meter,
-) -> Progress
-    requires { SlotReady board.old work.old undo spot.slot }
-    ensures { Acts board.old meter (evicting undo work.old spot) board.new work.new result }
+pub fn evict(board: &mut [u64], work: &mut [u64], progress: Progress, spot: Spot) -> Progress
+    requires { SlotReady board.old work.old progress.undo spot.slot }
+    ensures { Acts board.old progress.meter (evicting progress.undo work.old spot) board.new work.new result }
 {
     if !spot.held {
-        return Progress { undo, meter };
+        return progress;
     }
-    moves::empty(board, work, undo, spot.slot, meter)
+    moves::empty(board, work, progress, spot.slot)
 }

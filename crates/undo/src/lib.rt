@@ -295,22 +295,19 @@ fn put_entries(log: &mut [u64], buffer: &[u64], undo: LogState, meter: Meter) ->
 }
 
 // The buffer to the board's log: the entries before the control word that counts them.
-pub fn flush(board: &mut [u64], buffer: &mut [u64], undo: LogState, meter: Meter) -> Progress
-    requires { FlushReady board.old buffer.old undo }
-    ensures { Flushes board.old buffer.old undo meter board.new buffer.new result }
+pub fn flush(board: &mut [u64], buffer: &mut [u64], progress: Progress) -> Progress
+    requires { FlushReady board.old buffer.old progress.undo }
+    ensures { Flushes board.old buffer.old progress.undo progress.meter board.new buffer.new result }
 {
-    if undo.buffered == 0 {
-        return Progress { undo, meter };
+    if progress.undo.buffered == 0 {
+        return progress;
     }
-    let entries_put = put_entries(&mut board[LOG_AT..], buffer, undo, meter);
-    let after = undo.flushed();
-    let control = after.control;
-    let all_put = board::put(board, CONTROL_AT, control.encode(), entries_put);
+    let entries_put = put_entries(&mut board[LOG_AT..], buffer, progress.undo, progress.meter);
+    let undo = progress.undo.flushed();
+    let control = undo.control;
+    let meter = board::put(board, CONTROL_AT, control.encode(), entries_put);
     base::clear(buffer);
-    Progress {
-        undo: after,
-        meter: all_put,
-    }
+    Progress { undo, meter }
 }
 
 // The control word with the target as persisted epoch and the run of entries dropped that it makes useless.

@@ -1,4 +1,3 @@
-use Rattle.std.proofs.Common.{rules}
 use Rattle.steps.proofs.StoringHeld.{held_again, held_tagged, held_log_ready, held_logged}
 use Rattle.steps.proofs.store_held.Goals as goal
 

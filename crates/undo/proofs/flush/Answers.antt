@@ -1,8 +1,8 @@
 use Rattle.undo.proofs.Storing.{flush_none, flush_some, flush_control}
 use Rattle.undo.proofs.flush.Goals as goal
 
-pub returns-then-undo-eq0 : goal.returns-then-undo-eq0
-returns-then-undo-eq0 c = search (flush_none)
+pub returns-then-progress-eq0 : goal.returns-then-progress-eq0
+returns-then-progress-eq0 c = search (flush_none)
 
 pub encode-requires : goal.encode-requires
 encode-requires c = search (flush_control)

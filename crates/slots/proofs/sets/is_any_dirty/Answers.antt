@@ -1,14 +1,14 @@
-use Rattle.slots.proofs.Dirty.{dirty_first, dirty_second, dirty_third, dirty_fourth}
+use Rattle.std.proofs.Common.{◌≡◌, ◌+◌, refl, true, false, rules}
+use native.Mathlib.Omega.{arith}
+use borrow.Author.Tests.{tests}
+use Rattle.std.proofs.lemmas.Iterator.{cases_from_any, YieldsList-from_range}
+use Rattle.layout.specs.Limits.{ways}
+use Rattle.slots.specs.Slots.{dirty_at}
+use Rattle.slots.proofs.Dirty.{any_told}
 use Rattle.slots.proofs.sets.is_any_dirty.Goals as goal
 
-pub returns-then-is_dirty_at : goal.returns-then-is_dirty_at
-returns-then-is_dirty_at c = search (dirty_first)
-
-pub returns-then-is_dirty_at-2 : goal.returns-then-is_dirty_at-2
-returns-then-is_dirty_at-2 c = search (dirty_second)
-
-pub returns-then-is_dirty_at-3 : goal.returns-then-is_dirty_at-3
-returns-then-is_dirty_at-3 c = search (dirty_third)
-
 pub returns : goal.returns
-returns c = search (dirty_fourth)
+returns c =
+    any_told (dirty_at c.args.work.now) c.args.first c.any.result
+    (cases_from_any _ _ _ (λ x. dirty_at c.args.work.now x ≡ true) (λ x. dirty_at c.args.work.now x ≡ false) c.any.ensures.ran
+    (YieldsList-from_range c.args.first (c.args.first + ways) ways refl (omega arith)) (λ x q k. search (rules, tests)) (λ x q k. search (rules, tests)))
