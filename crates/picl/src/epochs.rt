@@ -18,7 +18,7 @@ use crate::{Answer, finish, finish_slot, refused};
 use board::Meter;
 use checks::{Registers, View};
 use status::Status;
-use undo::LogState;
+use undo::{LogState, Progress};
 
 fn commit_passed(registers: Registers) -> Answer
     requires { registers.epoch ≤ last_epoch }
@@ -82,7 +82,11 @@ fn visit_at(
     ensures { Answers allowance registers board.old work.old
         (due (carried_at 0 next work.old k (visiting undo work.old k target))) board.new work.new result }
 {
-    let done = steps::visit(board, work, undo, k, target, Meter::new(allowance));
+    let progress = Progress {
+        undo,
+        meter: Meter::new(allowance),
+    };
+    let done = steps::visit(board, work, progress, k, target);
     finish_slot(work, k, was, done, allowance, 0, next)
 }
 
@@ -100,7 +104,11 @@ fn persist_at(
     ensures { Answers allowance registers board.old work.old
         (due (carried target next (persisting board.old undo work.old target))) board.new work.new result }
 {
-    let done = steps::persist(board, work, undo, target, Meter::new(allowance));
+    let progress = Progress {
+        undo,
+        meter: Meter::new(allowance),
+    };
+    let done = steps::persist(board, work, progress, target);
     let meter = done.meter;
     finish(work, meter, allowance, target, next.leaving(done))
 }

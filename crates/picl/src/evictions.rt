@@ -12,7 +12,7 @@ use crate::{Answer, finish_slot, refused};
 use board::Meter;
 use checks::{Registers, View};
 use slots::Spot;
-use undo::LogState;
+use undo::{LogState, Progress};
 
 fn evict_at(
     board: &mut [u64],
@@ -27,7 +27,11 @@ fn evict_at(
     requires found { Found work.old registers spot.slot was }
     ensures { Answers allowance registers board.old work.old (due (evict_at work.old registers undo spot)) board.new work.new result }
 {
-    let done = steps::evict(board, work, undo, spot, Meter::new(allowance));
+    let progress = Progress {
+        undo,
+        meter: Meter::new(allowance),
+    };
+    let done = steps::evict(board, work, progress, spot);
     let held = layout::bit(spot.held);
     finish_slot(work, spot.slot, was, done, allowance, held, registers)
 }

@@ -15,7 +15,7 @@ use board::Meter;
 use checks::{Registers, View};
 use layout::SLOT_WORDS;
 use slots::Spot;
-use undo::LogState;
+use undo::{LogState, Progress};
 
 fn load_at(
     board: &mut [u64],
@@ -33,7 +33,11 @@ fn load_at(
         (due (load_at board.old work.old registers undo address spot)) board.new work.new result }
 {
     let at = SLOT_WORDS * spot.slot + 1;
-    let done = steps::load(board, work, undo, address, spot, Meter::new(allowance));
+    let progress = Progress {
+        undo,
+        meter: Meter::new(allowance),
+    };
+    let done = steps::load(board, work, progress, address, spot);
     let value = work[at];
     finish_slot(work, spot.slot, was, done, allowance, value, registers)
 }

@@ -12,7 +12,7 @@ use crate::{Answer, finish_slot, refused};
 use board::Meter;
 use checks::{Registers, View};
 use slots::Spot;
-use undo::LogState;
+use undo::{LogState, Progress};
 
 fn store_at(
     board: &mut [u64],
@@ -30,16 +30,11 @@ fn store_at(
     ensures { Answers allowance registers board.old work.old
         (due (store_at board.old work.old registers undo address spot value)) board.new work.new result }
 {
-    let done = steps::store(
-        board,
-        work,
+    let progress = Progress {
         undo,
-        address,
-        spot,
-        registers.epoch,
-        value,
-        Meter::new(allowance),
-    );
+        meter: Meter::new(allowance),
+    };
+    let done = steps::store(board, work, progress, address, spot, registers.epoch, value);
     finish_slot(work, spot.slot, was, done, allowance, 0, registers)
 }
 
