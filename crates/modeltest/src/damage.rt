@@ -1,139 +1,136 @@
 // States that no list leads to: a word of the board, of the slots, of the buffer or of the filter, a
 // register or a length is not as the calls have left it.
-use crate::edges::{EDGES, edge};
-use crate::packing::*;
-use crate::random::*;
-use crate::register_words::*;
-use crate::sides::*;
+ghost use Rattle.std.specs.Prelude.{◌<◌, length};
 
-// A word that is a copy of another, has one bit the other way round, is any word, or has a number at which
-// a test turns in one of its fields.
-fn changed(s: State, old: u64, other: u64, word_kind: u64, seed: u64) -> u64 {
-    match below(seed, CHANGE, 10) {
-        0 => other,
-        1 | 2 => old ^ (1 << below(seed, BIT, 64) % 64),
-        3 => word(seed, BIT),
-        _ => replaced(
-            old,
-            field_in(word_kind, below(seed, FIELD, MOST_FIELDS)),
-            edge(s, below(seed, EDGE, EDGES)),
-        ),
+use crate::edges::edges;
+use crate::memories::index;
+use crate::packing::*;
+use crate::random::{Purpose, Seed};
+use crate::sides::{BUFFERED, REGISTERS, State};
+
+// What becomes of a word: it is a copy of another, has one bit the other way round, is any word, or has a number
+// at which a test turns in one of its fields.
+#[derive(Clone, Copy)]
+pub struct Damage {
+    pub seed: Seed,
+    pub field: Field,
+    pub edge: u64,
+}
+
+impl Damage {
+    // Of a word with these fields. They are numbered as those of the word that has most; past its last one a word's
+    // last is meant again.
+    fn of(s: &State, fields: &[Field], seed: Seed) -> Damage
+        requires { 0 < length fields.now }
+    {
+        let field = seed.below(Purpose::Field, SLOT.len() as u64) as usize;
+        Damage {
+            seed,
+            field: fields[field.min(fields.len() - 1)],
+            edge: seed.pick(Purpose::Edge, &edges(s)),
+        }
+    }
+
+    // To the word at a place; the other has one too.
+    pub fn make(self, words: &mut [u64], place: u64, other: u64)
+        requires { 0 < length words.old }
+    {
+        let copy = words[index(other, words.len())];
+        let at = index(place, words.len());
+        words[at] = match self.seed.below(Purpose::Change, 10) {
+            0 => copy,
+            1 | 2 => self.seed.flipped(words[at]),
+            3 => self.seed.word(Purpose::Bit),
+            _ => self.field.replaced(words[at], self.edge),
+        };
     }
 }
 
-fn with_board_word(s: State, place: u64, other: u64, word_kind: u64, seed: u64) -> State {
-    let at = index(place, BOARD_ROOM);
-    let from = index(other, BOARD_ROOM);
-    let word = changed(s, s.board[at], s.board[from], word_kind, seed);
-    let mut next = s;
-    next.board[at] = word;
-    next
+fn damage_entry(s: &mut State, seed: Seed) {
+    let entries = s.entries();
+    let place = entry_place(seed.below(Purpose::Place, entries));
+    let other = entry_place(seed.below(Purpose::OtherPlace, entries));
+    Damage::of(s, &New::ENTRY, seed).make(&mut s.board.room, place, other);
 }
 
-fn with_work_word(s: State, place: u64, other: u64, word_kind: u64, seed: u64) -> State {
-    let at = index(place, WORK_ROOM);
-    let from = index(other, WORK_ROOM);
-    let word = changed(s, s.work[at], s.work[from], word_kind, seed);
-    let mut next = s;
-    next.work[at] = word;
-    next
-}
-
-fn with_entry(s: State, seed: u64) -> State {
-    let entries = entries_of(s.board[SHAPE]);
-    let place = entry_place(below(seed, PLACE, entries));
-    let other = entry_place(below(seed, OTHER_PLACE, entries));
-    with_board_word(s, place, other, ENTRY_WORD, seed)
-}
-
-fn with_slot(s: State, seed: u64) -> State {
-    let slots = slots_in(s.work_words);
-    let place = slot_place(below(seed, PLACE, slots));
-    let other = slot_place(below(seed, OTHER_PLACE, slots));
-    with_work_word(s, place, other, SLOT_WORD, seed)
+fn damage_slot(s: &mut State, seed: Seed) {
+    let slots = s.slots();
+    let place = slot_place(seed.below(Purpose::Place, slots));
+    let other = slot_place(seed.below(Purpose::OtherPlace, slots));
+    Damage::of(s, &SLOT, seed).make(&mut s.work.room, place, other);
 }
 
 // Of the entries that are buffered, or of the one behind them.
-fn with_buffered(s: State, seed: u64) -> State {
-    let slots = slots_in(s.work_words);
-    let count = sum(s.registers[BUFFERED] % BUFFER_ENTRIES, 1);
-    let place = buffer_place(slots, below(seed, PLACE, count));
-    let other = buffer_place(slots, below(seed, OTHER_PLACE, count));
-    with_work_word(s, place, other, ENTRY_WORD, seed)
+fn damage_buffered(s: &mut State, seed: Seed) {
+    let slots = s.slots();
+    let count = s.registers[BUFFERED] % BUFFER_ENTRIES + 1;
+    let place = buffer_place(slots, seed.below(Purpose::Place, count));
+    let other = buffer_place(slots, seed.below(Purpose::OtherPlace, count));
+    Damage::of(s, &New::ENTRY, seed).make(&mut s.work.room, place, other);
 }
-
-// A work memory with other words from a place on: any, or where the mask says so all ones.
-pub fn filled(work: [u64; WORK_ROOM], first: u64, mask: u64, seed: u64) -> [u64; WORK_ROOM] {
-    let mut next = work;
-    for i in at_most(first, WORK_ROOM)..WORK_ROOM {
-        next[i] = hashed(sum(seed, i as u64)) | mask;
-    }
-    next
-}
-
-const EVERY_BIT: u64 = 0xFFFFFFFFFFFFFFFF;
 
 // One word of the filter; one in four times every bit of it is set.
-fn with_filter(s: State, seed: u64) -> State {
-    let slots = slots_in(s.work_words);
-    if !once_in(seed, OTHER_PLACE, 4) {
-        let place = filter_place(slots, below(seed, PLACE, FILTER_WORDS));
-        return with_work_word(s, place, place, FILTER_WORD, seed);
-    }
-    let old = s.work;
-    let work = filled(old, filter_place(slots, 0), EVERY_BIT, seed);
-    let mut next = s;
-    next.work = work;
-    next
-}
-
-fn with_register(s: State, seed: u64) -> State {
-    let at = index(below(seed, PLACE, REGISTERS as u64), REGISTERS);
-    let from = index(below(seed, OTHER_PLACE, REGISTERS as u64), REGISTERS);
-    let word = changed(s, s.registers[at], s.registers[from], REGISTER_WORD, seed);
-    let mut next = s;
-    next.registers[at] = word;
-    next
-}
-
-fn other_length(words: u64, room: usize, seed: u64) -> u64 {
-    match below(seed, CHANGE, 4) {
-        0 => sum(words, below(seed, BIT, 9)),
-        1 => difference(words, below(seed, BIT, 9)),
-        2 => below(seed, BIT, 4),
-        _ => below(seed, BIT, room as u64),
-    }
-}
-
-fn with_length(s: State, seed: u64) -> State {
-    let mut next = s;
-    if once_in(seed, PLACE, 2) {
-        next.board_words = other_length(s.board_words, BOARD_ROOM, seed);
+fn damage_filter(s: &mut State, seed: Seed) {
+    let slots = s.slots();
+    if seed.once_in(Purpose::OtherPlace, 4) {
+        let filter = (filter_place(slots, 0) as usize).min(WORK_ROOM);
+        s.work.room[filter..].fill(u64::MAX);
     } else {
-        next.work_words = other_length(s.work_words, WORK_ROOM, seed);
+        let place = filter_place(slots, seed.below(Purpose::Place, FILTER_WORDS));
+        Damage::of(s, &WHOLE, seed).make(&mut s.work.room, place, place);
     }
-    next
 }
 
-fn damaged_once(s: State, seed: u64) -> State {
-    match below(seed, REGION, 16) {
-        0 | 1 => with_board_word(s, CONTROL as u64, SHAPE as u64, CONTROL_WORD, seed),
-        2 => with_board_word(s, SHAPE as u64, CONTROL as u64, SHAPE_WORD, seed),
-        3 | 4 | 5 => with_entry(s, seed),
-        6 | 7 | 8 => with_slot(s, seed),
-        9 | 10 => with_buffered(s, seed),
-        11 | 12 => with_filter(s, seed),
-        13 | 14 => with_register(s, seed),
-        _ => with_length(s, seed),
+fn damage_register(s: &mut State, seed: Seed) {
+    let place = seed.below(Purpose::Place, REGISTERS as u64);
+    let other = seed.below(Purpose::OtherPlace, REGISTERS as u64);
+    Damage::of(s, &WHOLE, seed).make(&mut s.registers, place, other);
+}
+
+fn other_length(words: u64, room: usize, seed: Seed) -> u64 {
+    match seed.below(Purpose::Change, 4) {
+        0 => words.wrapping_add(seed.below(Purpose::Bit, 9)),
+        1 => words.wrapping_sub(seed.below(Purpose::Bit, 9)),
+        2 => seed.below(Purpose::Bit, 4),
+        _ => seed.below(Purpose::Bit, room as u64),
+    }
+}
+
+fn damage_length(s: &mut State, seed: Seed) {
+    if seed.once_in(Purpose::Place, 2) {
+        s.board.words = other_length(s.board.words, BOARD_ROOM, seed);
+    } else {
+        s.work.words = other_length(s.work.words, WORK_ROOM, seed);
+    }
+}
+
+fn damage_once(s: &mut State, seed: Seed) {
+    match seed.below(Purpose::Region, 16) {
+        0 | 1 => Damage::of(s, &New::control_fields(), seed).make(
+            &mut s.board.room,
+            CONTROL,
+            SHAPE,
+        ),
+        2 => Damage::of(s, &New::shape_fields(), seed).make(&mut s.board.room, SHAPE, CONTROL),
+        3..=5 => damage_entry(s, seed),
+        6..=8 => damage_slot(s, seed),
+        9 | 10 => damage_buffered(s, seed),
+        11 | 12 => damage_filter(s, seed),
+        13 | 14 => damage_register(s, seed),
+        _ => damage_length(s, seed),
     }
 }
 
 // Once, twice or three times.
-pub fn damaged(s: State, seed: u64) -> State {
-    let second = hashed(seed);
-    match below(seed, TIMES, 4) {
-        0 => damaged_once(damaged_once(damaged_once(s, seed), second), hashed(second)),
-        1 => damaged_once(damaged_once(s, seed), second),
-        _ => damaged_once(s, seed),
+pub fn damage_state(s: &mut State, seed: Seed) {
+    let times = match seed.below(Purpose::Times, 4) {
+        0 => 3,
+        1 => 2,
+        _ => 1,
+    };
+    let mut next = seed;
+    for _ in 0..times {
+        damage_once(s, next);
+        next = next.hashed();
     }
 }

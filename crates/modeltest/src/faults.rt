@@ -4,259 +4,282 @@ use crate::compare::*;
 use crate::conversions::*;
 use crate::old_packing::*;
 use crate::packing::*;
-use crate::random::*;
-use crate::rows::FAULTS_ROW;
-use crate::sides::index;
+use crate::random::{Purpose, Seed};
+use crate::rows::Row;
+use std::fmt;
 
-// Nothing is wrong: as a call, and as a cut, leaves the board.
-pub const BY_CALL: u64 = 0;
-
-pub const BY_CUT: u64 = 1;
-
-// Not of the old shape, or the second memory is of another size. Two of them have an improper entry too.
-pub const NO_WORD: u64 = 2;
-
-pub const ONE_WORD: u64 = 3;
-
-pub const OTHER_VERSION: u64 = 4;
-
-pub const NO_LINE: u64 = 5;
-
-pub const LINE_MORE: u64 = 6;
-
-pub const ENTRY_MORE: u64 = 7;
-
-pub const WORD_MORE: u64 = 8;
-
-pub const WORD_LESS: u64 = 9;
-
-pub const SECOND_MORE: u64 = 10;
-
-pub const SECOND_LESS: u64 = 11;
-
-pub const LAST_PERSISTED: u64 = 12;
-
-pub const START_FAR: u64 = 13;
-
-pub const LENGTH_FAR: u64 = 14;
-
-pub const ENTRY_AND_SECOND: u64 = 15;
-
-pub const ENTRY_AND_START: u64 = 16;
-
-// An improper entry, or two.
-pub const FIRST_ENTRY_FAULT: u64 = 17;
-
-pub const ADDRESS_FAR: u64 = 17;
-
-pub const EMPTY_RANGE: u64 = 18;
-
-pub const TILL_PERSISTED: u64 = 19;
-
-pub const TILL_FAR: u64 = 20;
-
-pub const TILL_BELOW: u64 = 21;
-
-pub const TWO_ENTRIES: u64 = 22;
-
-// The last that is accepted, and what is not tested.
-pub const FIRST_ACCEPTED: u64 = 23;
-
-pub const TILL_LATEST: u64 = 23;
-
-pub const LONG_RANGE: u64 = 24;
-
-pub const BEHIND_LOG: u64 = 25;
-
-pub const PERSISTED_LATEST: u64 = 26;
-
-pub const FAULTS: u64 = 27;
-
-fn with_control(c: Conversion, n: u64, value: u64) -> Conversion {
-    let word = replaced(c.old[CONTROL], old_counts_field(n), value);
-    let mut next = c;
-    next.old[CONTROL] = word;
-    next
+#[derive(Clone, Copy, PartialEq, Eq)]
+pub enum Fault {
+    // Nothing is wrong: as a call, and as a cut, leaves the board.
+    ByCall,
+    ByCut,
+    // Not of the old shape, or the second memory is of another size. Two of them have an improper entry too.
+    NoWord,
+    OneWord,
+    OtherVersion,
+    NoLine,
+    LineMore,
+    EntryMore,
+    WordMore,
+    WordLess,
+    SecondMore,
+    SecondLess,
+    LastPersisted,
+    StartFar,
+    LengthFar,
+    EntryAndSecond,
+    EntryAndStart,
+    // An improper entry, or two.
+    AddressFar,
+    EmptyRange,
+    TillPersisted,
+    TillFar,
+    TillBelow,
+    TwoEntries,
+    // The last that is accepted, and what is not tested.
+    TillLatest,
+    LongRange,
+    BehindLog,
+    PersistedLatest,
 }
 
-fn with_shape(c: Conversion, n: u64, value: u64) -> Conversion {
-    let word = replaced(c.old[SHAPE], old_counts_field(n), value);
-    let mut next = c;
-    next.old[SHAPE] = word;
-    next
-}
+impl Fault {
+    pub const ALL: [Fault; 27] = [
+        Fault::ByCall,
+        Fault::ByCut,
+        Fault::NoWord,
+        Fault::OneWord,
+        Fault::OtherVersion,
+        Fault::NoLine,
+        Fault::LineMore,
+        Fault::EntryMore,
+        Fault::WordMore,
+        Fault::WordLess,
+        Fault::SecondMore,
+        Fault::SecondLess,
+        Fault::LastPersisted,
+        Fault::StartFar,
+        Fault::LengthFar,
+        Fault::EntryAndSecond,
+        Fault::EntryAndStart,
+        Fault::AddressFar,
+        Fault::EmptyRange,
+        Fault::TillPersisted,
+        Fault::TillFar,
+        Fault::TillBelow,
+        Fault::TwoEntries,
+        Fault::TillLatest,
+        Fault::LongRange,
+        Fault::BehindLog,
+        Fault::PersistedLatest,
+    ];
 
-fn with_words(c: Conversion, old_words: u64, board_words: u64) -> Conversion {
-    let mut next = c;
-    next.old_words = old_words;
-    next.board_words = board_words;
-    next
-}
-
-pub fn in_control(c: Conversion, n: u64) -> u64 {
-    value_in(c.old[CONTROL], old_counts_field(n))
-}
-
-pub fn in_shape(c: Conversion, n: u64) -> u64 {
-    value_in(c.old[SHAPE], old_counts_field(n))
-}
-
-// The index of the packed word of entry i of the old log.
-fn entry_index(c: Conversion, i: u64) -> u64 {
-    log_place(in_control(c, LOG_START), in_shape(c, ENTRY_COUNT), i)
-}
-
-fn in_entry(c: Conversion, i: u64, n: u64) -> u64 {
-    let at = index(entry_index(c, i), BOARD_ROOM);
-    value_in(c.old[at], old_entry_field(n))
-}
-
-fn with_entry(c: Conversion, i: u64, n: u64, value: u64) -> Conversion {
-    let at = index(entry_index(c, i), BOARD_ROOM);
-    let word = replaced(c.old[at], old_entry_field(n), value);
-    let mut next = c;
-    next.old[at] = word;
-    next
-}
-
-fn with_range(c: Conversion, i: u64, valid_from: u64, valid_till: u64) -> Conversion {
-    with_entry(
-        with_entry(c, i, VALID_FROM, valid_from),
-        i,
-        VALID_TILL,
-        valid_till,
-    )
-}
-
-fn emptied(c: Conversion, persisted: u64) -> Conversion {
-    with_control(with_control(c, LOG_LENGTH, 0), PERSISTED, persisted)
-}
-
-// The latest P there may be, and one entry with the last epoch for its ValidTill.
-fn at_last(c: Conversion) -> Conversion {
-    let persisted = with_control(c, PERSISTED, OLD_LAST_EPOCH - 1);
-    let one = with_control(persisted, LOG_LENGTH, 1);
-    let entry = with_range(one, 0, OLD_LAST_EPOCH - 1, OLD_LAST_EPOCH);
-    with_entry(entry, 0, ADDRESS_FIELD, 0)
-}
-
-fn without_line(c: Conversion) -> Conversion {
-    let words = board_words(0, in_shape(c, ENTRY_COUNT));
-    with_words(with_shape(c, LINE_COUNT, 0), words, words)
-}
-
-// Entry i with an address that no line has.
-fn astray(c: Conversion, i: u64) -> Conversion {
-    with_entry(c, i, ADDRESS_FIELD, in_shape(c, LINE_COUNT))
-}
-
-fn size_fault(c: Conversion, fault: u64) -> Conversion {
-    let words = c.old_words;
-    match fault {
-        NO_WORD => with_words(c, 0, words),
-        ONE_WORD => with_words(c, 1, words),
-        WORD_MORE => with_words(c, sum(words, 1), words),
-        WORD_LESS => with_words(c, difference(words, 1), words),
-        SECOND_MORE => with_words(c, words, sum(words, 1)),
-        SECOND_LESS => with_words(c, words, difference(words, 1)),
-        _ => with_words(astray(c, 0), words, sum(words, 1)),
+    // Whether the converter refuses an entry.
+    fn is_improper(self) -> bool {
+        matches!(
+            self,
+            Fault::AddressFar
+                | Fault::EmptyRange
+                | Fault::TillPersisted
+                | Fault::TillFar
+                | Fault::TillBelow
+                | Fault::TwoEntries
+        )
     }
 }
 
-fn shape_fault(c: Conversion, fault: u64, seed: u64) -> Conversion {
-    let lines = in_shape(c, LINE_COUNT);
-    let entries = in_shape(c, ENTRY_COUNT);
-    match fault {
-        OTHER_VERSION => with_shape(c, VERSION, 1 << below(seed, BIT, 24) % 24),
-        NO_LINE => without_line(c),
-        LINE_MORE => with_shape(c, LINE_COUNT, sum(lines, 1)),
-        ENTRY_MORE => with_shape(c, ENTRY_COUNT, sum(entries, 1)),
-        LAST_PERSISTED => emptied(c, OLD_LAST_EPOCH),
-        START_FAR => with_control(c, LOG_START, entries),
-        LENGTH_FAR => with_control(c, LOG_LENGTH, sum(entries, 1)),
-        ENTRY_AND_START => with_control(astray(c, 0), LOG_START, entries),
-        _ => size_fault(c, fault),
+impl fmt::Display for Fault {
+    fn fmt<W: fmt::Write>(&self, f: &mut fmt::Formatter<W>) -> fmt::Result {
+        f.write_str(match self {
+            Fault::ByCall => "as a call leaves it",
+            Fault::ByCut => "as a cut leaves it",
+            Fault::NoWord => "no word",
+            Fault::OneWord => "one word",
+            Fault::OtherVersion => "version not 0",
+            Fault::NoLine => "N 0",
+            Fault::LineMore => "N + 1",
+            Fault::EntryMore => "L + 1",
+            Fault::WordMore => "one word more",
+            Fault::WordLess => "one word less",
+            Fault::SecondMore => "second memory one word more",
+            Fault::SecondLess => "second memory one word less",
+            Fault::LastPersisted => "P 2^24 - 1",
+            Fault::StartFar => "start L",
+            Fault::LengthFar => "length L + 1",
+            Fault::EntryAndSecond => "address N, second memory one word more",
+            Fault::EntryAndStart => "address N, start L",
+            Fault::AddressFar => "address N",
+            Fault::EmptyRange => "ValidFrom = ValidTill",
+            Fault::TillPersisted => "ValidTill P",
+            Fault::TillFar => "ValidTill P + 17",
+            Fault::TillBelow => "ValidTill below the older",
+            Fault::TwoEntries => "two improper entries",
+            Fault::TillLatest => "ValidTill P + 16",
+            Fault::LongRange => "ValidFrom 0, ValidTill above 16",
+            Fault::BehindLog => "improper word behind the log",
+            Fault::PersistedLatest => "P 2^24 - 2, ValidTill 2^24 - 1",
+        })
     }
 }
 
-// Entry i is changed.
-fn entry_fault(c: Conversion, fault: u64, i: u64) -> Conversion {
-    let persisted = in_control(c, PERSISTED);
-    let till = in_entry(c, i, VALID_TILL);
-    let older = in_entry(c, difference(i, 1), VALID_TILL);
-    match fault {
-        ADDRESS_FAR => astray(c, i),
-        EMPTY_RANGE => with_range(c, i, till, till),
-        TILL_PERSISTED => with_range(c, i, difference(persisted, 1), persisted),
-        TILL_FAR => with_entry(c, i, VALID_TILL, sum(persisted, MOST_AHEAD + 1)),
-        TILL_BELOW => with_range(c, i, persisted, difference(older, 1)),
-        TWO_ENTRIES => with_range(astray(c, i), sum(i, 1), till, till),
-        TILL_LATEST => with_entry(c, i, VALID_TILL, sum(persisted, MOST_AHEAD)),
-        LONG_RANGE => with_entry(c, i, VALID_FROM, 0),
-        BEHIND_LOG => with_entry(c, in_control(c, LOG_LENGTH), VALID_TILL, 0),
-        _ => at_last(c),
+impl Conversion {
+    // The place of the packed word of entry i of the old log.
+    fn entry(&self, i: u64) -> u64 {
+        log_place(self.control(Old::START), self.shape(Old::ENTRIES), i)
     }
-}
 
-// Which entry a fault is about: the oldest, the newest, one that has an older one, one that has a newer one, or
-// any.
-fn place_of(c: Conversion, fault: u64, seed: u64) -> u64 {
-    let length = in_control(c, LOG_LENGTH);
-    match fault {
-        TILL_PERSISTED => 0,
-        TILL_FAR | TILL_LATEST => difference(length, 1),
-        TILL_BELOW => sum(1, below(seed, PLACE, difference(length, 1))),
-        TWO_ENTRIES => below(seed, PLACE, difference(length, 1)),
-        _ => below(seed, PLACE, length),
+    fn till(&self, i: u64) -> u64 {
+        self.old.field(self.entry(i), Old::TILL)
     }
-}
 
-// Whether a board is such that a fault can be made of it which leaves all else proper.
-fn applies(c: Conversion, fault: u64, i: u64) -> bool {
-    let persisted = in_control(c, PERSISTED);
-    let length = in_control(c, LOG_LENGTH);
-    match fault {
-        ENTRY_AND_SECOND | ENTRY_AND_START | ADDRESS_FAR | EMPTY_RANGE => length >= 1,
-        TILL_PERSISTED => length >= 1 && persisted >= 1,
-        TILL_FAR | TILL_LATEST => {
-            length >= 1 && sum(persisted, MOST_AHEAD + 1) <= OLD_LAST_EPOCH
+    fn put_control(&mut self, field: Field, value: u64) {
+        self.old.put_field(CONTROL, field, value);
+    }
+
+    fn put_shape(&mut self, field: Field, value: u64) {
+        self.old.put_field(SHAPE, field, value);
+    }
+
+    fn put_entry(&mut self, i: u64, field: Field, value: u64) {
+        let place = self.entry(i);
+        self.old.put_field(place, field, value);
+    }
+
+    fn put_range(&mut self, i: u64, valid_from: u64, valid_till: u64) {
+        self.put_entry(i, Old::FROM, valid_from);
+        self.put_entry(i, Old::TILL, valid_till);
+    }
+
+    // Entry i gets an address that no line has.
+    fn put_astray(&mut self, i: u64) {
+        self.put_entry(i, Old::ADDRESS, self.shape(Old::LINES));
+    }
+
+    // The latest P there may be, and one entry with the last epoch for its ValidTill.
+    fn put_latest(&mut self) {
+        self.put_control(Old::PERSISTED, OLD_LAST_EPOCH - 1);
+        self.put_control(Old::LENGTH, 1);
+        self.put_range(0, OLD_LAST_EPOCH - 1, OLD_LAST_EPOCH);
+        self.put_entry(0, Old::ADDRESS, 0);
+    }
+
+    // No line, and a board of the size that then is good.
+    fn put_no_line(&mut self) {
+        let words = board_words(0, self.shape(Old::ENTRIES));
+        self.put_shape(Old::LINES, 0);
+        self.old.words = words;
+        self.board.words = words;
+    }
+
+    fn put_size_fault(&mut self, fault: Fault) {
+        match fault {
+            Fault::NoWord => self.old.words = 0,
+            Fault::OneWord => self.old.words = 1,
+            Fault::WordMore => self.old.words = self.old.words.wrapping_add(1),
+            Fault::WordLess => self.old.words = self.old.words.wrapping_sub(1),
+            Fault::SecondLess => self.board.words = self.board.words.wrapping_sub(1),
+            _ => self.board.words = self.board.words.wrapping_add(1),
         }
-        TILL_BELOW => {
-            length >= 2 && in_entry(c, difference(i, 1), VALID_TILL) > sum(persisted, 1)
+    }
+
+    fn put_shape_fault(&mut self, fault: Fault, seed: Seed) {
+        let lines = self.shape(Old::LINES);
+        let entries = self.shape(Old::ENTRIES);
+        match fault {
+            Fault::OtherVersion => {
+                self.put_shape(Old::VERSION, 1 << seed.below(Purpose::Bit, 24));
+            }
+            Fault::NoLine => self.put_no_line(),
+            Fault::LineMore => self.put_shape(Old::LINES, lines.wrapping_add(1)),
+            Fault::EntryMore => self.put_shape(Old::ENTRIES, entries.wrapping_add(1)),
+            Fault::LastPersisted => {
+                self.put_control(Old::LENGTH, 0);
+                self.put_control(Old::PERSISTED, OLD_LAST_EPOCH);
+            }
+            Fault::StartFar => self.put_control(Old::START, entries),
+            Fault::LengthFar => self.put_control(Old::LENGTH, entries.wrapping_add(1)),
+            Fault::EntryAndStart => {
+                self.put_astray(0);
+                self.put_control(Old::START, entries);
+            }
+            Fault::EntryAndSecond => {
+                self.put_astray(0);
+                self.put_size_fault(fault);
+            }
+            _ => self.put_size_fault(fault),
         }
-        TWO_ENTRIES => length >= 2,
-        LONG_RANGE => length >= 1 && in_entry(c, i, VALID_TILL) > MOST_SPAN,
-        BEHIND_LOG => length < in_shape(c, ENTRY_COUNT),
-        _ => true,
+    }
+
+    // Entry i is changed, or the place behind the log.
+    fn put_entry_fault(&mut self, fault: Fault, i: u64, seed: Seed) {
+        let persisted = self.control(Old::PERSISTED);
+        let till = self.till(i);
+        match fault {
+            Fault::AddressFar => self.put_astray(i),
+            Fault::EmptyRange => self.put_range(i, till, till),
+            Fault::TillPersisted => self.put_range(i, persisted.wrapping_sub(1), persisted),
+            Fault::TillFar => self.put_entry(i, Old::TILL, persisted.wrapping_add(MOST_AHEAD + 1)),
+            Fault::TillBelow => {
+                let older = self.till(i.wrapping_sub(1));
+                self.put_range(i, persisted, older.wrapping_sub(1));
+            }
+            Fault::TwoEntries => {
+                self.put_astray(i);
+                self.put_range(i.wrapping_add(1), till, till);
+            }
+            Fault::TillLatest => self.put_entry(i, Old::TILL, persisted.wrapping_add(MOST_AHEAD)),
+            Fault::LongRange => self.put_entry(i, Old::FROM, 0),
+            Fault::BehindLog => self.put_entry(self.control(Old::LENGTH), Old::TILL, 0),
+            Fault::PersistedLatest => self.put_latest(),
+            _ => self.put_shape_fault(fault, seed),
+        }
+    }
+
+    // Which entry a fault is about: the oldest, the newest, one that has an older one, one that has a newer one, or
+    // any.
+    fn place_of(&self, fault: Fault, seed: Seed) -> u64 {
+        let length = self.control(Old::LENGTH);
+        let last = length.wrapping_sub(1);
+        match fault {
+            Fault::TillPersisted => 0,
+            Fault::TillFar | Fault::TillLatest => last,
+            Fault::TillBelow => seed.below(Purpose::Place, last).wrapping_add(1),
+            Fault::TwoEntries => seed.below(Purpose::Place, last),
+            _ => seed.below(Purpose::Place, length),
+        }
+    }
+
+    // Whether a board is such that a fault can be made of it which leaves all else proper.
+    fn admits(&self, fault: Fault, i: u64) -> bool {
+        let persisted = self.control(Old::PERSISTED);
+        let length = self.control(Old::LENGTH);
+        match fault {
+            Fault::EntryAndSecond | Fault::EntryAndStart | Fault::AddressFar | Fault::EmptyRange =>
+                length >= 1,
+            Fault::TillPersisted => length >= 1 && persisted >= 1,
+            Fault::TillFar | Fault::TillLatest => {
+                length >= 1 && persisted.wrapping_add(MOST_AHEAD + 1) <= OLD_LAST_EPOCH
+            }
+            Fault::TillBelow => length >= 2
+                && self.till(i.wrapping_sub(1)) > persisted.wrapping_add(1),
+            Fault::TwoEntries => length >= 2,
+            Fault::LongRange => length >= 1 && self.till(i) > MOST_SPAN,
+            Fault::BehindLog => length < self.shape(Old::ENTRIES),
+            _ => true,
+        }
     }
 }
 
-fn changed(c: Conversion, fault: u64, i: u64, seed: u64) -> Conversion {
-    if fault < FIRST_ENTRY_FAULT {
-        return shape_fault(c, fault, seed);
+// A fault of an old board, made where it can be, and what the converter answers then. "3 entry": its value is the
+// place of the first improper entry, and all others are 0.
+pub fn with_fault(mut c: Conversion, fault: Fault, seed: Seed, score: &mut Score) {
+    let i = c.place_of(fault, seed);
+    if !c.admits(fault, i) {
+        return;
     }
-    entry_fault(c, fault, i)
-}
-
-// "3 entry": its value is the place of the first improper entry, and all others are 0.
-fn value_wanted(fault: u64, i: u64) -> u64 {
-    if fault >= FIRST_ENTRY_FAULT && fault < FIRST_ACCEPTED {
-        return i;
-    }
-    0
-}
-
-// A fault of an old board, made where it can be, and what the converter answers then.
-pub fn with_fault(c: Conversion, fault: u64, seed: u64, score: Score) -> Score {
-    let i = place_of(c, fault, seed);
-    if !applies(c, fault, i) {
-        return score;
-    }
-    let faulty = changed(c, fault, i, seed);
-    let done = converted(faulty, score);
-    let after = done.score;
-    let value = done.outcome.value;
-    let wanted = value_wanted(fault, i);
-    let judged = noted_conversion(after, faulty, between(Part::Value, 0, value, wanted));
-    seen(judged, sum(FAULTS_ROW, fault), done.outcome.number)
+    c.put_entry_fault(fault, i, seed);
+    let outcome = convert(&mut c, score);
+    let wanted = if fault.is_improper() { i } else { 0 };
+    score.note(c.place(), between(Part::Value, 0, outcome.value, wanted));
+    score.see(Row::OldBoard(fault), outcome.number);
 }

@@ -1,15 +1,19 @@
 // Boards of the largest N and L, in both layouts, and of one more. They are lent to both sides, not copied.
 use crate::compare::*;
-use crate::conversions::*;
-use crate::old_packing::*;
+use crate::conversions::between_memories;
+use crate::kinds::{Call, Kind};
+use crate::memories::Memory;
+use crate::old_packing::Old;
 use crate::packing::*;
-use crate::random::*;
-use crate::register_words::*;
-use crate::rows::*;
+use crate::random::Seed;
+use crate::rows::Row;
 use crate::sides::*;
+use std::fmt;
 
 // Room for the largest board, and for some words that are not lent.
-pub const LARGE_ROOM: usize = 65552;
+const LARGE_ROOM: usize = 65552;
+
+type Large = Memory<LARGE_ROOM>;
 
 // The words of the least work memory: that of 4 slots.
 const LEAST_WORK: usize = 136;
@@ -20,215 +24,150 @@ const PERSISTED_EPOCH: u64 = 5;
 // The lines that calls are about, and entries too.
 const USED_LINES: u64 = 3;
 
-pub const SIZES: u64 = 4;
+#[derive(Clone, Copy, PartialEq, Eq)]
+pub enum Size {
+    MostEntries,
+    EntryMore,
+    MostLines,
+    LineMore,
+}
 
-fn lines_at(n: u64) -> u64 {
-    match n {
-        0 | 1 => USED_LINES,
-        2 => MOST_LINES,
-        _ => MOST_LINES + 1,
+impl Size {
+    pub const ALL: [Size; 4] = [
+        Size::MostEntries,
+        Size::EntryMore,
+        Size::MostLines,
+        Size::LineMore,
+    ];
+
+    fn lines(self) -> u64 {
+        match self {
+            Size::MostEntries | Size::EntryMore => USED_LINES,
+            Size::MostLines => MOST_LINES,
+            Size::LineMore => MOST_LINES + 1,
+        }
+    }
+
+    fn entries(self) -> u64 {
+        match self {
+            Size::MostEntries => MOST_ENTRIES,
+            Size::EntryMore => MOST_ENTRIES + 1,
+            Size::MostLines | Size::LineMore => USED_LINES,
+        }
+    }
+
+    fn words(self) -> u64 {
+        board_words(self.lines(), self.entries())
     }
 }
 
-fn entries_at(n: u64) -> u64 {
-    match n {
-        0 => MOST_ENTRIES,
-        1 => MOST_ENTRIES + 1,
-        _ => USED_LINES,
+impl fmt::Display for Size {
+    fn fmt<W: fmt::Write>(&self, f: &mut fmt::Formatter<W>) -> fmt::Result {
+        f.write_str(match self {
+            Size::MostEntries => "L 4095",
+            Size::EntryMore => "L 4096",
+            Size::MostLines => "N 65536",
+            Size::LineMore => "N 65537",
+        })
     }
 }
 
-fn put(words: &mut [u64], place: u64, word: u64) {
-    let at = place as usize;
-    if at < words.len() {
-        words[at] = word;
-    }
-}
-
-fn fill(words: &mut [u64], seed: u64) {
-    for i in 0..words.len() {
-        words[i] = hashed(sum(seed, i as u64));
-    }
-}
-
-// The packed words of a ring: every place has a proper entry.
-fn write_ring(words: &mut [u64], entries: u64, is_old: bool) {
+// A board whose log fills the ring, from its last place on: every place has a proper entry. The lines and the old
+// data are any words.
+fn write<L: Layout>(board: &mut Large, lines: u64, entries: u64, seed: Seed) {
+    let last = entries.wrapping_sub(1);
+    board.fill(seed);
     for i in 0..entries {
         let address = i % USED_LINES;
-        let word = if is_old {
-            old_entry_word(address, PERSISTED_EPOCH, PERSISTED_EPOCH + 1)
-        } else {
-            entry_word(address, PERSISTED_EPOCH + 1, 1)
-        };
-        put(words, entry_place(i), word);
+        let word = L::entry_word(address, PERSISTED_EPOCH, PERSISTED_EPOCH + 1);
+        board.put(entry_place(i), word);
     }
+    board.put(CONTROL, L::control_word(PERSISTED_EPOCH, last, entries));
+    board.put(SHAPE, L::shape_word(lines, entries));
 }
 
-// An old board whose log fills the ring, from its last place on. The lines and the old data are any words.
-fn write_old(old: &mut [u64], lines: u64, entries: u64) {
-    let last = difference(entries, 1);
-    fill(old, lines);
-    write_ring(old, entries, true);
-    put(
-        old,
-        CONTROL as u64,
-        old_control_word(PERSISTED_EPOCH, last, entries),
-    );
-    put(old, SHAPE as u64, old_shape_word(lines, entries));
-}
-
-fn fill_both(board: &mut [u64], model_board: &mut [u64], seed: u64) {
-    fill(board, seed);
-    fill(model_board, seed);
-}
-
-// The answers of both sides.
+// The library's board and the model's.
 #[derive(Clone, Copy)]
-struct Answers {
-    found: Outcome,
-    wanted: Outcome,
+struct Boards {
+    found: Large,
+    wanted: Large,
 }
 
-fn both_converted(old: &[u64], board: &mut [u64], model_board: &mut [u64], words: u64) -> Answers {
-    Answers {
-        found: library_part(old, board, words, words),
-        wanted: model_part(old, model_board, words, words),
+impl Boards {
+    fn fill(&mut self, seed: Seed, words: u64) {
+        self.found.words = words;
+        self.wanted.words = words;
+        self.found.fill(seed);
+        self.wanted.fill(seed);
+    }
+
+    // The answers and the boards of both sides compared, behind a call of a row. Its number is for another row too.
+    fn judge(&self, found: &Outcome, wanted: &Outcome, call: Row, row: Row, score: &mut Score) {
+        let difference = between_memories(found, wanted, &self.found.room, &self.wanted.room);
+        let place = Place::On {
+            row: call,
+            board: LARGE_ROOM as u64,
+        };
+        score.note(place, difference);
+        score.count(call, found);
+        score.see(row, found.number);
+    }
+
+    fn convert(&mut self, old: &Large, size: Size, score: &mut Score) {
+        self.fill(Seed(size as u64), size.words());
+        let found = Library::convert(old.lent(), self.found.lent_mut());
+        let wanted = SecondModel::convert(old.lent(), self.wanted.lent_mut());
+        self.judge(&found, &wanted, Row::Convert, Row::OldSize(size), score);
+    }
+
+    fn call(&mut self, call: Call, row: Row, score: &mut Score) {
+        let found = called::<Library>(&mut self.found, call);
+        let wanted = called::<SecondModel>(&mut self.wanted, call);
+        self.judge(&found, &wanted, Row::Call(call.kind), row, score);
+    }
+
+    fn format(&mut self, size: Size, score: &mut Score) {
+        self.fill(Seed(size as u64), size.words());
+        let call = Call::format(size.lines(), size.entries());
+        self.call(call, Row::FormatSize(size), score);
+    }
+
+    // The longest ring, with a log as long that starts at its last place and has a word for its newest entry, is
+    // powered up.
+    fn power_up(&mut self, newest: u64, score: &mut Score) {
+        let last = MOST_ENTRIES - 1;
+        write::<New>(&mut self.found, USED_LINES, MOST_ENTRIES, Seed(newest));
+        self.found.words = board_words(USED_LINES, MOST_ENTRIES);
+        self.found.put(log_place(last, MOST_ENTRIES, last), newest);
+        self.wanted = self.found;
+        self.call(Call::plain(Kind::PowerUp), Row::FullLog, score);
     }
 }
 
-// The answers and the boards of both sides compared, behind a call of a kind. Its number is for a row.
-fn judged(
-    board: &[u64],
-    model_board: &[u64],
-    a: Answers,
-    kind: u64,
-    row: u64,
-    score: Score,
-) -> Score {
-    let outcome = a.found;
-    let wanted = a.wanted;
-    let d = between_memories(outcome, wanted, board, model_board);
-    let noted = noted_on(score, kind, board.len() as u64, d);
-    let after = counted(noted, kind, outcome);
-    seen(after, row, outcome.number)
-}
-
-// A size, converted.
-fn converted_at(
-    old: &[u64],
-    board: &mut [u64],
-    model_board: &mut [u64],
-    n: u64,
-    score: Score,
-) -> Score {
-    let words = board_words(lines_at(n), entries_at(n));
-    fill_both(board, model_board, n);
-    let answers = both_converted(old, board, model_board, words);
-    judged(
-        board,
-        model_board,
-        answers,
-        CONVERT,
-        sum(OLD_SIZES_ROW, n),
-        score,
-    )
-}
-
-fn library_on(board: &mut [u64], words: u64, c: Call) -> Outcome {
+fn called<S: Side>(board: &mut Large, call: Call) -> Outcome {
     let mut work = [0; LEAST_WORK];
-    let n = at_most(words, board.len());
-    library_call(&mut board[0..n], &mut work, [0; REGISTERS], c)
+    S::call(board.lent_mut(), &mut work, [0; REGISTERS], call)
 }
 
-fn model_on(board: &mut [u64], words: u64, c: Call) -> Outcome {
-    let mut work = [0; LEAST_WORK];
-    let n = at_most(words, board.len());
-    model_call(&mut board[0..n], &mut work, [0; REGISTERS], c)
-}
-
-fn both_called(board: &mut [u64], model_board: &mut [u64], words: u64, c: Call) -> Answers {
-    Answers {
-        found: library_on(board, words, c),
-        wanted: model_on(model_board, words, c),
+pub fn large_boards(score: &mut Score) {
+    let empty = Memory {
+        room: [0; LARGE_ROOM],
+        words: 0,
+    };
+    let mut old = empty;
+    let mut boards = Boards {
+        found: empty,
+        wanted: empty,
+    };
+    for size in Size::ALL {
+        write::<Old>(&mut old, size.lines(), size.entries(), Seed(size.lines()));
+        old.words = size.words();
+        boards.convert(&old, size, score);
+        boards.format(size, score);
     }
-}
-
-fn called(
-    board: &mut [u64],
-    model_board: &mut [u64],
-    words: u64,
-    c: Call,
-    row: u64,
-    score: Score,
-) -> Score {
-    let answers = both_called(board, model_board, words, c);
-    judged(board, model_board, answers, c.kind, row, score)
-}
-
-// A size, formatted.
-fn formatted_at(board: &mut [u64], model_board: &mut [u64], n: u64, score: Score) -> Score {
-    let c = format_of(lines_at(n), entries_at(n));
-    let words = board_words(c.address, c.value);
-    fill_both(board, model_board, n);
-    called(
-        board,
-        model_board,
-        words,
-        c,
-        sum(FORMAT_SIZES_ROW, n),
+    boards.power_up(
+        New::entry_word(0, PERSISTED_EPOCH, PERSISTED_EPOCH + 1),
         score,
-    )
-}
-
-// The longest ring, with a log as long that starts at its last place and has a word for its newest entry.
-fn write_full(board: &mut [u64], newest: u64) {
-    let last = MOST_ENTRIES - 1;
-    fill(board, newest);
-    write_ring(board, MOST_ENTRIES, false);
-    put(
-        board,
-        CONTROL as u64,
-        control_word(PERSISTED_EPOCH, last, MOST_ENTRIES),
     );
-    put(board, SHAPE as u64, shape_word(USED_LINES, MOST_ENTRIES));
-    put(board, log_place(last, MOST_ENTRIES, last), newest);
-}
-
-fn write_both_full(board: &mut [u64], model_board: &mut [u64], newest: u64) {
-    write_full(board, newest);
-    write_full(model_board, newest);
-}
-
-// The same, powered up.
-fn full(board: &mut [u64], model_board: &mut [u64], newest: u64, score: Score) -> Score {
-    let words = board_words(USED_LINES, MOST_ENTRIES);
-    write_both_full(board, model_board, newest);
-    called(
-        board,
-        model_board,
-        words,
-        plain(POWER_UP),
-        FULL_LOG_ROW,
-        score,
-    )
-}
-
-fn sizes(old: &mut [u64], board: &mut [u64], model_board: &mut [u64], score: Score) -> Score {
-    let mut next = score;
-    for n in 0..SIZES {
-        write_old(old, lines_at(n), entries_at(n));
-        let after = converted_at(old, board, model_board, n, next);
-        next = formatted_at(board, model_board, n, after);
-    }
-    next
-}
-
-pub fn large_boards(score: Score) -> Score {
-    let mut old = [0; LARGE_ROOM];
-    let mut board = [0; LARGE_ROOM];
-    let mut model_board = [0; LARGE_ROOM];
-    let with_sizes = sizes(&mut old, &mut board, &mut model_board, score);
-    let newest = entry_word(0, PERSISTED_EPOCH + 1, 1);
-    let with_full = full(&mut board, &mut model_board, newest, with_sizes);
-    full(&mut board, &mut model_board, 0, with_full)
+    boards.power_up(0, score);
 }

@@ -14,42 +14,47 @@ mod damage;
 mod edges;
 mod faults;
 mod histories;
+mod kinds;
 mod large;
 mod lists;
+mod memories;
 mod old_damage;
 mod old_lists;
 mod old_packing;
 mod packing;
 mod print;
 mod random;
-mod register_words;
 mod rows;
 mod sides;
 mod spans;
 
-use compare::new_score;
-use histories::{History, opened, turn};
-use random::hashed;
+ghost use Rattle.std.specs.Prelude.{◌<◌};
+
+use compare::Score;
+use histories::History;
+use random::Seed;
 use std::io;
 
 const LISTS: u64 = 1080;
 
 const TURNS: u64 = 200;
 
-// The next turn of a list, or the first one of the next list.
-fn next(h: History, n: u64) -> History {
-    if n % TURNS != 0 {
-        return turn(h, hashed(n));
+fn list(n: u64, score: &mut Score)
+    requires { n < LISTS }
+{
+    let mut h = History::opened(n, score);
+    for turn in 0..TURNS {
+        h.turn(Seed(n * TURNS + turn).hashed(), score);
     }
-    let score = h.score;
-    turn(opened(n / TURNS, score), hashed(n))
 }
 
 fn main(rt: HostRuntime) -> io::Result<()> {
-    let mut h = opened(0, new_score());
-    for n in 0..LISTS * TURNS {
-        h = next(h, n);
+    let mut score = Score::empty();
+    // Once without a turn: what is drawn behind a cut depends on how many calls there were before.
+    History::opened(0, &mut score);
+    for n in 0..LISTS {
+        list(n, &mut score);
     }
-    let score = h.score;
-    print::report(&rt, large::large_boards(score))
+    large::large_boards(&mut score);
+    print::report(&rt, &score)
 }

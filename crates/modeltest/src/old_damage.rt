@@ -1,119 +1,87 @@
 // Old boards that no list leaves: fields, words and sizes are any.
-use crate::conversions::*;
-use crate::faults::*;
+use crate::conversions::Conversion;
+use crate::damage::Damage;
 use crate::old_packing::*;
 use crate::packing::*;
-use crate::random::*;
-use crate::sides::index;
-
-const OLD_EDGES: u64 = 16;
+use crate::random::{Purpose, Seed};
 
 // The numbers at which the converter's tests turn: 0 and 1; about P and the latest ValidTill; about N and L.
-fn old_edge(c: Conversion, n: u64) -> u64 {
-    let persisted = in_control(c, PERSISTED);
-    let lines = in_shape(c, LINE_COUNT);
-    let entries = in_shape(c, ENTRY_COUNT);
-    match n {
-        0 => 0,
-        1 => 1,
-        2 => difference(persisted, 1),
-        3 => persisted,
-        4 => sum(persisted, 1),
-        5 => sum(persisted, 2),
-        6 => sum(persisted, MOST_AHEAD),
-        7 => sum(persisted, MOST_AHEAD + 1),
-        8 => difference(lines, 1),
-        9 => lines,
-        10 => difference(entries, 1),
-        11 => entries,
-        12 => sum(entries, 1),
-        13 => OLD_LAST_EPOCH - 1,
-        14 => MOST_LINES,
-        _ => 0xFFFFFFFFFFFFFFFF,
-    }
+fn edges(c: &Conversion) -> [u64; 16] {
+    let persisted = c.control(Old::PERSISTED);
+    let lines = c.shape(Old::LINES);
+    let entries = c.shape(Old::ENTRIES);
+    [
+        0,
+        1,
+        persisted.wrapping_sub(1),
+        persisted,
+        persisted.wrapping_add(1),
+        persisted.wrapping_add(2),
+        persisted.wrapping_add(MOST_AHEAD),
+        persisted.wrapping_add(MOST_AHEAD + 1),
+        lines.wrapping_sub(1),
+        lines,
+        entries.wrapping_sub(1),
+        entries,
+        entries.wrapping_add(1),
+        OLD_LAST_EPOCH - 1,
+        MOST_LINES,
+        u64::MAX,
+    ]
 }
 
-// A word that is a copy of another, has one bit the other way round, is any word, or has a number at which a
-// test turns in one of its fields.
-fn changed(c: Conversion, old: u64, other: u64, f: Field, seed: u64) -> u64 {
-    match below(seed, CHANGE, 10) {
-        0 => other,
-        1 | 2 => old ^ (1 << below(seed, BIT, 64) % 64),
-        3 => word(seed, BIT),
-        _ => replaced(old, f, old_edge(c, below(seed, EDGE, OLD_EDGES))),
-    }
-}
-
-fn with_word(c: Conversion, place: u64, other: u64, f: Field, seed: u64) -> Conversion {
-    let at = index(place, BOARD_ROOM);
-    let from = index(other, BOARD_ROOM);
-    let word = changed(c, c.old[at], c.old[from], f, seed);
-    let mut next = c;
-    next.old[at] = word;
-    next
-}
-
-fn with_old_entry(c: Conversion, seed: u64) -> Conversion {
-    let entries = in_shape(c, ENTRY_COUNT);
-    let place = entry_place(below(seed, PLACE, entries));
-    let other = entry_place(below(seed, OTHER_PLACE, entries));
-    with_word(
-        c,
-        place,
-        other,
-        old_entry_field(below(seed, FIELD, 3)),
+fn damage_word(c: &mut Conversion, place: u64, other: u64, fields: &[Field; 3], seed: Seed) {
+    let damage = Damage {
         seed,
-    )
+        field: seed.pick(Purpose::Field, fields),
+        edge: seed.pick(Purpose::Edge, &edges(c)),
+    };
+    damage.make(&mut c.old.room, place, other);
 }
 
-fn with_sizes(c: Conversion, seed: u64) -> Conversion {
-    let mut next = c;
-    match below(seed, CHANGE, 4) {
-        0 => next.old_words = below(seed, BIT, BOARD_ROOM as u64),
-        1 => next.board_words = below(seed, BIT, BOARD_ROOM as u64),
-        2 => next.old_words = sum(c.old_words, below(seed, BIT, 3)),
-        _ => next.board_words = difference(c.board_words, below(seed, BIT, 3)),
+fn damage_entry(c: &mut Conversion, seed: Seed) {
+    let entries = c.shape(Old::ENTRIES);
+    let place = entry_place(seed.below(Purpose::Place, entries));
+    let other = entry_place(seed.below(Purpose::OtherPlace, entries));
+    damage_word(c, place, other, &Old::ENTRY, seed);
+}
+
+fn damage_sizes(c: &mut Conversion, seed: Seed) {
+    let any = seed.below(Purpose::Bit, BOARD_ROOM as u64);
+    let few = seed.below(Purpose::Bit, 3);
+    match seed.below(Purpose::Change, 4) {
+        0 => c.old.words = any,
+        1 => c.board.words = any,
+        2 => c.old.words = c.old.words.wrapping_add(few),
+        _ => c.board.words = c.board.words.wrapping_sub(few),
     }
-    next
 }
 
 // The ring's words are any, and the control word is too where it is said so.
-fn with_any_log(c: Conversion, any_control: bool, seed: u64) -> Conversion {
-    let entries = in_shape(c, ENTRY_COUNT);
-    let mut next = c;
-    for i in 0..entries {
-        let at = index(entry_place(i), BOARD_ROOM);
-        next.old[at] = hashed(sum(seed, i));
+fn damage_log(c: &mut Conversion, any_control: bool, seed: Seed) {
+    for i in 0..c.shape(Old::ENTRIES) {
+        c.old.put(entry_place(i), seed.plus(i).hashed().0);
     }
     if any_control {
-        next.old[CONTROL] = hashed(seed);
+        c.old.put(CONTROL, seed.hashed().0);
     }
-    next
 }
 
-fn with_any_words(c: Conversion, seed: u64) -> Conversion {
-    let old = any_board(hashed(seed));
-    let mut next = c;
-    next.old = old;
-    next
-}
-
-fn damaged_once(c: Conversion, seed: u64) -> Conversion {
-    let counts = old_counts_field(below(seed, FIELD, 3));
-    match below(seed, REGION, 16) {
-        0 | 1 | 2 => with_word(c, CONTROL as u64, SHAPE as u64, counts, seed),
-        3 => with_word(c, SHAPE as u64, CONTROL as u64, counts, seed),
-        4 => with_sizes(c, seed),
-        5 => with_any_log(c, once_in(seed, CHANGE, 2), seed),
-        6 => with_any_words(c, seed),
-        _ => with_old_entry(c, seed),
+fn damage_once(c: &mut Conversion, seed: Seed) {
+    match seed.below(Purpose::Region, 16) {
+        0..=2 => damage_word(c, CONTROL, SHAPE, &Old::control_fields(), seed),
+        3 => damage_word(c, SHAPE, CONTROL, &Old::shape_fields(), seed),
+        4 => damage_sizes(c, seed),
+        5 => damage_log(c, seed.once_in(Purpose::Change, 2), seed),
+        6 => c.old.fill(seed.hashed()),
+        _ => damage_entry(c, seed),
     }
 }
 
 // Once or twice.
-pub fn old_damaged(c: Conversion, seed: u64) -> Conversion {
-    if once_in(seed, TIMES, 2) {
-        return damaged_once(damaged_once(c, seed), hashed(seed));
+pub fn damage_old(c: &mut Conversion, seed: Seed) {
+    damage_once(c, seed);
+    if seed.once_in(Purpose::Times, 2) {
+        damage_once(c, seed.hashed());
     }
-    damaged_once(c, seed)
 }

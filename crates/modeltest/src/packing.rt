@@ -1,12 +1,11 @@
 // The packed words of the two memories and their places, by this program's own numbers and not by
 // those of `layout`: a wrong layout must show, not be shared. A layout that changes changes this
 // file, and no other of this program.
-use crate::random::sum;
 
 // A board: the control word, the shape word, the log's entries of two words each, the lines.
-pub const CONTROL: usize = 0;
+pub const CONTROL: u64 = 0;
 
-pub const SHAPE: usize = 1;
+pub const SHAPE: u64 = 1;
 
 const LOG: u64 = 2;
 
@@ -41,11 +40,11 @@ pub const BOARD_ROOM: usize = 304;
 pub const WORK_ROOM: usize = 656;
 
 pub fn board_words(lines: u64, entries: u64) -> u64 {
-    sum(entry_place(entries), lines)
+    entry_place(entries).wrapping_add(lines)
 }
 
 pub fn work_words(slots: u64) -> u64 {
-    sum(slot_place(slots), BEHIND_SLOTS)
+    slot_place(slots).wrapping_add(BEHIND_SLOTS)
 }
 
 pub fn slots_of(sets: u64) -> u64 {
@@ -54,179 +53,182 @@ pub fn slots_of(sets: u64) -> u64 {
 
 // S of a work memory of so many words.
 pub fn slots_in(words: u64) -> u64 {
-    if words < BEHIND_SLOTS {
-        return 0;
-    }
-    (words - BEHIND_SLOTS) / 2
+    words.saturating_sub(BEHIND_SLOTS) / 2
 }
 
 // The place on a board of the packed word of an entry of the ring.
 pub fn entry_place(ring_place: u64) -> u64 {
-    sum(LOG, sum(ring_place, ring_place))
+    ring_place.wrapping_add(ring_place).wrapping_add(LOG)
+}
+
+// That of entry i of a log that starts at a place of a ring of so many entries.
+pub fn log_place(start: u64, entries: u64, i: u64) -> u64 {
+    if entries == 0 {
+        return LOG;
+    }
+    entry_place(start.wrapping_add(i) % entries)
 }
 
 // The places in a work memory of a slot word, of the packed word of a buffered entry, and of a word of
 // the filter.
 pub fn slot_place(k: u64) -> u64 {
-    sum(k, k)
+    k.wrapping_add(k)
 }
 
 pub fn buffer_place(slots: u64, i: u64) -> u64 {
-    sum(slot_place(slots), sum(i, i))
+    slot_place(slots.wrapping_add(i))
 }
 
 pub fn filter_place(slots: u64, i: u64) -> u64 {
-    sum(buffer_place(slots, BUFFER_ENTRIES), i)
+    buffer_place(slots, BUFFER_ENTRIES).wrapping_add(i)
 }
 
 // A field of a packed word: where it begins, counted from the least significant bit, and its mask.
 #[derive(Clone, Copy)]
 pub struct Field {
-    pub shift: u64,
+    pub shift: u32,
     pub mask: u64,
 }
 
-// The words that have fields. A word of the filter, and a register, is a field as a whole.
-pub const CONTROL_WORD: u64 = 0;
+impl Field {
+    pub fn of(self, word: u64) -> u64 {
+        word.wrapping_shr(self.shift) & self.mask
+    }
 
-pub const SHAPE_WORD: u64 = 1;
-
-pub const ENTRY_WORD: u64 = 2;
-
-pub const SLOT_WORD: u64 = 3;
-
-pub const FILTER_WORD: u64 = 4;
-
-pub const REGISTER_WORD: u64 = 5;
-
-// The fields of a word are numbered from its most significant one; past the last one it is meant again.
-pub const MOST_FIELDS: u64 = 5;
-
-// Control word: P 40, start 12, length 12.
-fn control_field(n: u64) -> Field {
-    match n {
-        0 => field_of(24, 0xFFFFFFFFFF),
-        1 => field_of(12, 0xFFF),
-        _ => field_of(0, 0xFFF),
+    // The word with another value in the field, as far as that fits it.
+    pub fn replaced(self, word: u64, value: u64) -> u64 {
+        let zeroed = word & !self.mask.wrapping_shl(self.shift);
+        zeroed | (value & self.mask).wrapping_shl(self.shift)
     }
 }
 
-// Shape word: 1 in 24, N 20, L 20.
-fn shape_field(n: u64) -> Field {
-    match n {
-        0 => field_of(40, 0xFFFFFF),
-        1 => field_of(20, 0xFFFFF),
-        _ => field_of(0, 0xFFFFF),
+// The fields of a board's words, and the words made of them.
+pub trait Layout {
+    // Control word: P, the log's start and its length.
+    const PERSISTED: Field;
+
+    const START: Field;
+
+    const LENGTH: Field;
+
+    // Shape word: what tells the layout, N and L.
+    const VERSION: Field;
+
+    const LINES: Field;
+
+    const ENTRIES: Field;
+
+    const OWN_VERSION: u64;
+
+    // The packed word of an entry that is valid from an epoch till before another.
+    fn entry_word(address: u64, valid_from: u64, valid_till: u64) -> u64;
+
+    // The fields of the control word and of the shape word, from the most significant one.
+    fn control_fields() -> [Field; 3] {
+        [Self::PERSISTED, Self::START, Self::LENGTH]
+    }
+
+    fn shape_fields() -> [Field; 3] {
+        [Self::VERSION, Self::LINES, Self::ENTRIES]
+    }
+
+    fn control_word(persisted: u64, start: u64, length: u64) -> u64 {
+        let epochs = Self::PERSISTED.replaced(0, persisted);
+        let ring = Self::START.replaced(epochs, start);
+        Self::LENGTH.replaced(ring, length)
+    }
+
+    fn shape_word(lines: u64, entries: u64) -> u64 {
+        let version = Self::VERSION.replaced(0, Self::OWN_VERSION);
+        let sized = Self::LINES.replaced(version, lines);
+        Self::ENTRIES.replaced(sized, entries)
     }
 }
 
-// Entry: address 16, ValidTill 40, span 8.
-fn entry_field(n: u64) -> Field {
-    match n {
-        0 => field_of(48, 0xFFFF),
-        1 => field_of(8, 0xFFFFFFFFFF),
-        _ => field_of(0, 0xFF),
+// The layout of today's boards.
+pub struct New;
+
+impl New {
+    // Entry: address 16, ValidTill 40, span 8.
+    pub const ADDRESS: Field = Field {
+        shift: 48,
+        mask: 0xFFFF,
+    };
+
+    pub const TILL: Field = Field {
+        shift: 8,
+        mask: 0xFFFFFFFFFF,
+    };
+
+    pub const SPAN: Field = Field {
+        shift: 0,
+        mask: 0xFF,
+    };
+
+    pub const ENTRY: [Field; 3] = [New::ADDRESS, New::TILL, New::SPAN];
+}
+
+// Control word: P 40, start 12, length 12. Shape word: 1 in 24, N 20, L 20.
+impl Layout for New {
+    const PERSISTED: Field = Field {
+        shift: 24,
+        mask: 0xFFFFFFFFFF,
+    };
+
+    const START: Field = Field {
+        shift: 12,
+        mask: 0xFFF,
+    };
+
+    const LENGTH: Field = Field {
+        shift: 0,
+        mask: 0xFFF,
+    };
+
+    const VERSION: Field = Field {
+        shift: 40,
+        mask: 0xFFFFFF,
+    };
+
+    const LINES: Field = Field {
+        shift: 20,
+        mask: 0xFFFFF,
+    };
+
+    const ENTRIES: Field = Field {
+        shift: 0,
+        mask: 0xFFFFF,
+    };
+
+    const OWN_VERSION: u64 = 1;
+
+    fn entry_word(address: u64, valid_from: u64, valid_till: u64) -> u64 {
+        let span = valid_till.wrapping_sub(valid_from);
+        let one = New::ADDRESS.replaced(0, address);
+        New::SPAN.replaced(New::TILL.replaced(one, valid_till), span)
     }
 }
 
 // Slot: valid 1, dirty 1, address 16, tag 40, zero 6.
-fn slot_field(n: u64) -> Field {
-    match n {
-        0 => field_of(63, 1),
-        1 => field_of(62, 1),
-        2 => field_of(46, 0xFFFF),
-        3 => field_of(6, 0xFFFFFFFFFF),
-        _ => field_of(0, 0x3F),
-    }
-}
+pub const SLOT: [Field; 5] = [
+    Field { shift: 63, mask: 1 },
+    Field { shift: 62, mask: 1 },
+    Field {
+        shift: 46,
+        mask: 0xFFFF,
+    },
+    Field {
+        shift: 6,
+        mask: 0xFFFFFFFFFF,
+    },
+    Field {
+        shift: 0,
+        mask: 0x3F,
+    },
+];
 
-pub fn field_in(word_kind: u64, n: u64) -> Field {
-    match word_kind {
-        CONTROL_WORD => control_field(n),
-        SHAPE_WORD => shape_field(n),
-        ENTRY_WORD => entry_field(n),
-        SLOT_WORD => slot_field(n),
-        _ => field_of(0, 0xFFFFFFFFFFFFFFFF),
-    }
-}
-
-pub fn value_in(word: u64, f: Field) -> u64 {
-    (word >> (f.shift % 64)) & f.mask
-}
-
-// The word with another value in a field, as far as that fits it.
-pub fn replaced(word: u64, f: Field, value: u64) -> u64 {
-    let shift = f.shift % 64;
-    (word & !(f.mask << shift)) | ((value & f.mask) << shift)
-}
-
-pub fn field_of(shift: u64, mask: u64) -> Field {
-    Field { shift, mask }
-}
-
-// P, the log's start and its length, by a board's control word.
-pub fn persisted_of(control: u64) -> u64 {
-    value_in(control, control_field(0))
-}
-
-pub fn start_of(control: u64) -> u64 {
-    value_in(control, control_field(1))
-}
-
-pub fn length_of(control: u64) -> u64 {
-    value_in(control, control_field(2))
-}
-
-pub fn control_word(persisted: u64, start: u64, length: u64) -> u64 {
-    let epochs = replaced(0, control_field(0), persisted);
-    let ring = replaced(epochs, control_field(1), start);
-    replaced(ring, control_field(2), length)
-}
-
-// In the first field of a shape word.
-const SHAPE_VERSION: u64 = 1;
-
-pub fn shape_word(lines: u64, entries: u64) -> u64 {
-    let version = replaced(0, shape_field(0), SHAPE_VERSION);
-    let sized = replaced(version, shape_field(1), lines);
-    replaced(sized, shape_field(2), entries)
-}
-
-// N and L, by its shape word.
-pub fn lines_of(shape: u64) -> u64 {
-    value_in(shape, shape_field(1))
-}
-
-pub fn entries_of(shape: u64) -> u64 {
-    value_in(shape, shape_field(2))
-}
-
-// The address, ValidTill and the span of an entry, by its packed word.
-pub fn address_in(word: u64) -> u64 {
-    value_in(word, entry_field(0))
-}
-
-pub fn till_in(word: u64) -> u64 {
-    value_in(word, entry_field(1))
-}
-
-pub fn span_in(word: u64) -> u64 {
-    value_in(word, entry_field(2))
-}
-
-pub fn entry_word(address: u64, till: u64, span: u64) -> u64 {
-    let one = replaced(0, entry_field(0), address);
-    with_span(replaced(one, entry_field(1), till), span)
-}
-
-pub fn with_span(word: u64, span: u64) -> u64 {
-    replaced(word, entry_field(2), span)
-}
-
-// The place of the packed word of entry i of a log that starts at a place of a ring of so many entries.
-pub fn log_place(start: u64, entries: u64, i: u64) -> u64 {
-    if entries == 0 {
-        return LOG;
-    }
-    entry_place(sum(start, i) % entries)
-}
+// A word of the filter, and a register, is a field as a whole.
+pub const WHOLE: [Field; 1] = [Field {
+    shift: 0,
+    mask: u64::MAX,
+}];

@@ -1,117 +1,127 @@
 // Pseudo-random numbers: each is a hash of a seed and of what it is drawn for, so that every run of the
 // program draws the same numbers, and no draw moves another.
+ghost use Rattle.std.specs.Prelude.{◌<◌, length};
 
-// What numbers are drawn for: those of a list, ..
-pub const LINES: u64 = 1;
-
-pub const ENTRIES: u64 = 2;
-
-pub const SETS: u64 = 3;
-
-pub const START: u64 = 4;
-
-pub const EPOCHS_BEHIND: u64 = 5;
-
-pub const CHOICES: u64 = 6;
-
-// The first of eight cards.
-pub const DECK: u64 = 8;
-
-// .. of a call and of what a power-up is lent, ..
-pub const STAYS_OFF: u64 = 16;
-
-pub const IS_RARE: u64 = 17;
-
-pub const CARD: u64 = 18;
-
-pub const IS_FAR: u64 = 19;
-
-pub const ADDRESS: u64 = 20;
-
-pub const VALUE: u64 = 21;
-
-pub const TARGET_CHOICE: u64 = 22;
-
-pub const IS_CUT: u64 = 23;
-
-pub const IS_SMALL: u64 = 24;
-
-pub const ALLOWANCE: u64 = 25;
-
-pub const IS_ODD: u64 = 26;
-
-pub const IS_OTHER_SIZE: u64 = 27;
-
-pub const SLOTS: u64 = 28;
-
-// .. of damage, ..
-pub const TIMES: u64 = 32;
-
-pub const REGION: u64 = 33;
-
-pub const PLACE: u64 = 34;
-
-pub const OTHER_PLACE: u64 = 35;
-
-pub const CHANGE: u64 = 36;
-
-pub const FIELD: u64 = 37;
-
-pub const EDGE: u64 = 38;
-
-pub const BIT: u64 = 39;
-
-// .. of conversions, and of what a list is converted for, ..
-pub const MOVES: u64 = 48;
-
-pub const IS_MOVED: u64 = 49;
-
-pub const CONVERSION: u64 = 50;
-
-pub const FAULT: u64 = 51;
-
-pub const IS_CONVERTED: u64 = 52;
-
-// .. and of spans.
-pub const IS_SPAN: u64 = 53;
-
-pub const SPAN: u64 = 54;
-
-pub const IS_BUFFERED: u64 = 55;
-
-pub fn sum(a: u64, b: u64) -> u64 {
-    std::num::wrapping_add_u64(a, b)
+// What numbers are drawn for.
+#[derive(Clone, Copy)]
+pub enum Purpose {
+    // Those of a list, ..
+    Lines = 1,
+    Entries = 2,
+    Sets = 3,
+    Start = 4,
+    EpochsBehind = 5,
+    Choices = 6,
+    FirstCard = 8,
+    SecondCard = 9,
+    ThirdCard = 10,
+    FourthCard = 11,
+    FifthCard = 12,
+    SixthCard = 13,
+    SeventhCard = 14,
+    EighthCard = 15,
+    // .. of a call and of what a power-up is lent, ..
+    StaysOff = 16,
+    IsRare = 17,
+    Card = 18,
+    IsFar = 19,
+    Address = 20,
+    Value = 21,
+    TargetChoice = 22,
+    IsCut = 23,
+    IsSmall = 24,
+    Allowance = 25,
+    IsOdd = 26,
+    IsOtherSize = 27,
+    Slots = 28,
+    // .. of damage, ..
+    Times = 32,
+    Region = 33,
+    Place = 34,
+    OtherPlace = 35,
+    Change = 36,
+    Field = 37,
+    Edge = 38,
+    Bit = 39,
+    // .. of conversions, and of what a list is converted for, ..
+    Moves = 48,
+    IsMoved = 49,
+    Conversion = 50,
+    Fault = 51,
+    IsConverted = 52,
+    // .. and of spans.
+    Span = 54,
+    IsBuffered = 55,
 }
 
-pub fn difference(a: u64, b: u64) -> u64 {
-    std::num::wrapping_sub_u64(a, b)
-}
+pub const DECK: [Purpose; 8] = [
+    Purpose::FirstCard,
+    Purpose::SecondCard,
+    Purpose::ThirdCard,
+    Purpose::FourthCard,
+    Purpose::FifthCard,
+    Purpose::SixthCard,
+    Purpose::SeventhCard,
+    Purpose::EighthCard,
+];
 
-// Wang's hash of 64 bits. It has sums between its shifts, so that words for several purposes from one
-// seed have nothing to do with each other.
-pub fn hashed(word: u64) -> u64 {
-    let a = sum(!word, word << 21);
-    let b = a ^ (a >> 24);
-    let c = sum(sum(b, b << 3), b << 8);
-    let d = c ^ (c >> 14);
-    let e = sum(sum(d, d << 2), d << 4);
-    let f = e ^ (e >> 28);
-    sum(f, f << 31)
-}
+#[derive(Clone, Copy)]
+pub struct Seed(pub u64);
 
-pub fn word(seed: u64, purpose: u64) -> u64 {
-    hashed(seed ^ (purpose << 56))
-}
-
-// A number below a bound; 0 where there is none.
-pub fn below(seed: u64, purpose: u64, bound: u64) -> u64 {
-    if bound == 0 {
-        return 0;
+impl Seed {
+    // Wang's hash of 64 bits. It has sums between its shifts, so that words for several purposes from one
+    // seed have nothing to do with each other.
+    pub fn hashed(self) -> Seed {
+        let Seed(word) = self;
+        let a = (!word).wrapping_add(word << 21);
+        let b = a ^ (a >> 24);
+        let c = b.wrapping_add(b << 3).wrapping_add(b << 8);
+        let d = c ^ (c >> 14);
+        let e = d.wrapping_add(d << 2).wrapping_add(d << 4);
+        let f = e ^ (e >> 28);
+        Seed(f.wrapping_add(f << 31))
     }
-    word(seed, purpose) % bound
-}
 
-// Whether something happens that happens once in so many times.
-pub fn once_in(seed: u64, purpose: u64, times: u64) -> bool {
-    below(seed, purpose, times) == 0
+    // The seed so many behind this one.
+    pub fn plus(self, n: u64) -> Seed {
+        Seed(self.0.wrapping_add(n))
+    }
+
+    // Any word for each place.
+    pub fn fill(self, words: &mut [u64]) {
+        for (place, word) in words.iter_mut().enumerate() {
+            *word = self.plus(place as u64).hashed().0;
+        }
+    }
+
+    pub fn word(self, purpose: Purpose) -> u64 {
+        Seed(self.0 ^ ((purpose as u64) << 56)).hashed().0
+    }
+
+    // A number below a bound; 0 where there is none.
+    pub fn below(self, purpose: Purpose, bound: u64) -> u64
+        ensures { 0 < bound → result < bound }
+    {
+        if bound == 0 {
+            return 0;
+        }
+        self.word(purpose) % bound
+    }
+
+    // Whether something happens that happens once in so many times.
+    pub fn once_in(self, purpose: Purpose, times: u64) -> bool {
+        self.below(purpose, times) == 0
+    }
+
+    // A word of which one bit is the other way round.
+    pub fn flipped(self, word: u64) -> u64 {
+        word ^ (1 << self.below(Purpose::Bit, 64))
+    }
+
+    // One of these.
+    pub fn pick<T: Copy>(self, purpose: Purpose, choices: &[T]) -> T
+        requires { 0 < length choices.now }
+    {
+        choices[(self.word(purpose) % choices.len() as u64) as usize]
+    }
 }
