@@ -25,6 +25,7 @@ fn copy_lines(old: &[u64], board: &mut [u64]) {
 // line".
 fn undo_log(old: &[u64], board: &mut [u64]) {
     let header = header_of::<Old>(old);
+    // By number: an entry's place in the ring is reckoned from it.
     for i in (0..header.length).rev() {
         let entry = logged::<Old>(old, header, i);
         if entry.is_in_force(header.persisted) {

@@ -106,6 +106,7 @@ impl<'a> Run<'a> {
             return;
         }
         let header = self.header();
+        // By number: entry i is read at one place and stored at another, round the ring's end.
         for i in 0..buffered {
             self.log_entry(header, i);
         }
@@ -251,6 +252,7 @@ impl<'a> Run<'a> {
     // control word: same P, start 0, length 0, always stored." "Then work memory all zero".
     pub fn recover(&mut self) {
         let header = self.header();
+        // By number: an entry's place in the ring is reckoned from it.
         for i in (0..header.length).rev() {
             let entry = logged::<Today>(self.board, header, i);
             if entry.is_in_force(header.persisted) {

@@ -19,12 +19,6 @@ const LINE_DIGITS: usize = 16;
 
 const BYTE_VALUES: u64 = 256;
 
-const DATA_TYPE: u64 = 0;
-
-const END_TYPE: u64 = 1;
-
-const UPPER_TYPE: u64 = 4;
-
 const UPPER_BYTES: u64 = 2;
 
 // "line i at byte address 8i"; "Each bank of 65,536 byte addresses", so of 2^13 lines: 65,536 lines are 8 banks.
@@ -38,7 +32,8 @@ const BANK_LINES_SHIFT: u32 = 13;
 
 const MOST_BANKS: u64 = 8;
 
-// "carries the upper address and whether the end was seen, first 0 and no".
+// "carries the upper address and whether the end was seen, first 0 and no": both, since the upper address is carried
+// behind the end too.
 #[derive(Clone, Copy, Default, PartialEq, Eq)]
 pub struct Reader {
     pub upper: u64,
@@ -83,14 +78,14 @@ fn carried(digits: &[u8]) -> Option<Record> {
         return None;
     }
     let address = number_of(address)?;
-    match (number_of(record_type)?, count) {
-        (DATA_TYPE, LINE_BYTES) => Some(Record::Line(address, number_of(data)?)),
-        (DATA_TYPE, TWO_LINES_BYTES) => {
+    match (record_type, count) {
+        (b"00", LINE_BYTES) => Some(Record::Line(address, number_of(data)?)),
+        (b"00", TWO_LINES_BYTES) => {
             let (first, second) = data.split_at_checked(LINE_DIGITS)?;
             Some(Record::TwoLines(address, number_of(first)?, number_of(second)?))
         }
-        (UPPER_TYPE, UPPER_BYTES) if address == 0 => Some(Record::Upper(number_of(data)?)),
-        (END_TYPE, 0) if address == 0 => Some(Record::End),
+        (b"04", UPPER_BYTES) if address == 0 => Some(Record::Upper(number_of(data)?)),
+        (b"01", 0) if address == 0 => Some(Record::End),
         _ => None,
     }
 }

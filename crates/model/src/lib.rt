@@ -82,7 +82,8 @@ pub fn load(
     run.finished(line_data)
 }
 
-// Store: its tests, then what `Run::store` says.
+// Store: its tests, then what `Run::store` says. The memories, the registers and the arguments are six parameters here,
+// since each is its caller's own, and goes into a `State` and a `Run` at once.
 pub fn store(
     board: &mut [u64],
     work: &mut [u64],

@@ -9,7 +9,8 @@ const LINE_CAPACITY: usize = 296;
 // at its number modulo 16.
 const COPIES: usize = 16;
 
-// "State: N lines, running epoch e, persisted epoch p, copies of the lines by epoch."
+// "State: N lines, running epoch e, persisted epoch p, copies of the lines by epoch." N stands beside arrays, since a
+// machine is copied at each cut that is tried, and the copy of a Vec may fail.
 #[derive(Clone, Copy)]
 pub struct Reference {
     pub line_count: u64,

@@ -196,7 +196,7 @@ pub fn entry_word(address: u64, valid_from: u64, valid_till: u64) -> u64 {
     ENTRY_ADDRESS.word(address) | VALID_TILL.word(valid_till) | SPAN.word(span)
 }
 
-// What the two words of a slot say.
+// What the two words of a slot say: any words, so that a slot which is not valid may be dirty.
 #[derive(Clone, Copy)]
 pub struct Slot {
     pub valid: bool,
