@@ -1,11 +1,11 @@
-// An old board converted on both sides. It is lent as `&[u64]`, so that neither side can write it; the second
-// memory is compared word for word, with the words past the lent ones.
-use crate::compare::*;
+// An old board converted on both sides.
+use crate::boards::Boards;
+use crate::compare::{Place, Score};
 use crate::old_packing::{Board, old_board};
 use crate::packing::{CONTROL, Field, SHAPE};
 use crate::random::Seed;
 use crate::rows::Row;
-use crate::sides::*;
+use crate::sides::{Outcome, State};
 
 // What the converter is lent.
 #[derive(Clone, Copy)]
@@ -41,26 +41,11 @@ impl Conversion {
     }
 }
 
-pub fn between_memories(
-    found: &Outcome,
-    wanted: &Outcome,
-    board: &[u64],
-    wanted_board: &[u64],
-) -> Option<Difference> {
-    between_outcomes(found, wanted).or_else(|| between_words(
-        Part::SecondMemory,
-        board,
-        wanted_board,
-    ))
-}
-
-// One conversion, made on both sides and compared. The second memory becomes the library's.
+// One conversion, made on both sides and compared: the second memory word for word, with the words past the lent
+// ones. It becomes the library's.
 pub fn convert(c: &mut Conversion, score: &mut Score) -> Outcome {
-    let mut wanted_board = c.board;
-    let found = Library::convert(c.old.lent(), c.board.lent_mut());
-    let wanted = SecondModel::convert(c.old.lent(), wanted_board.lent_mut());
-    let difference = between_memories(&found, &wanted, &c.board.room, &wanted_board.room);
-    score.note(c.place(), difference);
-    score.count(Row::Convert, &found);
-    found
+    let mut boards = Boards::both(c.board);
+    let outcome = boards.convert(c.old.lent(), score);
+    c.board = boards.found;
+    outcome
 }

@@ -8,6 +8,7 @@
 // paper lets be, and 0 differences.
 #![tactic(auto)]
 
+mod boards;
 mod compare;
 mod conversions;
 mod damage;
