@@ -3,51 +3,47 @@
 use Prim.Native.Nat.{ℕ, zero, suc, ◌+◌, ◌-◌, ◌*◌, ◌<◌, ◌≤◌}
 use mathlib.Core.Path.{◌≡◌, refl, sym, ap, ◌∙◌}
 use mathlib.Core.Bool.{Bool, true, false, cond}
-use mathlib.Core.List.{List, [], ◌∷◌, ◌++◌}
+use mathlib.Core.List.{List, [], ◌++◌}
 use native.Mathlib.Nat.{zero-add}
 use native.Mathlib.Omega.{arith}
 use borrow.Author.Tests.{lt-ltb, le-leb, lt-leb}
-use lib.ListN.{length, get_or, set, take, drop, replicate, length-append, length-set, length-drop, length-replicate}
+use lib.ListN.{length, set, take, drop, replicate, length-append, length-set, length-drop, length-replicate}
 use lib.Seq.{length-take-le, take_at, drop_at}
 use Rattle.base.specs.Parts.{rest_lent, rest_back}
-use Rattle.board.specs.Stores.{Store, one, applied, each, shifted}
+use Rattle.board.specs.Stores.{one, applied, each, shifted}
 use Rattle.board.specs.Laws.{length_applied, applied_append}
 use Rattle.board.specs.Parts.{shifted_append, applied_shifted}
 use Rattle.ranges.specs.Ranges.{covers}
 use Rattle.layout.specs.declared.Control.{Control}
-use Rattle.layout.specs.Memory.{log_at, lines_at, board_words, shape_for}
-use Rattle.layout.specs.Words.{Decoded, encode_control, encode_shape}
+use Rattle.layout.specs.Memory.{lines_at, board_words, shape_for}
+use Rattle.layout.specs.Words.{encode_control, encode_shape}
 use Rattle.undo.specs.declared.LogState.{LogState}
-use Rattle.undo.specs.Log.{Placed, old_in, emptied}
+use Rattle.undo.specs.Log.{emptied}
 use Rattle.undo.specs.Laws.{proper_named, proper_till}
 use Rattle.undo.specs.Recovery.{Log, restore_stores, restore_turn, restore_all}
 use Rattle.convert.specs.declared.old.OldEntry.{OldEntry}
-use Rattle.convert.specs.Old.{decode_old_entry, OldEntryFits, old_entry_in, old_log_in, recovered_lines}
+use Rattle.convert.specs.Old.{old_log_in, recovered_lines}
 use Rattle.convert.specs.Convert.{head_of, converted}
-use Rattle.convert.specs.Promises.{Recoverable, EntryReady, HeadReady, FillReady}
-use Rattle.convert.proofs.Searching.{entry_read}
+use Rattle.convert.specs.Promises.{EntryRead, Recoverable, EntryReady, HeadReady, FillReady}
 
 -- one entry
-module _ (lines old : List ℕ) (u : LogState) (i at : ℕ) (e : OldEntry) (ready : EntryReady old u (length lines) i) (placed : Placed u i at)
-    (d : Decoded OldEntryFits (decode_old_entry (get_or old (log_at + at) 0)) e) where
+module _ (lines old : List ℕ) (u : LogState) (i : ℕ) (e : OldEntry) (held : ℕ) (ready : EntryReady old u (length lines) i)
+    (read : EntryRead old u i e held) where
   abbrev log : Log
   log = old_log_in old u
 
-  read : e ≡ old_entry_in old u i
-  read = entry_read old u i at e placed d
-
   pub entry_line : e.address < length lines
-  entry_line = rw read (proper_named log (length lines) i (ready.ready.proper i ready.within))
+  entry_line = rw read.entry (proper_named log (length lines) i (ready.ready.proper i ready.within))
 
   pub entry_skipped : u.control.persisted < e.from → lines ≡ applied lines (restore_stores log 0 i)
   unfolding restore_stores covers applied
-  entry_skipped h = rw (← read, lt-leb e.from u.control.persisted h)
+  entry_skipped h = rw (← read.entry, lt-leb e.from u.control.persisted h)
 
-  pub entry_made : e.from ≤ u.control.persisted → set lines e.address (get_or old (log_at + at + 1) 0) ≡ applied lines (restore_stores log 0 i)
-  unfolding restore_stores covers applied old_in
+  pub entry_made : e.from ≤ u.control.persisted → set lines e.address held ≡ applied lines (restore_stores log 0 i)
+  unfolding restore_stores covers applied
   entry_made h =
-      let till : u.control.persisted < e.till = rw read (proper_till log (length lines) i (ready.ready.proper i ready.within)) in
-      rw (← read, le-leb e.from u.control.persisted h, lt-ltb u.control.persisted e.till till, zero-add, placed.is)
+      let till : u.control.persisted < e.till = rw read.entry (proper_till log (length lines) i (ready.ready.proper i ready.within)) in
+      rw (← read.entry, ← read.held, le-leb e.from u.control.persisted h, lt-ltb u.control.persisted e.till till, zero-add)
 
 -- all of them, from the newest on: left are still to be restored
 pub record Restoring (old before : List ℕ) (u : LogState) (lines : List ℕ) (left : ℕ) : Type 0 where
@@ -130,17 +126,17 @@ module _ (head : List ℕ) (c : Control) (lines entries : ℕ) (ready : HeadRead
 
 -- both, one behind the other: the head is lent first, then what is behind it
 module _ (board old : List ℕ) (u : LogState) (lines first : ℕ) (ready : FillReady board old u lines) (f : first ≡ lines_at u.entries) where
-  pub fill_head : HeadReady (take (first - 0) (drop 0 board)) u.control lines u.entries
+  pub fill_head : HeadReady (take first board) u.control lines u.entries
   fill_head =
       record {
-        words = length-take-le (first - 0) board (omega (arith, ready.words)) ∙ omega arith;
+        words = length-take-le first board (omega (arith, ready.words)) ∙ f;
         control_fits = record { persisted = ready.ready.sound.persisted; start = omega arith; length = omega arith };
         shape_fits = omega (arith, ready.sizes);
       }
 
   module _ (head : List ℕ) (h : head ≡ head_of u.control lines u.entries) where
     abbrev begun : List ℕ
-    begun = head ++ drop (first - 0) (drop 0 board)
+    begun = head ++ drop first board
 
     head_words : length head ≡ first
     unfolding head_of
@@ -159,4 +155,4 @@ module _ (board old : List ℕ) (u : LogState) (lines first : ℕ) (ready : Fill
         → take first begun ++ (part ++ drop (length begun - first) (drop first begun)) ≡ converted old u lines
     unfolding converted
     fill_done part x =
-        rw (rest_back first begun part, take_at head (drop (first - 0) (drop 0 board)) first head_words, h, x)
+        rw (rest_back first begun part, take_at head (drop first board) first head_words, h, x)

@@ -1,6 +1,6 @@
 -- Boards as they were while epochs were numbers of 24 bits: the paper's layout, limits and rules up to request 8/13,
 -- where 9/13 changes them. What stands where on the board, and what recovery is, is as today.
-use Rattle.std.specs.Prelude.{ℕ, ◌+◌, ◌-◌, ◌^◌, ◌<◌, refl, Bool, true, not, ◌&&◌, List, [], ◌∷◌, ltb, leb, eqb, length, get_or, drop}
+use Rattle.std.specs.Prelude.{ℕ, ◌+◌, ◌-◌, ◌^◌, ◌<◌, refl, Bool, true, not, ◌&&◌, List, [], ◌∷◌, ltb, leb, eqb, get_or, drop}
 use Rattle.std.proofs.Common.{arith}
 use Rattle.board.specs.Stores.{applied}
 use Rattle.ranges.specs.Ranges.{Range}
@@ -8,7 +8,8 @@ use Rattle.layout.specs.declared.Control.{Control}
 use Rattle.layout.specs.declared.Shape.{Shape}
 use Rattle.layout.specs.Limits.{address_bits, most_lines}
 use Rattle.layout.specs.Fields.{width, unpack, Packing, decode, Fit}
-use Rattle.layout.specs.Laws.{Laws, laws}
+use Rattle.layout.specs.Laws.{Laws, laws, shape_laws}
+use Rattle.layout.specs.Words.{shape_packing, ShapeFits}
 use Rattle.layout.specs.Memory.{control_at, shape_at, log_at, lines_at, board_words}
 use Rattle.undo.specs.declared.LogState.{LogState}
 use Rattle.undo.specs.Log.{place_of, old_in}
@@ -46,21 +47,15 @@ pub record OldControlFits (c : Control) : Type 0 where
   pub start : c.start < 2 ^ 20
   pub length : c.length < 2 ^ 20
 
--- "Shape word: zero 24, N 20, L 20."
+-- "Shape word: zero 24, N 20, L 20." It is packed as today's.
 abbrev pub old_shape_packing : Packing Shape
-old_shape_packing = record {
-  widths = 24 ∷ 20 ∷ 20 ∷ [];
-  fields = λ s. s.version ∷ s.lines ∷ s.entries ∷ [];
-  of = λ vs. record { version = get_or vs 0 0; lines = get_or vs 1 0; entries = get_or vs 2 0 };
-}
+old_shape_packing = shape_packing
 
 abbrev pub decode_old_shape : ℕ → Shape
 decode_old_shape = decode old_shape_packing
 
-pub record OldShapeFits (s : Shape) : Type 0 where
-  pub version : s.version < 2 ^ 24
-  pub lines : s.lines < 2 ^ 20
-  pub entries : s.entries < 2 ^ 20
+abbrev pub OldShapeFits : Shape → Type 0
+OldShapeFits = ShapeFits
 
 -- "L log entries of two words: address 16, ValidFrom 24, ValidTill 24; then the old data." This is the first word.
 abbrev pub old_entry_packing : Packing OldEntry
@@ -130,8 +125,7 @@ unfolding width unpack Fit
 old_control_laws = laws (record { whole = refl; fit = λ x. omega arith; of_fields = λ x. refl; fields_of = λ w. refl })
 
 pub old_shape_laws : Laws old_shape_packing OldShapeFits
-unfolding width unpack Fit
-old_shape_laws = laws (record { whole = refl; fit = λ x. omega arith; of_fields = λ x. refl; fields_of = λ w. refl })
+old_shape_laws = shape_laws
 
 pub old_entry_laws : Laws old_entry_packing OldEntryFits
 unfolding width unpack Fit

@@ -1,23 +1,20 @@
-// The layout that boards had while epochs were numbers of 24 bits. No other code knows it. The control word and the
-// shape word have the same fields as today, of other widths; what stands where on the board is the same.
+// The words that boards had while epochs were numbers of 24 bits. No other code knows them. The control word has the same
+// fields as today, of other widths; the shape word and what stands where on the board are the same.
+// They stay apart from layout's: one function over the widths would answer numbers, which each word would still have to name.
 ghost use Rattle.layout.specs.Words.{Decoded};
-ghost use Rattle.convert.specs.Old.{decode_old_control, OldControlFits, decode_old_shape, OldShapeFits, decode_old_entry, OldEntryFits};
+ghost use Rattle.convert.specs.Old.{decode_old_control, OldControlFits, decode_old_entry, OldEntryFits};
 
-use layout::{Control, Shape};
+use layout::Control;
 
 // Widths in bits.
 const EPOCH_BITS: u32 = 24;
 
 const RING_BITS: u32 = 20;
 
-const SIZE_BITS: u32 = 20;
-
 // How many values a field of such a width has.
 const EPOCHS: u64 = 1 << EPOCH_BITS;
 
 const PLACES: u64 = 1 << RING_BITS;
-
-const SIZES: u64 = 1 << SIZE_BITS;
 
 // Limits.
 pub const OLD_LAST_EPOCH: u64 = EPOCHS - 1;
@@ -29,27 +26,20 @@ const CONTROL_START: u64 = PLACES;
 
 const CONTROL_PERSISTED: u64 = CONTROL_START * PLACES;
 
-pub fn decode_old_control(word: u64) -> Control
-    ensures { Decoded OldControlFits (decode_old_control word) result }
-{
-    Control {
-        persisted: word / CONTROL_PERSISTED,
-        start: word / CONTROL_START % PLACES,
-        length: word % PLACES,
-    }
-}
+// The control word as it was packed.
+#[derive(Clone, Copy)]
+pub struct OldControl(pub u64);
 
-const SHAPE_LINES: u64 = SIZES;
+impl From<OldControl> for Control {
+    ghost from_gives = { λ old control. Decoded OldControlFits (decode_old_control old.0) control };
 
-const SHAPE_VERSION: u64 = SHAPE_LINES * SIZES;
-
-pub fn decode_old_shape(word: u64) -> Shape
-    ensures { Decoded OldShapeFits (decode_old_shape word) result }
-{
-    Shape {
-        version: word / SHAPE_VERSION,
-        lines: word / SHAPE_LINES % SIZES,
-        entries: word % SIZES,
+    fn from(old: OldControl) -> Control {
+        let word = old.0;
+        Control {
+            persisted: word / CONTROL_PERSISTED,
+            start: word / CONTROL_START % PLACES,
+            length: word % PLACES,
+        }
     }
 }
 
@@ -66,10 +56,10 @@ const ENTRY_FROM: u64 = EPOCHS;
 
 const ENTRY_ADDRESS: u64 = ENTRY_FROM * EPOCHS;
 
-impl OldEntry {
-    pub fn decode(word: u64) -> OldEntry
-        ensures { Decoded OldEntryFits (decode_old_entry word) result }
-    {
+impl From<u64> for OldEntry {
+    ghost from_gives = { λ word entry. Decoded OldEntryFits (decode_old_entry word) entry };
+
+    fn from(word: u64) -> OldEntry {
         OldEntry {
             address: word / ENTRY_ADDRESS,
             from: word / ENTRY_FROM % EPOCHS,

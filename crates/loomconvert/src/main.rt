@@ -10,7 +10,7 @@ ghost use Rattle.image.specs.Image.{image_of};
 ghost use Rattle.loomconvert.specs.Output.{most_refusal, most_output, refusal_text, words_text, output, no_slots};
 
 use benchboard::BOARD_WORDS;
-use layout::{BYTES_OF_WORD, LOG_AT, SHAPE_AT};
+use layout::{BYTES_OF_WORD, LOG_AT, SHAPE_AT, Shape};
 use status::Status;
 use std::alloc::Global;
 use std::io;
@@ -40,7 +40,7 @@ fn is_bench_sized(old: &[u64]) -> bool
     if old.len() < LOG_AT {
         return true;
     }
-    let shape = convert::decode_old_shape(old[SHAPE_AT]);
+    let shape = Shape::from(old[SHAPE_AT]);
     benchboard::is_bench_sized(shape.lines, shape.entries, NO_SLOTS)
 }
 

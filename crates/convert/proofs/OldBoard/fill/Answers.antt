@@ -1,5 +1,5 @@
 use Rattle.convert.proofs.Filling.{fill_head, fill_ready, fill_done}
-use Rattle.convert.proofs.fill.Goals as goal
+use Rattle.convert.proofs.OldBoard.fill.Goals as goal
 
 pub put_head-requires : goal.put_head-requires
 put_head-requires c = search (fill_head)

@@ -1,5 +1,5 @@
 use Rattle.convert.proofs.Filling.{copied_ready, lines_recovered}
-use Rattle.convert.proofs.put_lines.Goals as goal
+use Rattle.convert.proofs.OldBoard.put_lines.Goals as goal
 
 pub restore-requires : goal.restore-requires
 restore-requires c = search (copied_ready)

@@ -1,9 +1,0 @@
-use mathlib.Core.Path.{refl}
-use Rattle.layout.specs.Fields.{width}
-use Rattle.layout.specs.Reading.{lower, read, decoded}
-use Rattle.convert.specs.Old.{old_shape_laws}
-use Rattle.convert.proofs.old.decode_old_shape.Goals as goal
-
-pub returns : goal.returns
-unfolding width lower read
-returns c = decoded old_shape_laws refl _ c.ranges.word.fits
