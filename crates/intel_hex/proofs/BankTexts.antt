@@ -1,14 +1,15 @@
 -- The texts of banks: what the tests of the code tell of them.
-use Rattle.std.proofs.Common.{◌≡◌, ℕ, ◌+◌, ◌*◌, ◌%◌, ◌^◌, ◌<◌, Bool, true, false, not, ◌&&◌, ◌||◌, eqb, List, [], ◌∷◌, ◌++◌, map, length, get_or, take, drop, sym, refl, ap, ◌∙◌, arith, get_or-drop, get_or-take, drop-drop, ext_get_or, take-add, eqb-true}
+use Rattle.std.proofs.Common.{◌≡◌, ℕ, zero, suc, ◌+◌, ◌*◌, ◌%◌, ◌^◌, ◌<◌, Bool, true, false, not, ◌&&◌, ◌||◌, eqb, List, [], ◌∷◌, ◌++◌, map, length, get_or, take, drop, sym, refl, ap, ap₂, ◌∙◌, arith, drop-drop, take-add, eqb-true}
 use mathlib.Core.Bool.{false≢true}
 use mathlib.Core.List.{map-append}
 use borrow.Author.Tests.{not-true, not-false}
-use lib.ListN.{length-map, get_or-replicate}
+use lib.ListN.{length-map}
 use Rattle.base.specs.Every.{Every}
 use Rattle.base.specs.Tests.{and_left, and_right}
 use Rattle.layout.specs.Bytes.{byte_bits, bytes_of_word, word_of}
 use Rattle.layout.specs.Fields.{pack, width}
-use Rattle.intel_hex.specs.declared.reading.Opener.{Opener}
+use Rattle.std.specs.Prelude.{Some, None}
+use Rattle.std.specs.List.{list_all}
 use Rattle.intel_hex.specs.Records.{digit, byte_digits, digits_of, sum_of, address_bytes, bank_type, data_type, record_bytes}
 use Rattle.intel_hex.specs.Laws.{end_type}
 use Rattle.intel_hex.specs.Reading.{place_in, address_in, type_in}
@@ -16,12 +17,14 @@ use Rattle.intel_hex.specs.Contents.{value_of, paired, content_of}
 use Rattle.intel_hex.specs.Import.{capital, in_capitals, is_record, is_offered, well_formed}
 use Rattle.intel_hex.specs.Laws.{bare_text}
 use Rattle.intel_hex.specs.RecordTexts.{record_told}
-use Rattle.intel_hex.specs.Promises.{text_bytes, data_at, meant, all_digits, Decides, Framed, ReadsValues, ReadsBytes, zeros, ZerosTo, ReadsBank, no_opener}
+use Rattle.intel_hex.specs.Promises.{text_bytes, data_at, meant, all_digits, Decides, Framed, ReadsValues, ReadsBytes, zeros, zero_digit, ReadsBank}
 use Rattle.intel_hex.proofs.ByteDigits.{sum_append}
 use Rattle.intel_hex.proofs.DigitReading.{all_append}
 use Rattle.intel_hex.proofs.TextDigits.{capital_a, plain_all, last_digits, digits_back}
 use Rattle.intel_hex.proofs.TextParts.{address_part, data_part, last_part, address_read, data_read, last_read, content_read, Readable, ReadAs}
 use Rattle.intel_hex.proofs.TextParts.{address_many, data_many, a_many, d_many, content_sum, read_as, Told, count_told, told}
+use Rattle.std.specs.Int.{w16, from_be_bytes}
+use Rattle.intel_hex.proofs.RecordParts.{two_bytes_are}
 use Rattle.intel_hex.proofs.LineTexts.{paired_append, steps_join}
 
 -- two bytes that are 0, and any two
@@ -118,23 +121,31 @@ module _ (text : List ℕ) (long : length text ≡ text_bytes address_bytes) whe
       } in
       record { readable = readable; zero_sum = t.sum; address_zeros = zero_address readable t.sum (eqb-true (address_in (content_of folded)) 0 kinds.1) }
 
-  refused : (well_formed folded ≡ true → ⊥) → ReadsBank text no_opener
+  refused : (well_formed folded ≡ true → ⊥) → ReadsBank text None
   refused other = go (well_formed folded) refl
     where
-      go : (t : Bool) → well_formed folded ≡ t → ReadsBank text no_opener
+      go : (t : Bool) → well_formed folded ≡ t → ReadsBank text None
       go true e = absurd (other e)
-      go false e = record { is = sym e; type = λ f. absurd (false≢true f); bank_is = λ f. absurd (false≢true f) }
+      go false e = record { is = sym e; told = tt }
 
-  module _ (r : Opener) (none : r ≡ no_opener) where
-    pub bank_not_framed : (t : Bool) → Decides (Framed text (48 ∷ 50 ∷ []) (48 ∷ 52 ∷ [])) t → not t ≡ true → ReadsBank text r
-    unfolding digits_of digit
-    bank_not_framed t decides e = rw none (refused (λ w. false≢true (sym (not-true t e) ∙ decides.complete (bank_told w).readable.framed)))
+  pub bank_not_framed : (t : Bool) → Decides (Framed text (48 ∷ 50 ∷ []) (48 ∷ 52 ∷ [])) t → not t ≡ true → ReadsBank text None
+  unfolding digits_of digit
+  bank_not_framed t decides e = refused (λ w. false≢true (sym (not-true t e) ∙ decides.complete (bank_told w).readable.framed))
 
-    pub bank_elsewhere : (t : Bool) → Decides (ZerosTo text (byte_digits * address_bytes)) t → not t ≡ true → ReadsBank text r
-    bank_elsewhere t decides e =
-        rw none (refused (λ w. false≢true (sym (not-true t e) ∙ decides.complete
-        (λ j h. sym (get_or-drop 3 text j 0) ∙ sym (get_or-take (byte_digits * address_bytes) (drop 3 text) j 0 h)
-        ∙ ap (λ (l : List ℕ). get_or l j 0) (bank_told w).address_zeros ∙ get_or-replicate (byte_digits * address_bytes) j 48 0 h))))
+  -- digits that are all zeros, and the other way round
+  abbrev is_zero : ℕ → Bool
+  is_zero d = eqb d zero_digit
+
+  all_zeros : (ds : List ℕ) (n : ℕ) → length ds ≡ n → list_all is_zero ds ≡ true → ds ≡ zeros n
+  all_zeros [] zero many e = refl
+  all_zeros [] (suc n) many e = absurd (omega arith)
+  all_zeros (d ∷ ds) zero many e = absurd (omega arith)
+  all_zeros (d ∷ ds) (suc n) many e =
+      ap₂ ◌∷◌ (eqb-true d zero_digit (and_left (is_zero d) (list_all is_zero ds) e)) (all_zeros ds n (omega arith) (and_right (is_zero d) (list_all is_zero ds) e))
+
+  pub bank_elsewhere : (t : Bool) → t ≡ list_all is_zero (address_part text) → not t ≡ true → ReadsBank text None
+  bank_elsewhere t is e =
+      refused (λ w. false≢true (sym (not-true t e) ∙ is ∙ ap (list_all is_zero) (bank_told w).address_zeros))
 
   -- the digits of the data and of the last byte
   behind_type : take 6 (drop data_at text) ≡ data_part address_bytes text ++ last_part address_bytes text
@@ -144,12 +155,15 @@ module _ (text : List ℕ) (long : length text ≡ text_bytes address_bytes) whe
     split : t ≡ all_digits (data_part address_bytes text) && all_digits (last_part address_bytes text)
     split = reads.all ∙ ap all_digits behind_type ∙ all_append (data_part address_bytes text) (last_part address_bytes text)
 
-    pub bank_not_digits : not t ≡ true → (r : Opener) → r ≡ no_opener → ReadsBank text r
-    bank_not_digits e r none =
-        rw none (refused (λ w. let b = bank_told w in false≢true (sym (not-true t e) ∙ split ∙ rw (b.readable.data_digits, b.readable.last_digits))))
+    pub bank_not_digits : not t ≡ true → ReadsBank text None
+    bank_not_digits e =
+        refused (λ w. let b = bank_told w in false≢true (sym (not-true t e) ∙ split ∙ rw (b.readable.data_digits, b.readable.last_digits)))
 
-    module _ (fits : not t ≡ false) (bytes : List ℕ) (sum total : ℕ) (b : ReadsBytes values bytes sum) (s : total ≡ (sum + 6) % 2 ^ byte_bits)
-        (z : Bool) (zeros_told : Decides (ZerosTo text (byte_digits * address_bytes)) z) (zero : not z ≡ false) where
+    module _ (fits : not t ≡ false) (bytes : List ℕ) (sum : ℕ) (b : ReadsBytes values bytes sum)
+        (z : Bool) (zeros_told : z ≡ list_all is_zero (address_part text)) (zero_all : not z ≡ false) where
+      abbrev total : ℕ
+      total = (sum + 6) % 2 ^ byte_bits
+
       both : all_digits (data_part address_bytes text) && all_digits (last_part address_bytes text) ≡ true
       both = sym split ∙ not-false t fits
 
@@ -161,11 +175,7 @@ module _ (text : List ℕ) (long : length text ≡ text_bytes address_bytes) whe
 
       address_is : address_part text ≡ zeros (byte_digits * address_bytes)
       address_is =
-          let all = zeros_told.sound (not-false z zero) in
-          ext_get_or 0 (address_part text) (zeros (byte_digits * address_bytes)) (address_many text address_bytes many)
-          (λ j h. let within : j < byte_digits * address_bytes = omega (arith, h, address_many text address_bytes many) in
-          get_or-take (byte_digits * address_bytes) (drop 3 text) j 0 within ∙ get_or-drop 3 text j 0 ∙ all j within
-          ∙ sym (get_or-replicate (byte_digits * address_bytes) j 48 0 within))
+          all_zeros (address_part text) (byte_digits * address_bytes) (address_many text address_bytes many) (sym zeros_told ∙ not-false z zero_all)
 
       a_digits : all_digits (address_part text) ≡ true
       unfolding all_digits value_of capital place_in
@@ -190,13 +200,13 @@ module _ (text : List ℕ) (long : length text ≡ text_bytes address_bytes) whe
       total_is =
           let all : sum_of (content_read address_bytes bank_type text) ≡ sum_of bytes + 6 =
           content_sum text address_bytes many bank_type ∙ rw (a_none, bytes_are, sum_append) (omega arith) in
-          s ∙ steps_join (sum_of bytes) sum 6 b.total ∙ ap (λ (n : ℕ). n % 2 ^ byte_bits) (sym all)
+          steps_join (sum_of bytes) sum 6 b.total ∙ ap (λ (n : ℕ). n % 2 ^ byte_bits) (sym all)
 
-      pub bank_sum_off : (total ≡ 0 → ⊥) → (r : Opener) → r ≡ no_opener → ReadsBank text r
-      bank_sum_off other r none = rw none (refused (λ w. other (total_is ∙ (bank_told w).zero_sum)))
+      pub bank_sum_off : (total ≡ 0 → ⊥) → ReadsBank text None
+      bank_sum_off other = refused (λ w. other (total_is ∙ (bank_told w).zero_sum))
 
       pub bank_whole : (t' : Bool) → Decides (Framed text (48 ∷ 50 ∷ []) (48 ∷ 52 ∷ [])) t' → not t' ≡ false → total ≡ 0 → (bank : ℕ)
-          → bank ≡ word_of (get_or bytes 0 0 ∷ get_or bytes 1 0 ∷ []) → ReadsBank text (record { whole = true; bank = bank })
+          → bank ≡ from_be_bytes w16 (get_or bytes 0 0 ∷ get_or bytes 1 0 ∷ []) → ReadsBank text (Some bank)
       unfolding digits_of digit word_of pack width
       bank_whole t' decides e z₀ bank n =
           let readable : Readable text address_bytes bank_type =
@@ -214,6 +224,5 @@ module _ (text : List ℕ) (long : length text ≡ text_bytes address_bytes) whe
           two_bytes_holds (data_read address_bytes text) (last_read address_bytes text) (d_many text address_bytes many) ∙ rw (← bytes_are) in
           record {
             is = sym (formed readable zero_sum (ap word_of a_none));
-            type = λ f. told.type_is;
-            bank_is = λ f. ap word_of (told.held_is ∙ pair) ∙ sym n;
+            told = record { type = told.type_is; bank_is = ap word_of (told.held_is ∙ pair) ∙ sym (n ∙ two_bytes_are (get_or bytes 0 0) (get_or bytes 1 0)) };
           }

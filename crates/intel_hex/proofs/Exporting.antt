@@ -1,5 +1,6 @@
 -- One law for each way out of an export.
 use Rattle.std.proofs.Common.{Ok, Err, ◌≡◌, ℕ, ◌+◌, ◌-◌, ◌*◌, ◌/◌, ◌<◌, ◌≤◌, false, leb, List, [], length, get_or, take, drop, sym, refl, ap, ◌∙◌, arith, le-ltb, lt-ltb, eq-eqb, ne_eqb, le-leb}
+use Rattle.std.specs.Prelude.{Result, IsErrAnd}
 use borrow.Author.Tests.{lt-leb}
 use Rattle.base.specs.Parts.{rest_lent}
 use Rattle.layout.specs.Bytes.{bytes_of_word}
@@ -8,31 +9,23 @@ use Rattle.status.specs.declared.Status.{Status}
 use Rattle.status.specs.declared.Status.TheVariants as status
 use Rattle.checks.specs.declared.Refusal.{Refusal}
 use Rattle.checks.specs.declared.View.{View}
-use Rattle.checks.specs.Refusals.{Checked, board_checked}
+use Rattle.checks.specs.Refusals.{unvalued, board_checked}
 use Rattle.checks.specs.View.{view_of}
 use Rattle.checks.specs.Promises.{Opened}
-use Rattle.checks.specs.Laws.{board_opened}
-use Rattle.picl.specs.declared.Report.{Report}
 use Rattle.picl.specs.Calls.{report}
 use Rattle.intel_hex.specs.Records.{record_lines, records_of, bank_text, data_text, end_text}
 use Rattle.intel_hex.specs.Places.{bank_records, last_of, pair_bytes, records_many, last_record, bank_number, pair_number}
 use Rattle.intel_hex.specs.Export.{lines_on, record_at, most_text, export_checked, export_report, export_text, Exports}
-use Rattle.intel_hex.specs.Promises.{Puts, Numbered}
+use Rattle.intel_hex.specs.Promises.{Puts, Numbered, put_from, put_by}
 use Rattle.intel_hex.specs.Laws.{lines_many}
 
 -- ── 1 ──
 
-module _ (board text : List ℕ) (number : ℕ) (k : Checked) (is : k ≡ board_checked board) where
-  pub board_out : (why : Refusal) (r : Report) → k ≡ Err why → r ≡ report why.status why.value → Exports board number text text r
-  unfolding export_report export_text export_checked
-  board_out why r e f = record { report = rw (← is, e) f; text_left = rw (← is, e) }
-
-  module _ (v : View) (e : k ≡ Ok v) where
-    pub board_passed : Ok v ≡ board_checked board
-    board_passed = sym e ∙ is
-
-    pub board_open : Opened board v
-    board_open = board_opened board v board_passed
+pub board_out : (board text : List ℕ) (number : ℕ) (why : Refusal) → Err why ≡ board_checked board → (r : Result ℕ Refusal) → IsErrAnd r (λ f. f ≡ why)
+    → Exports board number text text (put_by r)
+unfolding export_report export_text export_checked
+board_out board text number why is (Ok n) f = absurd f
+board_out board text number why is (Err g) f = record { report = rw (← is, f) refl; text_left = rw (← is) }
 
 -- ── 16, 17 and 18 ──
 
@@ -42,10 +35,10 @@ unfolding view_of
 lines_lent board v o at e = rest_lent at board ∙ rw (e, o.is)
 
 module _ (board text : List ℕ) (number : ℕ) (v : View) (passed : Ok v ≡ board_checked board) where
-  pub short_out : (r : Report) → length text < most_text → r ≡ report status.Short 0 → Exports board number text text r
+  pub short_out : length text < most_text → Exports board number text text (report status.Short 0)
   unfolding export_report export_text export_checked
-  short_out r h e =
-      record { report = rw (← passed, lt-ltb (length text) most_text h) e; text_left = rw (← passed, lt-ltb (length text) most_text h) }
+  short_out h =
+      record { report = rw (← passed, lt-ltb (length text) most_text h); text_left = rw (← passed, lt-ltb (length text) most_text h) }
 
   module _ (o : Opened board v) (room : most_text ≤ length text) (last : ℕ) (l : last ≡ last_of v.shape.lines) where
     records_are : length (records_of (lines_on board)) ≡ last + 1
@@ -53,12 +46,12 @@ module _ (board text : List ℕ) (number : ℕ) (v : View) (passed : Ok v ≡ bo
         let many = lines_many board v o in
         records_many (lines_on board) (omega (arith, many, o.good.sizes.lines_some)) ∙ ap (λ (n : ℕ). last_of n + 1) many ∙ ap (λ (n : ℕ). n + 1) (sym l)
 
-    pub past_out : (r : Report) → last < number → r ≡ report status.Past 0 → Exports board number text text r
+    pub past_out : last < number → Exports board number text text (report status.Past 0)
     unfolding export_report export_text export_checked
-    past_out r h e =
+    past_out h =
         let past = le-leb (length (records_of (lines_on board))) number (omega (arith, records_are, h)) in
         record {
-          report = rw (← passed, le-ltb (length text) most_text room, past) e;
+          report = rw (← passed, le-ltb (length text) most_text room, past);
           text_left = rw (← passed, le-ltb (length text) most_text room, past);
         }
 
@@ -66,11 +59,11 @@ module _ (board text : List ℕ) (number : ℕ) (v : View) (passed : Ok v ≡ bo
       there : leb (length (records_of (lines_on board))) number ≡ false
       there = lt-leb (length (records_of (lines_on board))) number (omega (arith, records_are, h))
 
-      pub held_out : (r : Report) → (v.control.length ≡ 0 → ⊥) → r ≡ report status.LogHeld 0 → Exports board number text text r
+      pub held_out : (v.control.length ≡ 0 → ⊥) → Exports board number text text (report status.LogHeld 0)
       unfolding export_report export_text export_checked
-      held_out r n e =
+      held_out n =
           record {
-            report = rw (← passed, le-ltb (length text) most_text room, there, ne_eqb v.control.length 0 n) e;
+            report = rw (← passed, le-ltb (length text) most_text room, there, ne_eqb v.control.length 0 n);
             text_left = rw (← passed, le-ltb (length text) most_text room, there, ne_eqb v.control.length 0 n);
           }
 
@@ -87,14 +80,14 @@ module _ (board text : List ℕ) (number : ℕ) (v : View) (passed : Ok v ≡ bo
               within = h;
             })
 
-        pub done_out : v.control.length ≡ 0 → (r : Report) (text' : List ℕ) (k : ℕ)
-            → Puts (get_or (records_of (take (length board - at) (drop at board))) number []) text text' k → r ≡ report status.Ok k
-            → Exports board number text text' r
+        pub done_out : v.control.length ≡ 0 → (text' : List ℕ) (k : ℕ)
+            → Puts (get_or (records_of (take (length board - at) (drop at board))) number []) text text' k
+            → Exports board number text text' (report status.Ok k)
         unfolding export_report export_text export_checked record_at
-        done_out z r text' k p f =
+        done_out z text' k p =
             let q = rw (lines_lent board v o at e) at p in
             record {
-              report = rw (← passed, le-ltb (length text) most_text room, there, eq-eqb v.control.length 0 z) (f ∙ ap (λ (n : ℕ). report status.Ok n) q.many);
+              report = rw (← passed, le-ltb (length text) most_text room, there, eq-eqb v.control.length 0 z) (ap (λ (n : ℕ). report status.Ok n) q.many);
               text_left = rw (← passed, le-ltb (length text) most_text room, there, eq-eqb v.control.length 0 z) q.left;
             }
 
@@ -115,3 +108,10 @@ module _ (lines text : List ℕ) (number last : ℕ) (n : Numbered lines text nu
         → Puts (data_text (bytes_of_word * (record_lines * (number - bank - 1))) (pair_bytes (drop (record_lines * (number - bank - 1)) lines))) text text' r
         → Puts (get_or (records_of lines) number []) text text' r
     lines_out e p = rw (pair_number lines n.some number bank below b e (record_lines * (number - bank - 1)) refl) p
+
+-- ── the answer ──
+
+pub refused_out : (board text text' : List ℕ) (number : ℕ) (why : Status) → Exports board number text text' (put_from (Err why))
+    → (r : Result ℕ Refusal) → IsErrAnd r (λ f. f ≡ unvalued why) → Exports board number text text' (put_by r)
+refused_out board text text' number why x (Ok n) f = absurd f
+refused_out board text text' number why x (Err g) f = rw f x

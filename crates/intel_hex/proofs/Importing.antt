@@ -1,11 +1,11 @@
 -- One law for each way out of a record that is taken.
-use Rattle.std.proofs.Common.{Ok, Err, ◌≡◌, ℕ, suc, ◌+◌, ◌-◌, ◌*◌, ◌/◌, ◌%◌, ◌<◌, ◌≤◌, Bool, true, false, not, ◌&&◌, ◌||◌, eqb, ltb, List, [], ◌∷◌, ◌++◌, map, length, get_or, take, drop, set, sym, refl, ap, ◌∙◌, append_assoc, arith, length-take-le, drop-drop, ltb-false, le-ltb, lt-ltb, eq-eqb, ne_eqb, eqb-true}
+use Rattle.std.proofs.Common.{Ok, Err, ◌≡◌, ℕ, suc, ◌+◌, ◌-◌, ◌*◌, ◌/◌, ◌%◌, ◌<◌, ◌≤◌, Bool, true, false, not, ◌&&◌, ◌||◌, eqb, ltb, List, [], ◌∷◌, ◌++◌, map, length, take, drop, set, sym, refl, ap, ◌∙◌, arith, length-take-le, ltb-false, le-ltb, lt-ltb, eq-eqb, ne_eqb, eqb-true}
 use mathlib.Core.Bool.{false≢true}
 use borrow.Author.Tests.{not-true, not-false}
 use lib.ListN.{length-map}
-use lib.Seq.{sets, sets-eq}
+use lib.Seq.{sets}
 use Rattle.base.specs.Tests.{and_left, and_right}
-use Rattle.layout.specs.Bytes.{bytes_of_word, word_of}
+use Rattle.layout.specs.Bytes.{bytes_of_word}
 use Rattle.layout.specs.ByteWords.{words_of, length_words}
 use Rattle.layout.specs.Limits.{most_lines}
 use Rattle.layout.specs.Memory.{lines_at}
@@ -14,12 +14,9 @@ use Rattle.status.specs.declared.Status.TheVariants as status
 use Rattle.board.specs.Stores.{applied}
 use Rattle.checks.specs.declared.Refusal.{Refusal}
 use Rattle.checks.specs.declared.View.{View}
-use Rattle.checks.specs.Refusals.{Checked, unvalued, board_checked}
-use Rattle.picl.specs.declared.Report.{Report}
-use Rattle.picl.specs.Calls.{report}
+use Rattle.checks.specs.Refusals.{unvalued, board_checked}
 use Rattle.intel_hex.specs.declared.Reader.{Reader}
-use Rattle.intel_hex.specs.declared.Taken.{Taken}
-use Rattle.intel_hex.specs.declared.reading.Opener.{Opener}
+use Rattle.std.specs.Prelude.{Some, None, Result, IsErrAnd}
 use Rattle.intel_hex.specs.Records.{byte_digits, address_bytes, record_text, bank_bytes, bank_type, data_type, record_bytes, end_text}
 use Rattle.intel_hex.specs.Laws.{end_type}
 use Rattle.intel_hex.specs.Reading.{count_in, address_in, type_in, held_in, held_from, upper_behind, record_type, record_count, record_address}
@@ -28,12 +25,8 @@ use Rattle.intel_hex.specs.Export.{most_text}
 use Rattle.intel_hex.specs.Import.{capital, in_capitals, are_bytes, same, is_record, is_offered, well_formed, is_past, is_outside, import_checked, import_report, import_reader, import_stores, import_board, line_store, Imports}
 use Rattle.intel_hex.specs.Laws.{bare_text, text_many, end_is}
 use Rattle.intel_hex.specs.RecordTexts.{record_told, same_told, told_same, written_record}
-use Rattle.intel_hex.specs.Promises.{text_bytes, has_lines, count_for, LinesRead, ReadsLines, ReadsBank, taken_as, line_from, Inside, Ready, ShortText, LineCount}
-use Rattle.intel_hex.proofs.TextParts.{two_at}
-use Rattle.intel_hex.proofs.TextReading.{by_lines}
-
-pub taken_is : (s : Status) (reader : Reader) (r : Report) → r ≡ report s 0 → record { report = r; reader = reader } ≡ taken_as s reader
-taken_is s reader r e = rw e
+use Rattle.intel_hex.specs.Promises.{text_bytes, has_lines, count_for, LinesRead, ReadsLines, ReadsBank, taken_as, taken_from, taken_by, line_from, Inside, Ready, ShortText, LineCount}
+use Rattle.intel_hex.proofs.TextReading.{part_put, by_lines}
 
 pub two_lines : (n : ℕ) → n ≡ most_text → true ≡ has_lines n
 two_lines n e = rw (eq-eqb n most_text e)
@@ -89,23 +82,19 @@ count_whole n h = by_lines n h (λ k. count_for k ≡ bytes_of_word * (count_for
 
 pub lines_inside : (board : List ℕ) (reader : Reader) (v : View) → Ready board reader v → (n from count : ℕ) → has_lines n ≡ true → LineCount n count
     → (p : Bool) → p ≡ is_past v.shape.lines reader.upper from count → p ≡ false → (held : List ℕ) → length held ≡ record_bytes
-    → Inside board reader.upper from (length (take (count - 0) (drop 0 held))) v
+    → Inside board reader.upper from (length (take count held)) v
 lines_inside board reader v ready n from count h c p is e held long =
     let w = within_told v.shape.lines reader.upper from count (sym is ∙ e) in
-    let all : count - 0 ≡ count = omega arith in
     let many : length (take count held) ≡ count = length-take-le count held (omega (arith, long, c.most)) in
-    rw (all, many) record { good = ready.opened.good; lines_whole = rw c.is (count_whole n h); from_whole = w.whole; end = w.end }
+    rw many record { good = ready.opened.good; lines_whole = rw c.is (count_whole n h); from_whole = w.whole; end = w.end }
 
 -- ── lines that are put ──
 
 pub words_put : (board held part : List ℕ) (at end : ℕ) → end ≡ at + length held / bytes_of_word → at + length held / bytes_of_word ≤ length board
     → part ≡ words_of held → take at board ++ (part ++ drop (end - at) (drop at board)) ≡ sets board at (words_of held)
 words_put board held part at end e fits p =
-    let many : length (words_of held) ≡ end - at = length_words held ∙ omega (arith, e) in
-    let past : at + (end - at) ≡ at + length (words_of held) = omega (arith, many) in
-    let rest : drop (end - at) (drop at board) ≡ drop (at + length (words_of held)) board = drop-drop (end - at) at board ∙ ap (λ (n : ℕ). drop n board) past in
-    rw (p, rest) (sym (append_assoc (take at board) (words_of held) (drop (at + length (words_of held)) board))
-    ∙ sym (sets-eq (words_of held) board at (omega (arith, many, e, fits))))
+    let many : length (words_of held) ≡ length held / bytes_of_word = length_words held in
+    part_put board part (words_of held) at end (rw many e) (rw many fits) p
 
 pub lines_put : (v : View) (upper from : ℕ) (board board' words : List ℕ) (first line : ℕ) → first ≡ lines_at v.shape.entries
     → line ≡ (bank_bytes * upper + from) / bytes_of_word → board' ≡ sets board (first + line) words → board' ≡ sets board (line_from v upper from) words
@@ -119,9 +108,6 @@ stored_lines [] board first from e = refl
 stored_lines (w ∷ ws) board first from e =
     let at : suc (first + from / bytes_of_word) ≡ first + (from + bytes_of_word) / bytes_of_word = omega (arith, e) in
     rw at (stored_lines ws (set board (first + from / bytes_of_word) w) first (from + bytes_of_word) (omega (arith, e)))
-
-two_first : (l : List ℕ) → address_bytes ≤ length l → take address_bytes l ≡ get_or l 0 0 ∷ get_or l 1 0 ∷ []
-two_first l h = two_at 0 l h
 
 -- ── which texts there are ──
 
@@ -192,37 +178,41 @@ module _ (board : List ℕ) (reader : Reader) (text : List ℕ) where
   folded = in_capitals text
 
   -- refused before the record is looked at
-  pub board_out : (k : Checked) → k ≡ board_checked board → (why : Refusal) (r : Report) → k ≡ Err why → r ≡ report why.status why.value
-      → Imports board reader text board (record { report = r; reader = reader })
+  pub board_out : (why : Refusal) → Err why ≡ board_checked board → (r : Result Reader Refusal) → IsErrAnd r (λ f. f ≡ why)
+      → Imports board reader text board (taken_by reader r)
   unfolding import_report import_reader import_board import_stores import_checked applied
-  board_out k is why r refused e =
-      let checked : board_checked board ≡ Err why = sym is ∙ refused in
-      record { report = rw checked e; reader_left = rw checked; board_left = rw checked }
+  board_out why is (Ok next) f = absurd f
+  board_out why is (Err g) f = record { report = rw (← is, f) refl; reader_left = rw (← is); board_left = rw (← is) }
+
+  -- refused behind that
+  pub row_out : (board' : List ℕ) (why : Status) → Imports board reader text board' (taken_from reader (Err why))
+      → (r : Result Reader Refusal) → IsErrAnd r (λ f. f ≡ unvalued why) → Imports board reader text board' (taken_by reader r)
+  row_out board' why x (Ok next) f = absurd f
+  row_out board' why x (Err g) f = rw f x
 
   -- refused by a later row
-  refused_out : (why : Status) → import_checked board reader text ≡ Err (unvalued why) → (r : Taken) → r ≡ taken_as why reader → Imports board reader text board r
+  refused_out : (why : Status) → import_checked board reader text ≡ Err (unvalued why) → Imports board reader text board (taken_as why reader)
   unfolding import_report import_reader import_board import_stores applied
-  refused_out why c r e = rw e record { report = rw c; reader_left = rw c; board_left = rw c }
+  refused_out why c = record { report = rw c; reader_left = rw c; board_left = rw c }
 
   module _ (v : View) (passed : Ok v ≡ board_checked board) where
-    pub log_out : (v.control.length ≡ 0 → ⊥) → (r : Taken) → r ≡ taken_as status.LogHeld reader → Imports board reader text board r
+    pub log_out : (v.control.length ≡ 0 → ⊥) → Imports board reader text board (taken_as status.LogHeld reader)
     unfolding import_checked
-    log_out other r e = refused_out status.LogHeld (rw (← passed, ne_eqb v.control.length 0 other)) r e
+    log_out other = refused_out status.LogHeld (rw (← passed, ne_eqb v.control.length 0 other))
 
-    pub ended_out : v.control.length ≡ 0 → reader.ended ≡ true → (r : Taken) → r ≡ taken_as status.Record reader → Imports board reader text board r
+    pub ended_out : v.control.length ≡ 0 → reader.ended ≡ true → Imports board reader text board (taken_as status.Record reader)
     unfolding import_checked
-    ended_out empty ended r e = refused_out status.Record (rw (← passed, empty, ended)) r e
+    ended_out empty ended = refused_out status.Record (rw (← passed, empty, ended))
 
   module _ (v : View) (ready : Ready board reader v) where
-    pub malformed : well_formed folded ≡ false → (r : Taken) → r ≡ taken_as status.Record reader → Imports board reader text board r
+    pub malformed : well_formed folded ≡ false → Imports board reader text board (taken_as status.Record reader)
     unfolding import_checked
-    malformed f r e = refused_out status.Record (rw (← ready.passed, ready.empty, ready.before_end, f)) r e
+    malformed f = refused_out status.Record (rw (← ready.passed, ready.empty, ready.before_end, f))
 
     module _ (formed : well_formed folded ≡ true) where
-      past : is_outside v.shape.lines reader.upper (content_of folded) ≡ true → (r : Taken) → r ≡ taken_as status.Outside reader
-          → Imports board reader text board r
+      past : is_outside v.shape.lines reader.upper (content_of folded) ≡ true → Imports board reader text board (taken_as status.Outside reader)
       unfolding import_checked
-      past o r e = refused_out status.Outside (rw (← ready.passed, ready.empty, ready.before_end, formed, o)) r e
+      past o = refused_out status.Outside (rw (← ready.passed, ready.empty, ready.before_end, formed, o))
 
       checked : is_outside v.shape.lines reader.upper (content_of folded) ≡ false → import_checked board reader text ≡ Ok v
       unfolding import_checked
@@ -231,22 +221,20 @@ module _ (board : List ℕ) (reader : Reader) (text : List ℕ) where
       accepted : is_outside v.shape.lines reader.upper (content_of folded) ≡ false → (left : Reader) (board' : List ℕ)
           → left ≡ record { upper = upper_behind reader.upper (content_of folded); ended = eqb (type_in (content_of folded)) end_type }
           → board' ≡ applied board (map (line_store (lines_at v.shape.entries)) (record_holds reader.upper (content_of folded)))
-          → (r : Taken) → r ≡ taken_as status.Ok left → Imports board reader text board' r
+          → Imports board reader text board' (taken_as status.Ok left)
       unfolding import_report import_reader import_board import_stores
-      accepted o left board' l b r e = rw e record { report = rw (checked o); reader_left = rw (checked o) l; board_left = rw (checked o) b }
+      accepted o left board' l b = record { report = rw (checked o); reader_left = rw (checked o) l; board_left = rw (checked o) b }
 
     -- ---- records without lines
 
-    pub bank_refused : (o : Opener) → ReadsBank text o → not o.whole ≡ true → (r : Taken) → r ≡ taken_as status.Record reader → Imports board reader text board r
-    bank_refused o reads e r t = malformed (sym reads.is ∙ not-true o.whole e) r t
+    pub bank_refused : ReadsBank text None → Imports board reader text board (taken_as status.Record reader)
+    bank_refused reads = malformed (sym reads.is)
 
-    pub bank_out : (o : Opener) → ReadsBank text o → not o.whole ≡ false → (r : Taken)
-        → r ≡ taken_as status.Ok (record { upper = o.bank; ended = false }) → Imports board reader text board r
+    pub bank_out : (bank : ℕ) → ReadsBank text (Some bank) → Imports board reader text board (taken_as status.Ok (record { upper = bank; ended = false }))
     unfolding is_outside upper_behind record_holds applied
-    bank_out o reads e r t =
-        let whole = not-false o.whole e in
-        let type = reads.type whole in
-        accepted (sym reads.is ∙ whole) (rw type) (record { upper = o.bank; ended = false }) board (rw (type, reads.bank_is whole)) (rw type) r t
+    bank_out bank reads =
+        let type = reads.told.type in
+        accepted (sym reads.is) (rw type) (record { upper = bank; ended = false }) board (rw (type, reads.told.bank_is)) (rw type)
 
     -- the end's text
     end_formed : well_formed end_text ≡ true
@@ -257,65 +245,57 @@ module _ (board : List ℕ) (reader : Reader) (text : List ℕ) where
     end_type_holds : type_in (content_of end_text) ≡ end_type
     end_type_holds = rw (end_is, record_content 0 end_type [] (omega arith) (λ i. omega arith) (omega arith), record_type)
 
-    pub end_out : (t : Bool) → t ≡ same folded end_text → not t ≡ false → (r : Taken) → r ≡ taken_as status.Ok (record { upper = reader.upper; ended = true }) → Imports board reader text board r
+    pub end_out : (t : Bool) → t ≡ same folded end_text → not t ≡ false → Imports board reader text board (taken_as status.Ok (record { upper = reader.upper; ended = true }))
     unfolding is_outside upper_behind record_holds applied
-    end_out b x e r t =
+    end_out b x e =
         let is : folded ≡ end_text = same_told folded end_text (sym x ∙ not-false b e) in
         let type : type_in (content_of folded) ≡ end_type = rw is end_type_holds in
-        accepted (rw is end_formed) (rw type) (record { upper = reader.upper; ended = true }) board (rw type) (rw type) r t
+        accepted (rw is end_formed) (rw type) (record { upper = reader.upper; ended = true }) board (rw type) (rw type)
 
-    not_formed : (well_formed folded ≡ true → ⊥) → (r : Taken) → r ≡ taken_as status.Record reader → Imports board reader text board r
-    not_formed other r e = go (well_formed folded) refl
+    not_formed : (well_formed folded ≡ true → ⊥) → Imports board reader text board (taken_as status.Record reader)
+    not_formed other = go (well_formed folded) refl
       where
-        go : (t : Bool) → well_formed folded ≡ t → Imports board reader text board r
+        go : (t : Bool) → well_formed folded ≡ t → Imports board reader text board (taken_as status.Record reader)
         go true f = absurd (other f)
-        go false f = malformed f r e
+        go false f = malformed f
 
-    pub end_refused : ShortText (length text) → (t : Bool) → t ≡ same folded end_text → not t ≡ true → (r : Taken) → r ≡ taken_as status.Record reader
-        → Imports board reader text board r
-    end_refused s t x e r k = not_formed (λ w. false≢true (sym (not-true t e) ∙ x ∙ rw (short_end text w s) (told_same end_text))) r k
+    pub end_refused : ShortText (length text) → (t : Bool) → t ≡ same folded end_text → not t ≡ true → Imports board reader text board (taken_as status.Record reader)
+    end_refused s t x e = not_formed (λ w. false≢true (sym (not-true t e) ∙ x ∙ rw (short_end text w s) (told_same end_text)))
 
-    pub long_refused : text_bytes bytes_of_word ≤ length text → (t : Bool) → t ≡ has_lines (length text) → not t ≡ true → (r : Taken)
-        → r ≡ taken_as status.Record reader → Imports board reader text board r
-    long_refused h t x e r k = not_formed (λ w. false≢true (sym (not-true t e) ∙ x ∙ long_lines text w h)) r k
+    pub long_refused : text_bytes bytes_of_word ≤ length text → (t : Bool) → t ≡ has_lines (length text) → not t ≡ true → Imports board reader text board (taken_as status.Record reader)
+    long_refused h t x e = not_formed (λ w. false≢true (sym (not-true t e) ∙ x ∙ long_lines text w h))
 
     -- ---- lines
 
-    module _ (held place : List ℕ) (t : Bool) (reads : ReadsLines text held place t) where
-      pub lines_refused : not t ≡ true → (r : Taken) → r ≡ taken_as status.Record reader → Imports board reader text board r
-      lines_refused e r k = malformed (sym reads.is ∙ not-true t e) r k
+    pub lines_refused : (held : List ℕ) → ReadsLines text held None → Imports board reader text board (taken_as status.Record reader)
+    lines_refused held reads = malformed (sym reads.is)
 
-      module _ (told : not t ≡ false) (from : ℕ) (from_is : from ≡ word_of (get_or place 0 0 ∷ get_or place 1 0 ∷ [])) (long : length place ≡ address_bytes + 1) where
-        formed : well_formed folded ≡ true
-        formed = sym reads.is ∙ not-false t told
+    module _ (held : List ℕ) (from : ℕ) (reads : ReadsLines text held (Some from)) (count : ℕ) (c : LineCount (length text) count) where
+      formed : well_formed folded ≡ true
+      formed = sym reads.is
 
-        read : LinesRead (content_of folded) held place (count_for (length text))
-        read = reads.told (not-false t told)
+      read : LinesRead (content_of folded) held (count_for (length text)) from
+      read = reads.told
 
-        address_is : address_in (content_of folded) ≡ from
-        address_is = read.address ∙ ap word_of (two_first place (omega (arith, long))) ∙ sym from_is
+      outside_is : is_outside v.shape.lines reader.upper (content_of folded) ≡ is_past v.shape.lines reader.upper from count
+      unfolding is_outside
+      outside_is = rw (read.type, read.count_is, read.address, ← c.is)
 
-        module _ (count : ℕ) (c : LineCount (length text) count) where
-          outside_is : is_outside v.shape.lines reader.upper (content_of folded) ≡ is_past v.shape.lines reader.upper from count
-          unfolding is_outside
-          outside_is = rw (read.type, read.count_is, address_is, ← c.is)
+      module _ (p : Bool) (is : p ≡ is_past v.shape.lines reader.upper from count) where
+        pub lines_outside : p ≡ true → Imports board reader text board (taken_as status.Outside reader)
+        lines_outside e = past formed (outside_is ∙ sym is ∙ e)
 
-          module _ (p : Bool) (is : p ≡ is_past v.shape.lines reader.upper from count) where
-            pub lines_outside : p ≡ true → (r : Taken) → r ≡ taken_as status.Outside reader → Imports board reader text board r
-            lines_outside e r k = past formed (outside_is ∙ sym is ∙ e) r k
-
-            pub lines_out : p ≡ false → (board' : List ℕ) → board' ≡ sets board (line_from v reader.upper from) (words_of (take (count - 0) (drop 0 held)))
-                → (r : Taken) → r ≡ taken_as status.Ok reader → Imports board reader text board' r
-            unfolding upper_behind record_holds
-            lines_out e board' b r k =
-                let whole = (within_told v.shape.lines reader.upper from count (sym is ∙ e)).whole in
-                let all : (bank_bytes * reader.upper + from) % bytes_of_word ≡ 0 = omega (arith, whole) in
-                let same_count : count - 0 ≡ count_for (length text) = omega (arith, c.is) in
-                let words = words_of (take (count_for (length text)) held) in
-                accepted formed (outside_is ∙ sym is ∙ e) reader board' (kept_reader ready.before_end ∙ rw read.type)
-                (b
-                ∙ rw (read.type, address_is, read.data_is, same_count)
-                (stored_lines words board (lines_at v.shape.entries) (bank_bytes * reader.upper + from) all)) r k
-              where
-                kept_reader : reader.ended ≡ false → reader ≡ record { upper = reader.upper; ended = false }
-                kept_reader f = ap (λ (x : Bool). record { upper = reader.upper; ended = x }) f
+        pub lines_out : p ≡ false → (board' : List ℕ) → board' ≡ sets board (line_from v reader.upper from) (words_of (take count held))
+            → Imports board reader text board' (taken_as status.Ok reader)
+        unfolding upper_behind record_holds
+        lines_out e board' b =
+            let whole = (within_told v.shape.lines reader.upper from count (sym is ∙ e)).whole in
+            let all : (bank_bytes * reader.upper + from) % bytes_of_word ≡ 0 = omega (arith, whole) in
+            let words = words_of (take (count_for (length text)) held) in
+            accepted formed (outside_is ∙ sym is ∙ e) reader board' (kept_reader ready.before_end ∙ rw read.type)
+            (b
+            ∙ rw (read.type, read.address, read.data_is, c.is)
+            (stored_lines words board (lines_at v.shape.entries) (bank_bytes * reader.upper + from) all))
+          where
+            kept_reader : reader.ended ≡ false → reader ≡ record { upper = reader.upper; ended = false }
+            kept_reader f = ap (λ (x : Bool). record { upper = reader.upper; ended = x }) f

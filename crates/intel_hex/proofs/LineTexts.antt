@@ -1,5 +1,6 @@
 -- The texts of lines: what the tests of the code tell of them.
 use Rattle.std.proofs.Common.{◌≡◌, ℕ, zero, suc, ◌+◌, ◌-◌, ◌*◌, ◌%◌, ◌^◌, ◌<◌, ◌≤◌, Bool, true, false, cond, not, ◌&&◌, ◌||◌, eqb, List, [], ◌∷◌, ◌++◌, map, length, take, drop, sym, refl, ap, ◌∙◌, append_assoc, append-nil, arith, length-append, length-drop, length-take-le, drop-drop, take_at, take-add, drop_at, eqb-true}
+use Rattle.std.specs.Prelude.{Some, None, get_or}
 use mathlib.Core.Bool.{false≢true}
 use mathlib.Core.List.{map-append}
 use borrow.Author.Tests.{eqb-false, not-true, not-false}
@@ -8,7 +9,7 @@ use lib.Seq.{sets}
 use Rattle.base.specs.Every.{Every}
 use Rattle.base.specs.Tests.{and_left, and_right}
 use Rattle.layout.specs.Bytes.{byte_bits, bytes_of_word, word_of}
-use Rattle.intel_hex.specs.Records.{digit, digit_bits, byte_digits, digits_of, sum_of, address_bytes, bank_type, data_type, record_bytes}
+use Rattle.intel_hex.specs.Records.{digit, digit_bits, byte_digits, digits_of, sum_of, address_bytes, bank_bytes, bank_type, data_type, record_bytes}
 use Rattle.intel_hex.specs.Laws.{end_type}
 use Rattle.intel_hex.specs.Reading.{place_in, address_in, type_in}
 use Rattle.intel_hex.specs.Contents.{value_of, paired, content_of}
@@ -20,10 +21,11 @@ use Rattle.intel_hex.specs.Promises.{text_bytes, data_at, tail_bytes, meant, all
 use Rattle.intel_hex.specs.Promises.{has_lines, count_for, line_digits, zeros, with_place, one_line, two_lines, gathered, LinesRead, ReadsLines, LineCount}
 use Rattle.intel_hex.proofs.ByteDigits.{sum_append}
 use Rattle.intel_hex.proofs.DigitReading.{all_append}
-use Rattle.intel_hex.proofs.RecordParts.{sums_join}
+use Rattle.std.specs.Int.{w16, from_be_bytes}
+use Rattle.intel_hex.proofs.RecordParts.{sums_join, two_bytes_are}
 use Rattle.intel_hex.proofs.TextDigits.{capital_a, last_digits}
 use Rattle.intel_hex.proofs.TextParts.{address_part, data_part, last_part, address_read, data_read, last_read, content_read, ReadAs}
-use Rattle.intel_hex.proofs.TextParts.{address_many, data_many, last_many, a_many, d_many, content_sum, read_as, Told, count_told, told}
+use Rattle.intel_hex.proofs.TextParts.{two_at, address_many, data_many, last_many, a_many, d_many, content_sum, read_as, Told, count_told, told}
 use Rattle.intel_hex.proofs.TextReading.{sets_middle, has_one, by_lines}
 
 -- ---- zeros
@@ -264,17 +266,17 @@ module _ (text : List ℕ) (h : has_lines (length text) ≡ true) where
       let is = eqb-true (type_in (content_of folded)) data_type (offered_lines (type_in (content_of folded)) (address_in (content_of folded)) offered) in
       rw is at t
 
-  refused : (held place : List ℕ) → (well_formed folded ≡ true → ⊥) → ReadsLines text held place false
-  refused held place other = go (well_formed folded) refl
+  refused : (held : List ℕ) → (well_formed folded ≡ true → ⊥) → ReadsLines text held None
+  refused held other = go (well_formed folded) refl
     where
-      go : (t : Bool) → well_formed folded ≡ t → ReadsLines text held place false
+      go : (t : Bool) → well_formed folded ≡ t → ReadsLines text held None
       go true e = absurd (other e)
-      go false e = record { is = sym e; told = λ f. absurd (false≢true f) }
+      go false e = record { is = sym e; told = tt }
 
   pub not_framed : (r : Bool) → Decides (Framed text (digits_of (count ∷ [])) (digits_of (data_type ∷ []))) r → not r ≡ true
-      → (held place : List ℕ) → ReadsLines text held place false
+      → (held : List ℕ) → ReadsLines text held None
   unfolding digits_of digit
-  not_framed r decides e held place = refused held place (λ w. false≢true (sym (not-true r e) ∙ decides.complete ((lines_told w).framed figures_count figures_kind)))
+  not_framed r decides e held = refused held (λ w. false≢true (sym (not-true r e) ∙ decides.complete ((lines_told w).framed figures_count figures_kind)))
     where
       figures_count : Every (λ c. c < capital_a) (digits_of (count ∷ []))
       figures_count = by_length (λ n. Every (λ c. c < capital_a) (digits_of (count_for n ∷ []))) (omega arith, (omega arith, tt)) (omega arith, (omega arith, tt))
@@ -283,9 +285,9 @@ module _ (text : List ℕ) (h : has_lines (length text) ≡ true) where
       figures_kind = (omega arith, (omega arith, tt))
 
   pub not_digits : (digits values : List ℕ) (r : Bool) → digits ≡ gathered text → ReadsValues digits values r → not r ≡ true
-      → (held place : List ℕ) → ReadsLines text held place false
-  not_digits digits values r g reads e held place =
-      refused held place (λ w. let t = lines_told w in
+      → (held : List ℕ) → ReadsLines text held None
+  not_digits digits values r g reads e held =
+      refused held (λ w. let t = lines_told w in
       false≢true (sym (not-true r e) ∙ reads.all ∙ ap all_digits g ∙ gathered_digits t.address t.data_digits t.last_digits))
 
   -- framed, and all digits: a record if the sum is 0
@@ -311,32 +313,43 @@ module _ (text : List ℕ) (h : has_lines (length text) ≡ true) where
       unfolding well_formed is_offered
       formed = rw (read.is, read.type_is, read.count_is, count_offered)
 
-      lines_read : (held place : List ℕ) → take count held ≡ data_read count text → take address_bytes place ≡ address_read text
-          → LinesRead (content_of folded) held place count
-      lines_read held place h p =
-          record { type = read.type_is; count_is = read.count_is; address = read.address_is ∙ ap word_of (sym p); data_is = read.held_is ∙ sym h }
+      lines_read : (held place : List ℕ) (from : ℕ) → take count held ≡ data_read count text → take address_bytes place ≡ address_read text
+          → from ≡ word_of (take address_bytes place) → from < bank_bytes → LinesRead (content_of folded) held count from
+      lines_read held place from h p e below =
+          record { type = read.type_is; count_is = read.count_is; address = read.address_is ∙ ap word_of (sym p) ∙ sym e; below = below; data_is = read.held_is ∙ sym h }
 
-    summed : (held place : List ℕ) (total : ℕ) → take count held ≡ data_read count text → take address_bytes place ≡ address_read text
-        → total ≡ sum_of c % 2 ^ byte_bits → ReadsLines text held place (eqb total 0)
-    summed held place total h p t = go (eqb total 0) refl
-      where
-        go : (z : Bool) → eqb total 0 ≡ z → ReadsLines text held place z
-        go true e =
-            let zero_sum : sum_of c % 2 ^ byte_bits ≡ 0 = sym t ∙ eqb-true total 0 e in
-            record { is = sym (formed zero_sum); told = λ f. lines_read zero_sum held place h p }
-        go false e = refused held place (λ w. eqb-false total 0 e (t ∙ (lines_told w).sum))
+  module _ (f : Bool) (decides : Decides (Framed text (digits_of (count ∷ [])) (digits_of (data_type ∷ []))) f) (e : not f ≡ false)
+      (digits values : List ℕ) (r : Bool) (g : digits ≡ gathered text) (reads : ReadsValues digits values r) (k : not r ≡ false)
+      (held place : List ℕ) (data_sum place_sum n : ℕ) (c' : LineCount (length text) n)
+      (bh : ReadsBytes (take (32 - 0) (drop 0 values)) held data_sum) (bp : ReadsBytes (take (38 - 32) (drop 32 values)) place place_sum) where
+    abbrev total : ℕ
+    total = ((data_sum + place_sum) % 2 ^ byte_bits + n) % 2 ^ byte_bits
 
-  pub lines_summed : (f : Bool) → Decides (Framed text (digits_of (count ∷ [])) (digits_of (data_type ∷ []))) f → not f ≡ false
-      → (digits values : List ℕ) (r : Bool) → digits ≡ gathered text → ReadsValues digits values r → not r ≡ false
-      → (held place : List ℕ) (data_sum place_sum sum total n : ℕ) → LineCount (length text) n
-      → ReadsBytes (take (32 - 0) (drop 0 values)) held data_sum → ReadsBytes (take (38 - 32) (drop 32 values)) place place_sum
-      → sum ≡ (data_sum + place_sum) % 2 ^ byte_bits → total ≡ (sum + n) % 2 ^ byte_bits → ReadsLines text held place (eqb total 0)
-  lines_summed f decides e digits values r g reads k held place data_sum place_sum sum total n c' bh bp s t =
-      let framed = decides.sound (not-false f e) in
-      let all : all_digits (gathered text) ≡ true = sym (ap all_digits g) ∙ sym reads.all ∙ not-false r k in
-      let v : values ≡ map meant digits = reads.values (ap all_digits g ∙ all) in
-      let hs = held_sum all digits values g v held data_sum bh in
-      let ps = place_total all digits values g v place place_sum bp in
-      summed framed all held place total (held_front all digits values g v held data_sum bh) (place_front all digits values g v place place_sum bp)
-      (total_is count (sum_of (address_read text)) (sum_of (data_read count text)) (sum_of (last_read count text)) data_sum place_sum sum total (sum_of (content_read count data_type text)) hs ps s (rw c'.is at t)
-      (content_sum text count many data_type))
+    all_read : all_digits (gathered text) ≡ true
+    all_read = sym (ap all_digits g) ∙ sym reads.all ∙ not-false r k
+
+    values_read : values ≡ map meant digits
+    values_read = reads.values (ap all_digits g ∙ all_read)
+
+    whole_sum : total ≡ sum_of (content_read count data_type text) % 2 ^ byte_bits
+    whole_sum =
+        let hs = held_sum all_read digits values g values_read held data_sum bh in
+        let ps = place_total all_read digits values g values_read place place_sum bp in
+        total_is count (sum_of (address_read text)) (sum_of (data_read count text)) (sum_of (last_read count text)) data_sum place_sum ((data_sum + place_sum) % 2 ^ byte_bits) total
+        (sum_of (content_read count data_type text)) hs ps refl (ap (λ (k : ℕ). ((data_sum + place_sum) % 2 ^ byte_bits + k) % 2 ^ byte_bits) c'.is) (content_sum text count many data_type)
+
+    pub lines_sum_off : (total ≡ 0 → ⊥) → ReadsLines text held None
+    lines_sum_off other = refused held (λ w. other (whole_sum ∙ (lines_told w).sum))
+
+    pub lines_whole : total ≡ 0 → length place ≡ address_bytes + 1 → (from : ℕ) → from < bank_bytes
+        → from ≡ from_be_bytes w16 (get_or place 0 0 ∷ get_or place 1 0 ∷ []) → ReadsLines text held (Some from)
+    lines_whole z long from below is =
+        let framed = decides.sound (not-false f e) in
+        let zero_sum = sym whole_sum ∙ z in
+        record {
+          is = sym (formed framed all_read zero_sum);
+          told =
+              lines_read framed all_read zero_sum held place from
+              (held_front all_read digits values g values_read held data_sum bh) (place_front all_read digits values g values_read place place_sum bp)
+              (is ∙ two_bytes_are (get_or place 0 0) (get_or place 1 0) ∙ ap word_of (sym (two_at 0 place (omega (arith, long))))) below;
+        }

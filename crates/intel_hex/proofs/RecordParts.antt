@@ -1,22 +1,24 @@
 -- A record is put part by part: its data, what stands before them, what stands behind.
 use Rattle.std.proofs.Common.{◌≡◌, ℕ, suc, ◌+◌, ◌-◌, ◌*◌, ◌/◌, ◌%◌, ◌^◌, ◌<◌, ◌≤◌, ◌≢◌, List, [], ◌∷◌, ◌++◌, length, get_or, take, drop, set, sym, refl, ap, ◌∙◌, append_assoc, arith, length-append, length-set, length-take-le}
 use lib.Seq.{sets, sets-eq, length-sets, set_comm}
-use Rattle.layout.specs.Bytes.{byte_bits, bytes_of_word, bytes_of, word_of}
+use Rattle.layout.specs.Bytes.{byte_bits, word_of}
 use Rattle.layout.specs.Fields.{pack, unpack, width}
 use Rattle.status.specs.Names.{bytes}
-use Rattle.intel_hex.specs.Records.{byte_digits, digits_of, line_feed, text_of, sum_of, check_of, checked, two_bytes, record_text, bank_type, bank_text, data_type, data_text, record_bytes}
+use Rattle.intel_hex.specs.Records.{byte_digits, digits_of, line_feed, text_of, sum_of, check_of, checked, two_bytes, record_text, bank_type, bank_text, data_type, data_text, record_bytes, end_text}
 use Rattle.intel_hex.specs.Places.{pair_bytes}
 use Rattle.intel_hex.specs.Export.{most_text}
-use Rattle.intel_hex.specs.Reading.{word_many}
+use Rattle.std.specs.Int.{w16, w64, to_be_bytes, from_be_bytes}
 use Rattle.intel_hex.specs.Laws.{digits_many, record_length}
 use Rattle.intel_hex.specs.Promises.{data_at, tail_bytes, text_bytes, head_of, PutsBytes, PutsHead, Puts, Gathers}
 use Rattle.intel_hex.proofs.ByteDigits.{sets_append, digits_append, sum_append}
 
-pub two_made : (n : ℕ) → (n / 2 ^ byte_bits % 2 ^ byte_bits ∷ n % 2 ^ byte_bits ∷ []) ≡ two_bytes n
+pub two_made : (n : ℕ) (bs : List ℕ) → bs ≡ to_be_bytes w64 n → (get_or bs 6 0 ∷ get_or bs 7 0 ∷ []) ≡ two_bytes n
 unfolding two_bytes unpack width
-two_made n = let low : n % 2 ^ byte_bits ≡ n / 2 ^ 0 % 2 ^ byte_bits = omega arith in ap (λ (b : ℕ). n / 2 ^ byte_bits % 2 ^ byte_bits ∷ b ∷ []) low
+two_made n bs is =
+    let low : n % 2 ^ byte_bits ≡ n / 2 ^ 0 % 2 ^ byte_bits = omega arith in
+    rw is (ap (λ (b : ℕ). n / 2 ^ byte_bits % 2 ^ byte_bits ∷ b ∷ []) low)
 
-pub two_bytes_are : (high low : ℕ) → high * 2 ^ byte_bits + low ≡ word_of (high ∷ low ∷ [])
+pub two_bytes_are : (high low : ℕ) → from_be_bytes w16 (high ∷ low ∷ []) ≡ word_of (high ∷ low ∷ [])
 unfolding word_of pack width
 two_bytes_are high low = omega arith
 
@@ -25,15 +27,9 @@ two_bytes_are high low = omega arith
 sets_front : (written text : List ℕ) → length written ≤ length text → sets text 0 written ≡ written ++ drop (length written) text
 sets_front written text h = let z : 0 + length written ≡ length written = omega arith in rw z at (sets-eq written text 0 (omega (arith, h)))
 
--- all of a list, copied
-pub copied : (from text text' written : List ℕ) (r : ℕ) → from ≡ written → r ≡ length written → text' ≡ from ++ drop (length from) text
-    → Puts written text text' r
-copied from text text' written r same many left = record { many = many; left = rw same at left }
-
--- the same of a word's bytes
-pub word_copied : (from into into' : List ℕ) (word : ℕ) → from ≡ bytes_of word → into' ≡ from ++ drop (length from) into
-    → into' ≡ bytes_of word ++ drop bytes_of_word into
-word_copied from into into' word same left = rw same at left ∙ rw (word_many word)
+-- the end, copied
+pub end_put : (part end text : List ℕ) → part ≡ end → end ≡ end_text → Puts end_text text (part ++ drop (length end_text) text) (length end_text)
+end_put part end text p e = rw (p, e) record { many = refl; left = refl }
 
 -- ── what stands before the data ──
 

@@ -1,20 +1,20 @@
 -- The texts of records: their frames, and the digits of lines gathered.
-use Rattle.std.proofs.Common.{◌≡◌, ℕ, ◌+◌, ◌-◌, ◌*◌, ◌<◌, ◌≤◌, Bool, true, false, not, ◌||◌, eqb, List, [], ◌∷◌, ◌++◌, length, get_or, take, drop, sym, refl, ap, ◌∙◌, subst, append_assoc, arith, length-append, drop-drop, take_at, ext_get_or, drop_at, eq-eqb, ne_eqb, eqb-true}
+use Rattle.std.proofs.Common.{◌≡◌, ℕ, suc, ◌+◌, ◌-◌, ◌*◌, ◌<◌, ◌≤◌, Bool, true, false, cond, not, ◌||◌, eqb, List, [], ◌∷◌, ◌++◌, map, length, get_or, take, drop, sym, refl, ap, ap₂, ◌∙◌, subst, append_assoc, arith, length-append, drop-drop, take_at, drop_at, eq-eqb, ne_eqb, eqb-true}
 use mathlib.Core.Bool.{false≢true}
-use borrow.Author.Tests.{eqb-false, not-true, not-false}
-use lib.ListN.{length-map}
+use borrow.Author.Tests.{eqb-false}
 use lib.Seq.{sets, sets-eq}
-use Rattle.base.specs.Cases.{here_or_there}
-use Rattle.base.specs.Parts.{rest_lent, rest_back}
-use Rattle.layout.specs.Bytes.{bytes_of_word}
-use Rattle.intel_hex.specs.Records.{digit, byte_digits, digits_of, line_feed, address_bytes, data_type, record_bytes}
+use Rattle.std.specs.Prelude.{IsTrue, ◌↔◌}
+use Rattle.std.specs.Char.{to_ascii_lowercase}
+use Rattle.base.specs.Every.{Every}
+use Rattle.base.specs.Walk.{first_from, first, first_all}
+use Rattle.layout.specs.Bytes.{bytes_of_word, AreBytes}
+use Rattle.intel_hex.specs.Reading.{place_in}
+use Rattle.intel_hex.specs.Records.{digit, byte_digits, digits_of, line_feed, data_type, record_bytes}
 use Rattle.intel_hex.specs.Records.{end_text}
 use Rattle.intel_hex.specs.Export.{most_text}
 use Rattle.intel_hex.specs.Import.{capital, in_capitals, same}
-use Rattle.intel_hex.specs.Laws.{end_length}
 use Rattle.intel_hex.specs.RecordTexts.{same_told, told_same}
-use Rattle.intel_hex.proofs.TextDigits.{get_d_mapped}
-use Rattle.intel_hex.specs.Promises.{text_bytes, tail_bytes, colon_mark, zero_digit, address_from, Decides, Framed, has_lines, count_for, LineCount, line_digits, zeros, all_read, with_place, gathered, ZerosTo}
+use Rattle.intel_hex.specs.Promises.{text_bytes, tail_bytes, colon_mark, Decides, Framed, has_lines, count_for, LineCount, line_digits, zeros, all_read, with_place, gathered}
 
 -- ── frames ──
 
@@ -95,16 +95,17 @@ module _ (text : List ℕ) (r : Bool) where
 
 -- ── the digits of lines, gathered ──
 
-pub with_done : (digits more part : List ℕ) (at n : ℕ) → length digits ≡ all_read → n ≡ length more → at + length more ≤ all_read
-    → part ≡ more ++ drop n (take (all_read - at) (drop at digits))
-    → take at digits ++ (part ++ drop (all_read - at) (drop at digits)) ≡ sets digits at more
-with_done digits more part at n all m fits e =
-    let lent : take (all_read - at) (drop at digits) ≡ drop at digits = rw (← all) (rest_lent at digits) in
-    let past : drop n (drop at digits) ≡ drop (at + length more) digits = drop-drop n at digits ∙ ap (λ (k : ℕ). drop (at + k) digits) m in
-    let is : part ≡ more ++ drop (at + length more) digits = e ∙ rw (lent, past) in
-    let back : part ++ drop (all_read - at) (drop at digits) ≡ part = rw (← all) (rest_back at digits part) in
-    ap (λ (p : List ℕ). take at digits ++ p) (back ∙ is)
-    ∙ sym (sets-eq more digits at (omega (arith, all, fits)) ∙ append_assoc (take at digits) more (drop (at + length more) digits))
+-- a part of a list that is lent and comes back as another list
+pub part_put : (whole part new : List ℕ) (at end : ℕ) → end ≡ at + length new → at + length new ≤ length whole → part ≡ new
+    → take at whole ++ (part ++ drop (end - at) (drop at whole)) ≡ sets whole at new
+part_put whole part new at end e fits is =
+    let past : at + (end - at) ≡ at + length new = omega (arith, e) in
+    let rest : drop (end - at) (drop at whole) ≡ drop (at + length new) whole = drop-drop (end - at) at whole ∙ ap (λ (n : ℕ). drop n whole) past in
+    rw (is, rest) (sym (append_assoc (take at whole) new (drop (at + length new) whole)) ∙ sym (sets-eq new whole at fits))
+
+pub with_done : (digits part more : List ℕ) (at : ℕ) → length digits ≡ all_read → at + length more ≤ all_read → part ≡ more
+    → take at digits ++ (part ++ drop (at + length more - at) (drop at digits)) ≡ sets digits at more
+with_done digits part more at all fits is = part_put digits part more at (at + length more) refl (omega (arith, all, fits)) is
 
 -- a part of a list replaced by as many numbers
 pub sets_middle : (before middle after more : List ℕ) (at : ℕ) → at ≡ length before → length more ≡ length middle
@@ -132,74 +133,69 @@ module _ (text one : List ℕ) (o : one ≡ sets (zeros all_read) 0 (take 16 (dr
   unfolding gathered
   two_done most two r t e = e ∙ rw (t, o, eq-eqb (length text) most_text most)
 
--- ── the address of a bank's record ──
-
-pub zero_start : (text : List ℕ) → ZerosTo text 0
-zero_start text j h = absurd (omega (arith, h))
-
-module _ (text : List ℕ) (i : ℕ) (s : ZerosTo text i) where
-  pub zero_next : get_or text (address_from + i) 0 ≡ zero_digit → ZerosTo text (i + 1)
-  zero_next e =
-      λ j h. here_or_there i (λ k. k < i + 1 → get_or text (address_from + k) 0 ≡ zero_digit) (λ g. e) (λ k away g. s k (omega (arith, away, g))) j h
-
-  pub zero_not : i < byte_digits * address_bytes → (get_or text (address_from + i) 0 ≡ zero_digit → ⊥) → Decides (ZerosTo text (byte_digits * address_bytes)) false
-  zero_not h other = never (λ all. other (all i h))
-
-  pub zero_all : byte_digits * address_bytes ≤ i → Decides (ZerosTo text (byte_digits * address_bytes)) true
-  zero_all h = record { sound = λ e j g. s j (omega (arith, h, g)); complete = λ p. refl }
-
 -- ── the end ──
 
--- the first i characters are those of the end
-pub record Ending (text end : List ℕ) (i : ℕ) : Type 0 where
-  pub many : length text ≡ 12
-  pub is : end ≡ end_text
-  pub so_far : (j : ℕ) → j < i → capital (get_or text j 0) ≡ get_or end_text j 0
+-- By one test of all characters: a character of the end is met in either case exactly where the capital is it.
+abbrev characters : ℕ
+characters = 256
 
-pub end_start : (text end : List ℕ) → length text ≡ 12 → end ≡ end_text → Ending text end 0
-end_start text end many is = record { many = many; is = is; so_far = λ j h. absurd (omega (arith, h)) }
+folds_to : (e c : ℕ) → Bool
+folds_to e c = cond (eqb (to_ascii_lowercase c) (to_ascii_lowercase e)) (eqb (capital c) e) (not (eqb (capital c) e))
 
-pub folded_tested : (c r folded : ℕ) → r ≡ capital c → eqb r folded ≡ eqb (capital c) folded
-folded_tested c r folded e = rw e
+abbrev Foldable : ℕ → Type 0
+Foldable e = characters ≤ first (folds_to e) characters
 
--- what is not the end
-not_end : (text : List ℕ) → (in_capitals text ≡ end_text → ⊥) → false ≡ same (in_capitals text) end_text
-not_end text other = go (same (in_capitals text) end_text) refl
+all_foldable : Every Foldable end_text
+unfolding folds_to end_text capital place_in first_from
+all_foldable =
+    (omega arith, (omega arith, (omega arith, (omega arith, (omega arith, (omega arith, (omega arith, (omega arith, (omega arith, (omega arith, (omega arith, (omega arith, tt))))))))))))
+
+module _ (e : ℕ) (all : Foldable e) (c : ℕ) (byte : c < characters) where
+  fold_told : folds_to e c ≡ true
+  fold_told = first_all (folds_to e) characters all c byte
+
+  folded_here : to_ascii_lowercase c ≡ to_ascii_lowercase e → capital c ≡ e
+  unfolding folds_to
+  folded_here is = eqb-true (capital c) e (rw (eq-eqb (to_ascii_lowercase c) (to_ascii_lowercase e) is) at fold_told)
+
+  lowered_here : capital c ≡ e → to_ascii_lowercase c ≡ to_ascii_lowercase e
+  unfolding folds_to
+  lowered_here is = go (eqb (to_ascii_lowercase c) (to_ascii_lowercase e)) refl (rw (eq-eqb (capital c) e is) at fold_told)
+    where
+      go : (t : Bool) → eqb (to_ascii_lowercase c) (to_ascii_lowercase e) ≡ t → cond t true false ≡ true → to_ascii_lowercase c ≡ to_ascii_lowercase e
+      go true same f = eqb-true (to_ascii_lowercase c) (to_ascii_lowercase e) same
+      go false same f = absurd (false≢true f)
+
+head_of : {x y : ℕ} {xs ys : List ℕ} → x ∷ xs ≡ y ∷ ys → x ≡ y
+head_of p = ap (λ (l : List ℕ). get_or l 0 0) p
+
+tail_of : {x y : ℕ} {xs ys : List ℕ} → x ∷ xs ≡ y ∷ ys → xs ≡ ys
+tail_of p = ap (λ (l : List ℕ). drop 1 l) p
+
+folded_all : (cs es : List ℕ) → AreBytes cs → Every Foldable es → map to_ascii_lowercase cs ≡ map to_ascii_lowercase es → map capital cs ≡ es
+folded_all [] [] fine all is = refl
+folded_all [] (e ∷ es) fine all is = cc
+folded_all (c ∷ cs) [] fine all is = cc
+folded_all (c ∷ cs) (e ∷ es) fine all is =
+    ap₂ ◌∷◌ (folded_here e all.0 c (fine 0) (head_of is)) (folded_all cs es (λ i. fine (suc i)) all.1 (tail_of is))
+
+lowered_all : (cs es : List ℕ) → AreBytes cs → Every Foldable es → map capital cs ≡ es → map to_ascii_lowercase cs ≡ map to_ascii_lowercase es
+lowered_all [] [] fine all is = refl
+lowered_all [] (e ∷ es) fine all is = cc
+lowered_all (c ∷ cs) [] fine all is = cc
+lowered_all (c ∷ cs) (e ∷ es) fine all is =
+    ap₂ ◌∷◌ (lowered_here e all.0 c (fine 0) (head_of is)) (lowered_all cs es (λ i. fine (suc i)) all.1 (tail_of is))
+
+pub end_met : (text end : List ℕ) → AreBytes text → end ≡ end_text → (r : Bool)
+    → (IsTrue r ↔ (map to_ascii_lowercase text ≡ map to_ascii_lowercase end)) → r ≡ same (in_capitals text) end_text
+end_met text end fine is r told = go r (same (in_capitals text) end_text) refl refl
   where
-    go : (t : Bool) → same (in_capitals text) end_text ≡ t → false ≡ t
-    go true e = absurd (other (same_told (in_capitals text) end_text e))
-    go false e = refl
-
-module _ (text : List ℕ) where
-  folded_at : (j : ℕ) → j < length text → get_or (in_capitals text) j 0 ≡ capital (get_or text j 0)
-  folded_at j h = get_d_mapped capital text j h
-
-  pub end_long : (length text ≡ 12 → ⊥) → false ≡ same (in_capitals text) end_text
-  unfolding end_text
-  end_long other = not_end text (λ e. other (sym (length-map text capital) ∙ ap length e))
-
-  module _ (end : List ℕ) (i : ℕ) (s : Ending text end i) where
-    at_end : (j : ℕ) → get_or end j 0 ≡ get_or end_text j 0
-    at_end j = ap (λ (l : List ℕ). get_or l j 0) s.is
-
-    pub end_next : (t : Bool) → t ≡ eqb (capital (get_or text i 0)) (get_or end i 0) → not t ≡ false → Ending text end (i + 1)
-    end_next t x e =
-        record {
-          many = s.many;
-          is = s.is;
-          so_far = λ j g. here_or_there i (λ k. k < i + 1 → capital (get_or text k 0) ≡ get_or end_text k 0) (λ f. eqb-true (capital (get_or text i 0)) (get_or end i 0) (sym x ∙ not-false t e) ∙ at_end i)
-              (λ k away f. s.so_far k (omega (arith, away, f))) j g;
-        }
-
-    pub end_not : i < 12 → (t : Bool) → t ≡ eqb (capital (get_or text i 0)) (get_or end i 0) → not t ≡ true → false ≡ same (in_capitals text) end_text
-    end_not h t x f =
-        not_end text (λ e. eqb-false (capital (get_or text i 0)) (get_or end i 0) (sym x ∙ not-true t f)
-        (sym (folded_at i (omega (arith, s.many, h))) ∙ ap (λ (l : List ℕ). get_or l i 0) e ∙ sym (at_end i)))
-
-    pub end_all : 12 ≤ i → true ≡ same (in_capitals text) end_text
-    end_all h =
-        let long : length (in_capitals text) ≡ length end_text = length-map text capital ∙ s.many ∙ sym end_length in
-        let whole : in_capitals text ≡ end_text =
-        ext_get_or 0 (in_capitals text) end_text long
-        (λ j g. folded_at j (rw length-map at g) ∙ s.so_far j (omega (arith, h, g, length-map text capital, s.many))) in
-        sym (rw whole (told_same end_text))
+    go : (t u : Bool) → r ≡ t → same (in_capitals text) end_text ≡ u → t ≡ u
+    go true true e f = refl
+    go false false e f = refl
+    go true false e f =
+        let folded : in_capitals text ≡ end_text = folded_all text end_text fine all_foldable (rw is at (told.0 e)) in
+        absurd (false≢true (sym f ∙ rw folded (told_same end_text)))
+    go false true e f =
+        let lowered = lowered_all text end_text fine all_foldable (same_told (in_capitals text) end_text f) in
+        sym e ∙ told.1 (rw is lowered)

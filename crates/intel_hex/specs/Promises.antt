@@ -1,20 +1,22 @@
 -- What the functions promise that write a record into a text, and those that read one. `sets text at piece` is the text with a piece of it replaced,
 -- from a place on.
-use Rattle.std.specs.Prelude.{Ok, ◌≡◌, ℕ, ◌+◌, ◌-◌, ◌*◌, ◌/◌, ◌%◌, ◌^◌, ◌<◌, ◌≤◌, Bool, true, false, cond, ◌&&◌, ◌||◌, List, [], ◌∷◌, ◌++◌, map, length, take, drop, replicate, ◌==◌, nat_lt, slice_index, slice_index_or}
+use Rattle.std.specs.Prelude.{◌≡◌, ℕ, ◌+◌, ◌-◌, ◌*◌, ◌/◌, ◌%◌, ◌^◌, ◌<◌, ◌≤◌, Bool, true, false, cond, ◌&&◌, ◌||◌, List, [], ◌∷◌, ◌++◌, map, length, take, drop, replicate, ◌==◌, nat_lt, slice_index, slice_index_or, Option, is_some, IfSome, Result, Ok, Err}
 use Rattle.std.proofs.lemmas.List.Edits.{sets}
+use Rattle.base.specs.Every.{Every}
 use Rattle.layout.specs.Bytes.{byte_bits, bytes_of_word, word_of}
 use Rattle.layout.specs.Limits.{most_lines}
 use Rattle.layout.specs.Memory.{lines_at}
 use Rattle.status.specs.Names.{bytes}
 use Rattle.status.specs.declared.Status.{Status}
+use Rattle.status.specs.declared.Status.TheVariants as status
+use Rattle.checks.specs.declared.Refusal.{Refusal}
 use Rattle.checks.specs.declared.View.{View}
 use Rattle.checks.specs.Promises.{GoodBoard, Opened}
 use Rattle.checks.specs.Refusals.{board_checked}
+use Rattle.picl.specs.declared.Report.{Report}
 use Rattle.picl.specs.Calls.{report}
 use Rattle.intel_hex.specs.declared.Reader.{Reader}
 use Rattle.intel_hex.specs.declared.Taken.{Taken}
-use Rattle.intel_hex.specs.declared.digits.Meaning.{Meaning}
-use Rattle.intel_hex.specs.declared.reading.Opener.{Opener}
 use Rattle.intel_hex.specs.Records.{digit_bits, byte_digits, digits_of, line_feed, sum_of, address_bytes, two_bytes, bank_bytes, bank_type, data_type, record_bytes}
 use Rattle.intel_hex.specs.Reading.{count_in, address_in, type_in, held_in}
 use Rattle.intel_hex.specs.Contents.{value_of, paired, content_of}
@@ -86,9 +88,9 @@ meant c = value_of (capital c)
 abbrev pub is_digit : ℕ → Bool
 is_digit c = nat_lt (meant c) (2 ^ digit_bits)
 
-pub record Means (c : ℕ) (r : Meaning) : Type 0 where
-  pub digit : r.valid ≡ is_digit c
-  pub is : is_digit c ≡ true → r.value ≡ meant c
+pub record Means (c : ℕ) (r : Option ℕ) : Type 0 where
+  pub digit : is_some r ≡ is_digit c
+  pub is : IfSome r (λ v. v ≡ meant c)
 
 unfoldable pub all_digits : List ℕ → Bool
 all_digits [] = true
@@ -97,6 +99,10 @@ all_digits (c ∷ cs) = is_digit c && all_digits cs
 pub record ReadsValues (characters into : List ℕ) (r : Bool) : Type 0 where
   pub all : r ≡ all_digits characters
   pub values : all_digits characters ≡ true → into ≡ map meant characters
+
+-- values of digits
+abbrev pub AreDigits : List ℕ → Type 0
+AreDigits vs = Every (λ v. v < 2 ^ digit_bits) vs
 
 -- of a number its last four bits
 abbrev pub last_digit : ℕ → ℕ
@@ -178,34 +184,50 @@ unfoldable pub gathered : (text : List ℕ) → List ℕ
 gathered text = with_place (cond (length text == most_text) (two_lines text) (one_line text)) text
 
 -- what a record of lines says
-pub record LinesRead (content held place : List ℕ) (count : ℕ) : Type 0 where
+pub record LinesRead (content held : List ℕ) (count from : ℕ) : Type 0 where
   pub type : type_in content ≡ data_type
   pub count_is : count_in content ≡ count
-  pub address : address_in content ≡ word_of (take address_bytes place)
+  pub address : address_in content ≡ from
+  pub below : from < bank_bytes
   pub data_is : held_in content ≡ take count held
 
-pub record ReadsLines (text held place : List ℕ) (r : Bool) : Type 0 where
-  pub is : r ≡ well_formed (in_capitals text)
-  pub told : r ≡ true → LinesRead (content_of (in_capitals text)) held place (count_for (length text))
+pub record ReadsLines (text held : List ℕ) (r : Option ℕ) : Type 0 where
+  pub is : is_some r ≡ well_formed (in_capitals text)
+  pub told : IfSome r (LinesRead (content_of (in_capitals text)) held (count_for (length text)))
 
 -- ---- the text of a bank
 
--- the first i digits of the address are zeros
-abbrev pub ZerosTo : (text : List ℕ) (i : ℕ) → Type 0
-ZerosTo text i = (j : ℕ) → j < i → slice_index text (address_from + j) ≡ zero_digit
+-- what the record of a bank says
+pub record BankRead (content : List ℕ) (bank : ℕ) : Type 0 where
+  pub type : type_in content ≡ bank_type
+  pub bank_is : word_of (held_in content) ≡ bank
 
-abbrev pub no_opener : Opener
-no_opener = record { whole = false; bank = 0 }
-
-pub record ReadsBank (text : List ℕ) (r : Opener) : Type 0 where
-  pub is : r.whole ≡ well_formed (in_capitals text)
-  pub type : r.whole ≡ true → type_in (content_of (in_capitals text)) ≡ bank_type
-  pub bank_is : r.whole ≡ true → word_of (held_in (content_of (in_capitals text))) ≡ r.bank
+pub record ReadsBank (text : List ℕ) (r : Option ℕ) : Type 0 where
+  pub is : is_some r ≡ well_formed (in_capitals text)
+  pub told : IfSome r (BankRead (content_of (in_capitals text)))
 
 -- ---- a call
 
 abbrev pub taken_as : Status → Reader → Taken
 taken_as status reader = record { report = report status 0; reader = reader }
+
+-- what a call answers of a record that is taken, or refused
+abbrev pub taken_from : Reader → Result Reader Status → Taken
+taken_from reader (Ok next) = taken_as status.Ok next
+taken_from reader (Err why) = taken_as why reader
+
+abbrev pub taken_by : Reader → Result Reader Refusal → Taken
+taken_by reader (Ok next) = taken_as status.Ok next
+taken_by reader (Err why) = record { report = report why.status why.value; reader = reader }
+
+-- the same of a record that is put: its value is how many bytes it has
+abbrev pub put_from : Result ℕ Status → Report
+put_from (Ok bytes) = report status.Ok bytes
+put_from (Err why) = report why 0
+
+abbrev pub put_by : Result ℕ Refusal → Report
+put_by (Ok bytes) = report status.Ok bytes
+put_by (Err why) = report why.status why.value
 
 -- the place of the line at a byte address
 abbrev pub line_from : View → (upper from : ℕ) → ℕ

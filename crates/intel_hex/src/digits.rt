@@ -3,7 +3,7 @@ ghost use Rattle.std.specs.Prelude.{◌≡◌, ◌+◌, ◌*◌, ◌^◌, ◌<�
 ghost use Rattle.std.proofs.lemmas.List.Edits.{sets};
 ghost use Rattle.intel_hex.specs.Records.{digit, digit_bits, byte_digits, digits_of};
 ghost use Rattle.intel_hex.specs.Import.{capital};
-ghost use Rattle.intel_hex.specs.Promises.{Gap, PutsBytes, Means, ReadsValues, ReadsBytes};
+ghost use Rattle.intel_hex.specs.Promises.{Gap, PutsBytes, Means, ReadsValues, AreDigits, ReadsBytes};
 
 const DIGIT_VALUES: u8 = 16;
 
@@ -43,12 +43,10 @@ pub fn put_bytes(text: &mut [u8], at: usize, bytes: &[u8]) -> u8
     requires { at + byte_digits * length bytes.now ≤ length text.old }
     ensures { PutsBytes bytes.now text.old at text.new result }
 {
-    let mut sum = 0;
-    let mut i = 0;
-    while i < bytes.len() {
-        put_byte(text, at + BYTE_DIGITS * i, bytes[i]);
-        sum = std::num::wrapping_add_u8(sum, bytes[i]);
-        i += 1;
+    let mut sum: u8 = 0;
+    for (i, byte) in bytes.iter().enumerate() {
+        put_byte(text, at + BYTE_DIGITS * i, *byte);
+        sum = sum.wrapping_add(*byte);
     }
     sum
 }
@@ -62,43 +60,25 @@ const SMALL: u8 = b'a' - b'A';
 pub fn capital(c: u8) -> u8
     ensures { result ≡ capital c }
 {
-    if std::num::wrapping_sub_u8(c, b'a') < LETTERS {
+    if c.wrapping_sub(b'a') < LETTERS {
         return c - SMALL;
     }
     c
 }
 
 // What a character stands for, if it is a digit in either case.
-#[derive(Clone, Copy)]
-struct Meaning {
-    valid: bool,
-    value: u8,
-}
-
-fn read_character(c: u8) -> Meaning
+fn read_character(c: u8) -> Option<u8>
     ensures { Means c result }
 {
-    let figure = std::num::wrapping_sub_u8(c, b'0');
+    let figure = c.wrapping_sub(b'0');
     if figure < FIGURES {
-        return Meaning {
-            valid: true,
-            value: figure,
-        };
+        return Some(figure);
     }
-    let letter = std::num::wrapping_sub_u8(c | SMALL, b'a');
-    Meaning {
-        valid: letter < LETTERS,
-        value: std::num::wrapping_add_u8(letter, FIGURES),
+    let letter = (c | SMALL).wrapping_sub(b'a');
+    if letter < LETTERS {
+        return Some(letter + FIGURES);
     }
-}
-
-fn both(a: bool, b: bool) -> bool
-    ensures { result ≡ a && b }
-{
-    if a {
-        return b;
-    }
-    false
+    None
 }
 
 // Answers whether all characters are digits. Compilers make vector instructions of this loop, and of the next.
@@ -107,30 +87,26 @@ pub fn read_values(into: &mut [u8], characters: &[u8]) -> bool
     ensures { ReadsValues characters.now into.new result }
 {
     let mut all = true;
-    let mut i = 0;
-    while i < into.len() {
-        let read = read_character(characters[i]);
-        into[i] = read.value;
-        all = both(all, read.valid);
-        i += 1;
+    for (i, c) in characters.iter().enumerate() {
+        let read = read_character(*c);
+        into[i] = read.unwrap_or(0);
+        all &= read.is_some();
     }
     all
 }
 
 // The bytes whose digits have these values. Answers their sum.
 pub fn read_bytes(into: &mut [u8], values: &[u8]) -> u8
-    requires { length values.now ≡ byte_digits * length into.old }
+    requires values_len { length values.now ≡ byte_digits * length into.old }
+    requires digits { AreDigits values.now }
     ensures { ReadsBytes values.now into.new result }
 {
-    let mut sum = 0;
-    let mut i = 0;
-    while i < into.len() {
-        let high = values[BYTE_DIGITS * i] % DIGIT_VALUES;
-        let low = values[BYTE_DIGITS * i + 1] % DIGIT_VALUES;
-        let byte = high * DIGIT_VALUES + low;
-        into[i] = byte;
-        sum = std::num::wrapping_add_u8(sum, byte);
-        i += 1;
+    let mut sum: u8 = 0;
+    for (i, byte) in into.iter_mut().enumerate() {
+        let high = values[BYTE_DIGITS * i];
+        let low = values[BYTE_DIGITS * i + 1];
+        *byte = high * DIGIT_VALUES + low;
+        sum = sum.wrapping_add(*byte);
     }
     sum
 }

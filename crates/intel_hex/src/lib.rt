@@ -14,9 +14,9 @@ ghost use Rattle.checks.specs.Promises.{Opened};
 ghost use Rattle.intel_hex.specs.Records.{records_of};
 ghost use Rattle.intel_hex.specs.Places.{last_of};
 ghost use Rattle.intel_hex.specs.Export.{Exports};
-ghost use Rattle.intel_hex.specs.Promises.{Puts, Numbered};
+ghost use Rattle.intel_hex.specs.Promises.{Puts, Numbered, put_from, put_by};
 
-use checks::View;
+use checks::{Refusal, View};
 use picl::Report;
 use record::MOST_TEXT;
 use status::Status;
@@ -70,35 +70,39 @@ fn put_numbered(text: &mut [u8], lines: &[u64], number: u64, last: u64) -> usize
 }
 
 // 1 has passed: 16, 17 and 18, and then the record.
-fn put_shaped(board: &[u64], text: &mut [u8], number: u64, view: View) -> Report
+fn put_shaped(board: &[u64], text: &mut [u8], number: u64, view: View) -> Result<usize, Status>
     requires view_value { Ok view ≡ board_checked board.now }
     requires opened { Opened board.now view }
-    ensures { Exports board.now number text.old text.new result }
+    ensures { Exports board.now number text.old text.new (put_from result) }
 {
     if text.len() < MOST_TEXT {
-        return Report::unstored(Status::Short, 0);
+        return Err(Status::Short);
     }
     let last = last_of(view.shape.lines);
     if number > last {
-        return Report::unstored(Status::Past, 0);
+        return Err(Status::Past);
     }
     if view.control.length != 0 {
-        return Report::unstored(Status::LogHeld, 0);
+        return Err(Status::LogHeld);
     }
     let at = layout::lines_at(view.shape.entries);
-    Report::unstored(
-        Status::Ok,
-        put_numbered(text, &board[at..], number, last) as u64,
-    )
+    Ok(put_numbered(text, &board[at..], number, last))
+}
+
+// How many bytes the record has, once it is put.
+fn put(board: &[u64], text: &mut [u8], number: u64) -> Result<usize, Refusal>
+    ensures { Exports board.now number text.old text.new (put_by result) }
+{
+    let view = checks::check_board(board)?;
+    Ok(put_shaped(board, text, number, view)?)
 }
 
 // The record that has this number in the file of the board's lines, at the start of a text. Its value is how many bytes the record has.
 pub fn put_record(board: &[u64], text: &mut [u8], number: u64) -> Report
     ensures { Exports board.now number text.old text.new result }
 {
-    let checked = checks::check_board(board);
-    match checked {
+    match put(board, text, number) {
+        Ok(bytes) => Report::unstored(Status::Ok, bytes as u64),
         Err(refusal) => Report::from(refusal),
-        Ok(view) => put_shaped(board, text, number, view),
     }
 }

@@ -1,12 +1,13 @@
 // Reads a record's text. What is the same in every record of a kind is compared as characters, and the rest as the digits that they are.
-ghost use Rattle.std.specs.Prelude.{◌≡◌, ◌+◌, ◌*◌, ◌≤◌, true, [], ◌∷◌, length, ◌==◌};
+ghost use Rattle.std.specs.Prelude.{◌≡◌, ◌+◌, ◌*◌, ◌≤◌, true, [], ◌∷◌, length, take, drop, ◌==◌};
+ghost use Rattle.std.specs.List.{list_all};
 ghost use Rattle.std.proofs.lemmas.List.Edits.{sets};
 ghost use Rattle.layout.specs.Bytes.{bytes_of_word};
 ghost use Rattle.intel_hex.specs.Records.{byte_digits, digits_of, address_bytes, data_type, record_bytes, end_text};
-ghost use Rattle.intel_hex.specs.Import.{capital, in_capitals, same};
-ghost use Rattle.intel_hex.specs.Promises.{text_bytes, Decides, Framed, has_lines, count_for, LineCount, all_read, with_place, gathered, ReadsLines, ZerosTo, no_opener, ReadsBank};
+ghost use Rattle.intel_hex.specs.Import.{in_capitals, same};
+ghost use Rattle.intel_hex.specs.Promises.{text_bytes, Decides, Framed, has_lines, count_for, LineCount, all_read, with_place, gathered, ReadsLines, address_from, zero_digit, ReadsBank};
 
-use crate::digits::{BYTE_DIGITS, capital, read_bytes, read_values};
+use crate::digits::{BYTE_DIGITS, read_bytes, read_values};
 use crate::record;
 use crate::record::{
     ADDRESS_AT, ADDRESS_BYTES, BANK_TYPE, COUNT_AT, DATA_AT, END_BYTES, LINE_FEED, MOST_DATA,
@@ -82,7 +83,7 @@ fn with_digits(digits: [u8; ALL_DIGITS], at: usize, more: &[u8]) -> [u8; ALL_DIG
     ensures { result ≡ sets digits at more.now }
 {
     let mut all = digits;
-    record::copy(more, &mut all[at..]);
+    all[at..at + more.len()].copy_from_slice(more);
     all
 }
 
@@ -109,44 +110,30 @@ fn digits_of(text: &[u8]) -> [u8; ALL_DIGITS]
 }
 
 // The address, and the last byte behind it.
-pub const PLACE_BYTES: usize = ADDRESS_BYTES + 1;
+const PLACE_BYTES: usize = ADDRESS_BYTES + 1;
 
-// The data of a record of lines, and where it belongs. Answers whether the text is such a record.
-pub fn read_lines(held: &mut [u8], place: &mut [u8], text: &[u8]) -> bool
+// The data of a record of lines. Answers where it belongs, if the text is such a record.
+pub fn read_lines(held: &mut [u8], text: &[u8]) -> Option<u64>
     requires text_value { has_lines (length text.now) ≡ true }
     requires held_len { length held.old ≡ record_bytes }
-    requires place_len { length place.old ≡ address_bytes + 1 }
-    ensures { ReadsLines text.now held.new place.new result }
+    ensures { ReadsLines text.now held.new result }
 {
     if !has_lines_framed(text) {
-        return false;
+        return None;
     }
     let digits = digits_of(text);
     let mut values = [0; ALL_DIGITS];
     if !read_values(&mut values, &digits) {
-        return false;
+        return None;
     }
     let data = read_bytes(held, &values[0..DATA_DIGITS]);
-    let rest = read_bytes(place, &values[DATA_DIGITS..CHECK_END]);
-    let sum = std::num::wrapping_add_u8(data, rest);
+    let mut place = [0; PLACE_BYTES];
+    let rest = read_bytes(&mut place, &values[DATA_DIGITS..CHECK_END]);
     let count = count_of(text.len());
-    std::num::wrapping_add_u8(sum, count as u8) == 0
-}
-
-// What the record of a bank says, if it is one.
-#[derive(Clone, Copy)]
-pub struct Opener {
-    pub whole: bool,
-    pub bank: u64,
-}
-
-fn no_opener() -> Opener
-    ensures { result ≡ no_opener }
-{
-    Opener {
-        whole: false,
-        bank: 0,
+    if data.wrapping_add(rest).wrapping_add(count as u8) != 0 {
+        return None;
     }
+    Some(u16::from_be_bytes([place[0], place[1]]) as u64)
 }
 
 // The digits of its data and of its last byte stand behind each other.
@@ -155,67 +142,40 @@ const OPENER_DIGITS: usize = BYTE_DIGITS * PLACE_BYTES;
 // Its address is always the same.
 fn is_zero_address(text: &[u8]) -> bool
     requires { text_bytes 0 ≤ length text.now }
-    ensures { Decides (ZerosTo text.now (byte_digits * address_bytes)) result }
+    ensures { result ≡ list_all (λ d. d == zero_digit) (take (byte_digits * address_bytes) (drop address_from text.now)) }
 {
-    let mut i = 0;
-    while i < ADDRESS_DIGITS {
-        if text[ADDRESS_AT + i] != b'0' {
-            return false;
-        }
-        i += 1;
-    }
-    true
+    text[ADDRESS_AT..TYPE_AT].iter().all(|digit| *digit == b'0')
 }
 
 // The sum of the bytes that are always the same.
 const OPENER_SUM: u8 = ADDRESS_BYTES as u8 + BANK_TYPE;
 
-// It is of type 04 and has two bytes, the upper address.
-pub fn read_bank(text: &[u8]) -> Opener
+// The bank that a record opens, if it is one of type 04: its two bytes are the upper address.
+pub fn read_bank(text: &[u8]) -> Option<u64>
     requires { length text.now ≡ text_bytes address_bytes }
     ensures { ReadsBank text.now result }
 {
     if !is_framed(text, *b"02", *b"04") {
-        return no_opener();
+        return None;
     }
     if !is_zero_address(text) {
-        return no_opener();
+        return None;
     }
     let mut values = [0; OPENER_DIGITS];
     if !read_values(&mut values, &text[DATA_AT..BANK_TEXT - 1]) {
-        return no_opener();
+        return None;
     }
     let mut bytes = [0; PLACE_BYTES];
     let sum = read_bytes(&mut bytes, &values);
-    if std::num::wrapping_add_u8(sum, OPENER_SUM) != 0 {
-        return no_opener();
+    if sum.wrapping_add(OPENER_SUM) != 0 {
+        return None;
     }
-    Opener {
-        whole: true,
-        bank: record::two_bytes_word(bytes[0], bytes[1]),
-    }
-}
-
-fn is_folded(c: u8, folded: u8) -> bool
-    ensures { result ≡ (capital c == folded) }
-{
-    capital(c) == folded
+    Some(u16::from_be_bytes([bytes[0], bytes[1]]) as u64)
 }
 
 // "the file closes with `:00000001FF`", with its digits in either case.
 pub fn is_end(text: &[u8]) -> bool
     ensures { result ≡ same (in_capitals text.now) end_text }
 {
-    if text.len() != END_BYTES {
-        return false;
-    }
-    let end = record::end_text();
-    let mut i = 0;
-    while i < END_BYTES {
-        if !is_folded(text[i], end[i]) {
-            return false;
-        }
-        i += 1;
-    }
-    true
+    text.eq_ignore_ascii_case(&record::end_text())
 }

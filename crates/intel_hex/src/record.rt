@@ -1,8 +1,7 @@
 // A record: a colon, its bytes as digits, a line feed. The bytes: how many of data, where they belong, their type, the data, and one that makes
 // the sum of all 0.
-ghost use Rattle.std.specs.Prelude.{◌≡◌, ◌<◌, ◌≤◌, [], ◌∷◌, ◌++◌, drop, length};
-ghost use Rattle.layout.specs.Bytes.{word_of};
-ghost use Rattle.intel_hex.specs.Records.{bank_bytes, end_text};
+ghost use Rattle.std.specs.Prelude.{◌≡◌};
+ghost use Rattle.intel_hex.specs.Records.{end_text};
 
 use crate::digits::BYTE_DIGITS;
 use layout::BYTES_OF_WORD;
@@ -38,22 +37,4 @@ pub fn end_text() -> [u8; END_BYTES]
     ensures { result ≡ end_text }
 {
     *b":00000001FF\n"
-}
-
-const BYTES: u64 = 256;
-
-// The number that two bytes are.
-pub fn two_bytes_word(high: u8, low: u8) -> u64
-    ensures value { result ≡ word_of (high ∷ low ∷ []) }
-    ensures upper_bound { result < bank_bytes }
-{
-    high as u64 * BYTES + low as u64
-}
-
-// Bytes to the start of a place; those behind them stay.
-pub fn copy(from: &[u8], into: &mut [u8])
-    requires { length from.now ≤ length into.old }
-    ensures { into.new ≡ from.now ++ drop (length from.now) into.old }
-{
-    into[..from.len()].copy_from_slice(from);
 }

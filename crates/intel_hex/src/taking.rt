@@ -8,12 +8,12 @@ ghost use Rattle.checks.specs.Refusals.{board_checked};
 ghost use Rattle.checks.specs.Promises.{Opened};
 ghost use Rattle.intel_hex.specs.Records.{address_bytes, bank_bytes, record_bytes};
 ghost use Rattle.intel_hex.specs.Import.{is_past, Imports};
-ghost use Rattle.intel_hex.specs.Promises.{text_bytes, has_lines, taken_as, line_from, Inside, Ready, ShortText};
+ghost use Rattle.intel_hex.specs.Promises.{text_bytes, has_lines, taken_from, taken_by, line_from, Inside, Ready, ShortText};
 
-use crate::reading::{BANK_TEXT, LINE_TEXT, PLACE_BYTES, count_of, is_end, read_bank, read_lines};
+use crate::reading::{BANK_TEXT, LINE_TEXT, count_of, is_end, read_bank, read_lines};
 use crate::record::{MOST_DATA, MOST_TEXT};
-use crate::{Reader, Taken, record};
-use checks::View;
+use crate::{Reader, Taken};
+use checks::{Refusal, View};
 use layout::BYTES_OF_WORD;
 use picl::Report;
 use status::Status;
@@ -24,15 +24,6 @@ const BANK_BYTES: u64 = 65536;
 const BANKS: u64 = 8;
 
 const LINE_BYTES: u64 = BYTES_OF_WORD as u64;
-
-fn taken(status: Status, reader: Reader) -> Taken
-    ensures { result ≡ taken_as status reader }
-{
-    Taken {
-        report: Report::unstored(status, 0),
-        reader,
-    }
-}
 
 // 20, of so many bytes from a place of a bank on. Banks behind the largest board's are not counted: their places may have more than 64 bits.
 fn is_outside(lines: u64, upper: u64, from: u64, count: u64) -> bool
@@ -75,65 +66,56 @@ fn put_lines(board: &mut [u64], upper: u64, from: u64, held: &[u8], view: View)
     );
 }
 
-fn take_lines(board: &mut [u64], reader: Reader, text: &[u8], view: View) -> Taken
+fn take_lines(board: &mut [u64], reader: Reader, text: &[u8], view: View) -> Result<Reader, Status>
     requires ready { Ready board.old reader view }
     requires text_value { has_lines (length text.now) ≡ true }
-    ensures { Imports board.old reader text.now board.new result }
+    ensures { Imports board.old reader text.now board.new (taken_from reader result) }
 {
     let mut held = [0; MOST_DATA];
-    let mut place = [0; PLACE_BYTES];
-    if !read_lines(&mut held, &mut place, text) {
-        return taken(Status::Record, reader);
-    }
-    let from = record::two_bytes_word(place[0], place[1]);
+    let Some(from) = read_lines(&mut held, text) else {
+        return Err(Status::Record);
+    };
     let count = count_of(text.len());
     if is_outside(view.shape.lines, reader.upper, from, count as u64) {
-        return taken(Status::Outside, reader);
+        return Err(Status::Outside);
     }
-    put_lines(board, reader.upper, from, &held[0..count], view);
-    taken(Status::Ok, reader)
+    put_lines(board, reader.upper, from, &held[..count], view);
+    Ok(reader)
 }
 
-fn take_bank(board: &[u64], reader: Reader, text: &[u8], view: View) -> Taken
+fn take_bank(board: &[u64], reader: Reader, text: &[u8], view: View) -> Result<Reader, Status>
     requires ready { Ready board.now reader view }
     requires text_len { length text.now ≡ text_bytes address_bytes }
-    ensures { Imports board.now reader text.now board.now result }
+    ensures { Imports board.now reader text.now board.now (taken_from reader result) }
 {
-    let opener = read_bank(text);
-    if !opener.whole {
-        return taken(Status::Record, reader);
-    }
-    taken(
-        Status::Ok,
-        Reader {
-            upper: opener.bank,
-            ended: false,
-        },
-    )
+    let Some(upper) = read_bank(text) else {
+        return Err(Status::Record);
+    };
+    Ok(Reader {
+        upper,
+        ended: false,
+    })
 }
 
-fn take_end(board: &[u64], reader: Reader, text: &[u8], view: View) -> Taken
+fn take_end(board: &[u64], reader: Reader, text: &[u8], view: View) -> Result<Reader, Status>
     requires ready { Ready board.now reader view }
     requires short_text { ShortText (length text.now) }
-    ensures { Imports board.now reader text.now board.now result }
+    ensures { Imports board.now reader text.now board.now (taken_from reader result) }
 {
     if !is_end(text) {
-        return taken(Status::Record, reader);
+        return Err(Status::Record);
     }
-    taken(
-        Status::Ok,
-        Reader {
-            upper: reader.upper,
-            ended: true,
-        },
-    )
+    Ok(Reader {
+        upper: reader.upper,
+        ended: true,
+    })
 }
 
 // The records without lines, whose texts are shorter.
-fn take_short(board: &[u64], reader: Reader, text: &[u8], view: View) -> Taken
+fn take_short(board: &[u64], reader: Reader, text: &[u8], view: View) -> Result<Reader, Status>
     requires ready { Ready board.now reader view }
     requires text_len_bound { length text.now < text_bytes bytes_of_word }
-    ensures { Imports board.now reader text.now board.now result }
+    ensures { Imports board.now reader text.now board.now (taken_from reader result) }
 {
     if text.len() == BANK_TEXT {
         return take_bank(board, reader, text, view);
@@ -151,44 +133,54 @@ fn has_lines(bytes: usize) -> bool
 }
 
 // 1, 18 and the end have passed.
-fn take_text(board: &mut [u64], reader: Reader, text: &[u8], view: View) -> Taken
+fn take_text(board: &mut [u64], reader: Reader, text: &[u8], view: View) -> Result<Reader, Status>
     requires { Ready board.old reader view }
-    ensures { Imports board.old reader text.now board.new result }
+    ensures { Imports board.old reader text.now board.new (taken_from reader result) }
 {
     if text.len() < LINE_TEXT {
         return take_short(board, reader, text, view);
     }
     if !has_lines(text.len()) {
-        return taken(Status::Record, reader);
+        return Err(Status::Record);
     }
     take_lines(board, reader, text, view)
 }
 
 // 1 has passed.
-fn take_shaped(board: &mut [u64], reader: Reader, text: &[u8], view: View) -> Taken
+fn take_shaped(board: &mut [u64], reader: Reader, text: &[u8], view: View) -> Result<Reader, Status>
     requires view_value { Ok view ≡ board_checked board.old }
     requires opened { Opened board.old view }
-    ensures { Imports board.old reader text.now board.new result }
+    ensures { Imports board.old reader text.now board.new (taken_from reader result) }
 {
     if view.control.length != 0 {
-        return taken(Status::LogHeld, reader);
+        return Err(Status::LogHeld);
     }
     if reader.ended {
-        return taken(Status::Record, reader);
+        return Err(Status::Record);
     }
     take_text(board, reader, text, view)
+}
+
+// 1, and then the record.
+fn take(board: &mut [u64], reader: Reader, text: &[u8]) -> Result<Reader, Refusal>
+    ensures { Imports board.old reader text.now board.new (taken_by reader result) }
+{
+    let view = checks::check_board(board)?;
+    Ok(take_shaped(board, reader, text, view)?)
 }
 
 // A text is one record and its line feed. What is refused leaves the board and the reader as they were.
 pub fn take_record(board: &mut [u64], reader: Reader, text: &[u8]) -> Taken
     ensures { Imports board.old reader text.now board.new result }
 {
-    let checked = checks::check_board(board);
-    match checked {
+    match take(board, reader, text) {
+        Ok(next) => Taken {
+            report: Report::unstored(Status::Ok, 0),
+            reader: next,
+        },
         Err(refusal) => Taken {
             report: Report::from(refusal),
             reader,
         },
-        Ok(view) => take_shaped(board, reader, text, view),
     }
 }

@@ -1,7 +1,7 @@
 // Writes a record at the start of a text.
 ghost use Rattle.std.specs.Prelude.{◌≡◌, ◌+◌, ◌*◌, ◌<◌, ◌≤◌, [], ◌∷◌, ◌++◌, length, drop};
 ghost use Rattle.std.proofs.lemmas.List.Edits.{sets};
-ghost use Rattle.layout.specs.Bytes.{bytes_of_word, bytes_of};
+ghost use Rattle.layout.specs.Bytes.{bytes_of_word};
 ghost use Rattle.intel_hex.specs.Records.{digits_of, line_feed, two_bytes, record_text, bank_text, data_text, end_text, record_bytes};
 ghost use Rattle.intel_hex.specs.Places.{pair_bytes};
 ghost use Rattle.intel_hex.specs.Export.{most_text};
@@ -10,17 +10,17 @@ ghost use Rattle.intel_hex.specs.Promises.{data_at, tail_bytes, text_bytes, Puts
 use crate::digits::{BYTE_DIGITS, put_byte, put_bytes};
 use crate::record;
 use crate::record::{
-    ADDRESS_AT, ADDRESS_BYTES, BANK_TYPE, COUNT_AT, DATA_AT, DATA_TYPE, LINE_FEED, MOST_DATA,
-    TAIL_BYTES,
+    ADDRESS_AT, ADDRESS_BYTES, BANK_TYPE, COUNT_AT, DATA_AT, DATA_TYPE, END_BYTES, LINE_FEED,
+    MOST_DATA, TAIL_BYTES,
 };
 use layout::BYTES_OF_WORD;
 
-const BYTES: u64 = 256;
-
+// The two lowest bytes of a number.
 fn two_bytes(n: u64) -> [u8; ADDRESS_BYTES]
     ensures { result ≡ two_bytes n }
 {
-    [(n / BYTES % BYTES) as u8, (n % BYTES) as u8]
+    let [.., high, low] = n.to_be_bytes();
+    [high, low]
 }
 
 // What stands before the data. Answers the sum of it.
@@ -30,10 +30,9 @@ fn put_head(text: &mut [u8], count: u8, address: u64, kind: u8) -> u8
 {
     text[0] = b':';
     put_byte(text, COUNT_AT, count);
-    let place = two_bytes(address);
-    let rest = [place[0], place[1], kind];
-    let sum = put_bytes(text, ADDRESS_AT, &rest);
-    std::num::wrapping_add_u8(count, sum)
+    let [high, low] = two_bytes(address);
+    let sum = put_bytes(text, ADDRESS_AT, &[high, low, kind]);
+    count.wrapping_add(sum)
 }
 
 fn put_tail(text: &mut [u8], at: usize, check: u8)
@@ -53,17 +52,9 @@ fn put(text: &mut [u8], address: u64, kind: u8, held: &[u8]) -> usize
     let sum = put_bytes(text, DATA_AT, held);
     let head = put_head(text, held.len() as u8, address, kind);
     let end = DATA_AT + BYTE_DIGITS * held.len();
-    let check = std::num::wrapping_sub_u8(0, std::num::wrapping_add_u8(head, sum));
+    let check = head.wrapping_add(sum).wrapping_neg();
     put_tail(text, end, check);
     end + TAIL_BYTES
-}
-
-fn put_word(into: &mut [u8], word: u64)
-    requires { bytes_of_word ≤ length into.old }
-    ensures { into.new ≡ bytes_of word ++ drop bytes_of_word into.old }
-{
-    let word = layout::bytes_of(word);
-    record::copy(&word, into);
 }
 
 // Gathers the bytes of a line, and of the next one where there is one. Answers how many they are.
@@ -72,11 +63,11 @@ fn gather(into: &mut [u8], lines: &[u64], first: usize) -> usize
     requires record_bytes_in_bounds { record_bytes ≤ length into.old }
     ensures { Gathers (drop first lines.now) into.old into.new result }
 {
-    put_word(into, lines[first]);
+    into[..BYTES_OF_WORD].copy_from_slice(&layout::bytes_of(lines[first]));
     if first + 1 == lines.len() {
         return BYTES_OF_WORD;
     }
-    put_word(&mut into[BYTES_OF_WORD..], lines[first + 1]);
+    into[BYTES_OF_WORD..MOST_DATA].copy_from_slice(&layout::bytes_of(lines[first + 1]));
     MOST_DATA
 }
 
@@ -108,6 +99,6 @@ pub fn put_end(text: &mut [u8]) -> usize
     ensures { Puts end_text text.old text.new result }
 {
     let end = record::end_text();
-    record::copy(&end, text);
+    text[..END_BYTES].copy_from_slice(&end);
     end.len()
 }

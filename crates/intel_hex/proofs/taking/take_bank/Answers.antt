@@ -1,8 +1,8 @@
 use Rattle.intel_hex.proofs.Importing.{bank_refused, bank_out}
 use Rattle.intel_hex.proofs.taking.take_bank.Goals as goal
 
-pub returns-then-not-opener : goal.returns-then-not-opener
-returns-then-not-opener c = search (bank_refused)
+pub returns-in_default : goal.returns-in_default
+returns-in_default c = search (bank_refused, c.in_default.ensures)
 
 pub returns : goal.returns
-returns c = search (bank_out)
+returns c = search (bank_out, c.in-Some.ensures)
