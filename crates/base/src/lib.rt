@@ -8,11 +8,7 @@ ghost use Rattle.base.specs.Parts.{set_pair};
 pub fn clear(part: &mut [u64])
     ensures { part.new ≡ replicate (length part.old) 0 }
 {
-    let mut i: usize = 0;
-    while i < part.len() {
-        part[i] = 0;
-        i += 1;
-    }
+    part.fill(0);
 }
 
 pub fn set_pair(part: &mut [u64], at: usize, first: u64, second: u64)
