@@ -5,6 +5,7 @@ use Rattle.base.specs.Tests.{held, hold_together}
 use Rattle.layout.specs.declared.Slot.{Slot}
 use Rattle.layout.specs.Limits.{word_bits, address_bits, epoch_bits, spare_bits}
 use Rattle.layout.specs.Fields.{width, pack, unpack, encode, decode}
+use Rattle.layout.proofs.Testing.{wrapped}
 use Rattle.layout.specs.Laws.{slot_laws}
 use Rattle.layout.specs.Words.{bit, SlotFits, decode_slot}
 use Rattle.layout.specs.SlotTests.{AddressOf, slot_form, IsDirtyForm, is_line}
@@ -128,7 +129,16 @@ module _ (w least tags : ℕ) where
       let fits = slot_laws.decoded_fits w in
       clean_line slot fits (decode_slot least).tag tags slot.valid slot.dirty (sym (form_as_holds slot fits) ∙ sym is ∙ e)
 
-  module _ (form more : ℕ) (is : form ≡ slot_form slot) (l : (more + least) % 2 ^ word_bits ≡ form) (below : more < 2 ^ word_bits) where
+  module _ (form : ℕ) (is : form ≡ slot_form slot) (form_fits : form < 2 ^ word_bits) (least_fits : least < 2 ^ word_bits) where
+    abbrev more : ℕ
+    more = wrapped form least
+
+    below : more < 2 ^ word_bits
+    below = omega arith
+
+    l : (more + least) % 2 ^ word_bits ≡ form
+    l = omega (arith, form_fits, least_fits)
+
     pub turned_fits : Fits w64 (turned more)
     turned_fits = record { fits = turned_below more below }
 

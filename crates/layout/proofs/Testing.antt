@@ -61,13 +61,20 @@ span_first till span h =
     (λ e. let l = leb-true (span * top_till) _ e in le-leb span till (omega arith))
     (λ e. let l = leb-false (span * top_till) _ e in lt-leb span till (omega arith))
 
-module _ (w less : ℕ) (l : (less + 1) % 2 ^ word_bits ≡ w) (below : less < 2 ^ word_bits) where
-  span_last : (decode_entry w).span ≡ (less + 1) % 2 ^ 8
-  span_last = omega (arith, span_field w)
+-- what a wrapping subtraction leaves
+abbrev pub wrapped : (a b : ℕ) → ℕ
+wrapped a b = (a + (2 ^ word_bits - b)) % 2 ^ word_bits
 
-  pub unformed : most_ahead ≤ less % 2 ^ 8 → false ≡ formed (decode_entry w)
+module _ (w : ℕ) (fits : w < 2 ^ word_bits) where
+  abbrev less : ℕ
+  less = wrapped w 1
+
+  span_last : (decode_entry w).span ≡ (less + 1) % 2 ^ 8
+  span_last = omega (arith, span_field w, fits)
+
+  pub unformed : most_ahead ≤ less % 2 ^ 8 → ltb (less % 2 ^ 8) most_ahead ≡ formed (decode_entry w)
   unfolding formed
-  unformed far = hold_together false _ (λ t. absurd (false≢true t)) (λ t.
+  unformed far = le-ltb (less % 2 ^ 8) most_ahead far ∙ hold_together false _ (λ t. absurd (false≢true t)) (λ t.
       let some : 1 ≤ (decode_entry w).span = search held depth 12 in
       let most : (decode_entry w).span ≤ most_ahead = search held depth 12 in
       absurd (omega (arith, span_last)))
@@ -83,20 +90,20 @@ module _ (w less : ℕ) (l : (less + 1) % 2 ^ word_bits ≡ w) (below : less < 2
 
 -- ---- the same by the fields
 
-module _ (e : Entry) (less : ℕ) (l : (less + 1) % 2 ^ word_bits ≡ e.span) (below : less < 2 ^ word_bits) where
-  pub span_far : most_ahead ≤ less → false ≡ formed e
+module _ (e : Entry) (fits : e.span < 2 ^ word_bits) where
+  pub span_far : most_ahead ≤ wrapped e.span 1 → ltb (wrapped e.span 1) most_ahead ≡ formed e
   unfolding formed
-  span_far far = hold_together false _ (λ t. absurd (false≢true t)) (λ t.
+  span_far far = le-ltb (wrapped e.span 1) most_ahead far ∙ hold_together false _ (λ t. absurd (false≢true t)) (λ t.
       let some : 1 ≤ e.span = search held depth 12 in
       let most : e.span ≤ most_ahead = search held depth 12 in
       absurd (omega arith))
 
-  pub span_near : less < most_ahead → leb e.span e.till ≡ formed e
+  pub span_near : wrapped e.span 1 < most_ahead → leb e.span e.till ≡ formed e
   unfolding formed
   span_near near = sym (rw (le-leb 1 e.span (omega arith), le-leb e.span most_ahead (omega arith)))
 
 -- ---- the lines of a board of this format: those of a shape word without its last field, less the version, modulo 2 ^ 64
 
-pub own_lines : (w r : ℕ) → w < 2 ^ word_bits → (r + board_version * 2 ^ 20) % 2 ^ word_bits ≡ w / 2 ^ 20 → r < 2 ^ word_bits → OwnLines (decode_shape w) r
+pub own_lines : (w : ℕ) → w < 2 ^ word_bits → OwnLines (decode_shape w) (wrapped (w / 2 ^ 20) (board_version * 2 ^ 20))
 unfolding decode unpack width
-own_lines w r h l below = record { own = λ v. omega arith; other = λ n. omega arith }
+own_lines w h = record { own = λ v. omega arith; other = λ n. omega arith }

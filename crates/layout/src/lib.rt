@@ -53,7 +53,8 @@ const SPARES: u64 = 1 << SPARE_BITS;
 
 const RECORD_SPARES: u64 = 1 << RECORD_SPARE_BITS;
 
-// Limits.
+// Limits. Lines, addresses and epochs are plain numbers and no types with these bounds: they are fields of words, of which ShapeFits,
+// EntryFits and the like say them, and each clause would only take them out of their type again to count with them.
 pub const LAST_EPOCH: u64 = EPOCHS - 1;
 
 pub const BOARD_VERSION: u64 = 1;
@@ -140,6 +141,9 @@ pub fn buffer_at(words: usize) -> usize
     words - BUFFER_WORDS
 }
 
+// Five packed words, and no trait over them: no function takes more than one kind, and each would still name its fields to be read
+// and to be packed. `encode` is no From, which could not ask that the fields fit.
+
 // The control word: the persisted epoch, and where in the ring the log starts and how many entries it has.
 #[derive(Clone, Copy, Debug, PartialEq, Eq)]
 pub struct Control {
@@ -222,7 +226,7 @@ impl Shape {
     pub fn own_lines(word: u64) -> u64
         ensures { OwnLines (decode_shape word) result }
     {
-        std::num::wrapping_sub_u64(word / SHAPE_LINES, BOARD_VERSION * SIZES)
+        (word / SHAPE_LINES).wrapping_sub(BOARD_VERSION * SIZES)
     }
 }
 
@@ -269,10 +273,7 @@ impl Entry {
     pub fn is_formed(self) -> bool
         ensures { result ≡ formed self }
     {
-        if std::num::wrapping_sub_u64(self.span, 1) >= MOST_AHEAD {
-            return false;
-        }
-        self.span <= self.till
+        self.span.wrapping_sub(1) < MOST_AHEAD && self.span <= self.till
     }
 }
 
@@ -302,14 +303,11 @@ pub fn is_till_at_most(word: u64, epoch: u64) -> bool
 pub fn is_formed_word(word: u64) -> bool
     ensures { result ≡ formed (decode_entry word) }
 {
-    if std::num::wrapping_sub_u64(word, 1) % SPANS >= MOST_AHEAD {
-        return false;
-    }
-    word % SPANS * TOP_TILL <= word << TILL_TO_TOP
+    word.wrapping_sub(1) % SPANS < MOST_AHEAD && word % SPANS * TOP_TILL <= word << TILL_TO_TOP
 }
 
 // The slot word: whether the slot holds a line and whether that is dirty, the line's address, the epoch of its last
-// store (0 where clean), and the bits that are kept zero.
+// store (0 where clean), and the bits that are kept zero. Flags and no Option: any word is read, and comes back from its fields (slot_laws).
 #[derive(Clone, Copy, Debug, PartialEq, Eq)]
 pub struct Slot {
     pub valid: bool,
@@ -356,7 +354,7 @@ pub fn is_line(word: u64, least: u64, tags: u64) -> bool
     if form == SLOT_VALID {
         return true;
     }
-    let more = std::num::wrapping_sub_u64(form, least);
+    let more = form.wrapping_sub(least);
     more / SPARES + more % SPARES * SPARE_TO_TOP < tags
 }
 
@@ -364,7 +362,7 @@ pub fn is_line(word: u64, least: u64, tags: u64) -> bool
 pub fn bit(flag: bool) -> u64
     ensures { IsBit flag result }
 {
-    flag as u64
+    u64::from(flag)
 }
 
 impl From<u64> for Slot {
@@ -400,7 +398,8 @@ impl Slot {
     }
 }
 
-// The first word of a trace's record: the call's kind, the line's address, and the bits that are kept zero.
+// The first word of a trace's record: the call's kind, the line's address, and the bits that are kept zero. The kind is a number: any
+// word is read, and comes back from its fields (record_laws).
 #[derive(Clone, Copy, Debug, PartialEq, Eq)]
 pub struct Record {
     pub kind: u64,

@@ -2,4 +2,4 @@ use Rattle.layout.specs.Reading.{is_bit}
 use Rattle.layout.proofs.bit.Goals as goal
 
 pub returns : goal.returns
-returns c = is_bit c.args.flag
+returns c = rw c.from.ensures (is_bit c.args.flag)

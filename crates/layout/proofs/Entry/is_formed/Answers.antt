@@ -1,8 +1,8 @@
 use Rattle.layout.proofs.Testing.{span_far, span_near}
 use Rattle.layout.proofs.Entry.is_formed.Goals as goal
 
-pub returns-then-wrapping_sub_u64-ge-MOST_AHEAD : goal.returns-then-wrapping_sub_u64-ge-MOST_AHEAD
-returns-then-wrapping_sub_u64-ge-MOST_AHEAD c = search (span_far)
+pub returns-then-self-lt-MOST_AHEAD : goal.returns-then-self-lt-MOST_AHEAD
+returns-then-self-lt-MOST_AHEAD c = search (span_near)
 
-pub returns : goal.returns
-returns c = search (span_near)
+pub returns-else-self-lt-MOST_AHEAD : goal.returns-else-self-lt-MOST_AHEAD
+returns-else-self-lt-MOST_AHEAD c = search (span_far)

@@ -1,9 +1,5 @@
-use Rattle.base.specs.Copied.{copy_start}
 use Rattle.layout.proofs.WordReading.{read_next, read_end}
 use Rattle.layout.proofs.word_bytes.read_words.Goals as goal
-
-pub loop-k-init : goal.loop-k-init
-loop-k-init c = search (copy_start)
 
 pub loop-k-preserved : goal.loop-k-preserved
 loop-k-preserved c = search (read_next)
