@@ -1,5 +1,5 @@
 -- Words that lie before every store stay as they were, so what is read there is the same before and after.
-use Rattle.std.specs.Prelude.{ℕ, zero, suc, ◌+◌, ◌<◌, ◌≤◌, ◌≡◌, refl, List, ◌∷◌, ◌++◌, [], get_or, set, take}
+use Rattle.std.specs.Prelude.{ℕ, zero, suc, ◌<◌, ◌≤◌, ◌≡◌, refl, List, ◌∷◌, ◌++◌, [], get_or, set, take}
 use Rattle.std.proofs.Common.{◌∙◌, arith, get_or-set_other}
 use Rattle.board.specs.declared.Meter.{Meter}
 use Rattle.board.specs.Stores.{Store, one, applied, allowed, stored, Ran, each}

@@ -5,7 +5,8 @@ ghost use Rattle.std.specs.Prelude.{false, ◌≡◌, ◌+◌, ◌-◌, ◌<◌,
 ghost use Rattle.board.specs.Stores.{full, one, was_cut, Ran};
 
 // What is left of a call's allowance: one more than the stores that may still be made, and 0 once a store was due with none
-// left. The field is private: no code outside this crate can decide by it which stores are made.
+// left. One number and no Option: whatever is left, a store that is due takes one from it (`spent`). The field is private: no
+// code outside this crate can decide by it which stores are made.
 #[derive(Clone, Copy)]
 pub struct Meter {
     left: u64,

@@ -1,4 +1,6 @@
-// The names of the numbers, held unpadded, end to end. Nothing outside this file knows how.
+// The names of the numbers, held unpadded, end to end, and not each by itself: `letters_many` says that they take as many bytes as they
+// have letters. They are bytes: taken from a &str of all letters, a name costs picl_name 240 bytes more of code (110 on x86-64).
+// Nothing outside this file knows how.
 ghost use Rattle.std.specs.Prelude.{◌<◌, ◌≡◌, length};
 ghost use Rattle.status.specs.Names.{names, PutsName};
 ghost use Rattle.status.specs.Letters.{letters, starts, Spans};
