@@ -255,8 +255,8 @@ impl View {
         requires { log_at ≤ length board.now }
         ensures { Viewed board.now result }
     {
-        let control = Control::decode(board[CONTROL_AT]);
-        let shape = Shape::decode(board[SHAPE_AT]);
+        let control = Control::from(board[CONTROL_AT]);
+        let shape = Shape::from(board[SHAPE_AT]);
         View {
             control,
             shape,
