@@ -7,7 +7,7 @@ ghost use Rattle.layout.specs.ByteWords.{words_of};
 ghost use Rattle.text.specs.Printing.{Prints};
 ghost use Rattle.image.specs.Image.{image_of};
 
-// The words of an image, to a memory of as many. It is public as it was: what an image's readers call stands beside what its writers call.
+// The words of an image, to a memory of as many. That is what read_words promises; this name of it is public, and stays.
 pub fn read(words: &mut [u64], image: &[u8])
     requires { length image.now ≡ bytes_of_word * length words.old }
     ensures { words.new ≡ words_of image.now }

@@ -1,5 +1,6 @@
 // Text that is put into a buffer that the caller lends: bytes, names and decimal numbers. Each function answers the place behind
-// what it has put.
+// what it has put. The two are parameters: a struct of a lent buffer and a place would have to promise in every method that the
+// buffer is still the same.
 #![tactic(auto)]
 
 ghost use Rattle.std.specs.Prelude.{◌+◌, ◌*◌, ◌≤◌, ◌<◌, [], ◌∷◌, length};
@@ -34,6 +35,7 @@ fn put_decimal(out: &mut [u8], at: usize, n: u64) -> usize
     requires { at + most_digits ≤ length out.old }
     ensures { Prints most_digits out.old at (decimal_of n) out.new result }
 {
+    // The library gives the digits so: in a buffer, with their count.
     let mut digits = [0u8; DIGITS];
     let count = io::decimal(n, &mut digits);
     put(out, at, &digits[..count])

@@ -1,10 +1,6 @@
-use Prim.Native.Nat.{◌≤◌, ◌+◌, ◌-◌}
-use mathlib.Core.Path.{◌≡◌}
-use lib.ListN.{length}
+use Rattle.std.proofs.Common.{◌≤◌, length}
 use Rattle.replaycases.proofs.difference.Given as goal
 
-abbrev pub invariant-loop-at : goal.invariant-loop-at
-invariant-loop-at l = (l.agreed ≤ length l.expected) × (length l.out ≡ length l.initial.out)
-
-abbrev pub decreases-loop-at : goal.decreases-loop-at
-decreases-loop-at l = length l.scripts + 1 - l.at
+abbrev pub invariant-loop-script : goal.invariant-loop-script
+invariant-loop-script l =
+    (goal.iterator-loop-script).can_next l.script-iterator × (goal.iterator-loop-script).is_finite l.script-iterator × (l.agreed ≤ length l.expected)
