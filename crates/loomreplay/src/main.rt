@@ -65,6 +65,7 @@ impl Replay {
     }
 
     fn feed_all(&mut self, rt: &impl Print, input: &[u8]) -> io::Result<()> {
+        // A while loop: each turn takes as many bytes as what they print has room for.
         let mut rest = input;
         while !rest.is_empty() {
             let taken = self.feed(rt, rest)?;

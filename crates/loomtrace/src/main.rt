@@ -113,6 +113,7 @@ fn sizes(rt: &impl Env) -> Option<(u64, u64, u64)>
         return None;
     }
     let mut reader = Reader::new().step(b'n');
+    // The places of arguments, which are in no slice.
     for place in FIRST_SIZE..FILE {
         reader = step_argument(rt, reader, place);
     }
