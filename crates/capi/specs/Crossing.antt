@@ -1,8 +1,9 @@
 -- What C sees of each call: the number that the function returns, and every lent array afterwards. The call itself is the
 -- library's own definition; only the places of registers and answer are added here, and what is said where these are missing.
-use Rattle.std.specs.Prelude.{ℕ, cond, ◌&&◌, List, ◌++◌, leb, eqb, length, drop}
-use Rattle.status.specs.declared.Status.TheVariants.{Ok}
-use Rattle.status.specs.Numbers.{number_of, is_ok}
+use Rattle.std.specs.Prelude.{ℕ, cond, ◌&&◌, List, ◌++◌, Result, Ok, Err, leb, eqb, length, drop}
+use Rattle.status.specs.declared.Status.{Status}
+use Rattle.status.specs.declared.Status.TheVariants as status
+use Rattle.status.specs.Numbers.{number_of}
 use Rattle.status.specs.Names.{name_of, with_name}
 use Rattle.checks.specs.declared.Registers.{Registers}
 use Rattle.picl.specs.declared.Report.{Report}
@@ -12,7 +13,6 @@ use Rattle.picl.specs.Calls.{Call, verdict_of}
 use Rattle.intel_hex.specs.declared.Reader.{Reader}
 use Rattle.intel_hex.specs.Import.{import_report, import_reader, import_board}
 use Rattle.convert.specs.Convert.{Conversion, conversion_report, memory_after}
-use Rattle.records.specs.declared.Written.{Written}
 use Rattle.records.specs.Records.{record_bytes, written}
 use Rattle.capi.specs.Places.{has_answer, has_places, has_record_places, has_reader_places, read_registers, write_registers, read_reader, write_reader, write_answer}
 
@@ -75,7 +75,7 @@ imported number board reader answer = record { number = number; board = board; r
 
 -- "unchanged by a refusal": the reader's words are written where the record is accepted, and else stay, whichever they are
 unfoldable pub reader_put : (words : List ℕ) → (number : ℕ) → Reader → List ℕ
-reader_put words number left = cond (eqb number (number_of Ok)) (write_reader words left) words
+reader_put words number left = cond (eqb number (number_of status.Ok)) (write_reader words left) words
 
 unfoldable pub import_crossing : (board reader text answer : List ℕ) → Imported
 import_crossing board reader text answer =
@@ -87,18 +87,24 @@ import_crossing board reader text answer =
     (imported too_short board reader answer)
 
 -- The writer of records: the first sixteen bytes, or the refusal and no byte touched. It has no value and makes no stores.
-unfoldable pub record_put : (bytes : List ℕ) → Written → List ℕ
-record_put bytes w = cond (is_ok w.status) (w.bytes ++ drop record_bytes bytes) bytes
+abbrev pub record_put : (bytes : List ℕ) → Result (List ℕ) Status → List ℕ
+record_put bytes (Ok made) = made ++ drop record_bytes bytes
+record_put bytes (Err why) = bytes
+
+abbrev pub record_status : Result (List ℕ) Status → Status
+record_status (Ok made) = status.Ok
+record_status (Err why) = why
 
 unfoldable pub record_crossing : (bytes answer : List ℕ) → (kind address value : ℕ) → Reported
 record_crossing bytes answer kind address value =
     let w = written kind address value in
-    cond (has_record_places bytes answer) (reported (number_of w.status) (record_put bytes w) (write_answer answer 0 0)) (reported too_short bytes answer)
+    cond (has_record_places bytes answer) (reported (number_of (record_status w)) (record_put bytes w) (write_answer answer 0 0))
+    (reported too_short bytes answer)
 
 -- The name of a number: its bytes at the start of the text, those behind as they were, and their count as value. A text with too few bytes
 -- for the name is like an answer with too few words.
 unfoldable pub name_crossing : (text answer : List ℕ) → (number : ℕ) → Reported
 name_crossing text answer number =
     let name = name_of number in
-    cond (has_answer answer && leb (length name) (length text)) (reported (number_of Ok) (with_name name text) (write_answer answer (length name) 0))
+    cond (has_answer answer && leb (length name) (length text)) (reported (number_of status.Ok) (with_name name text) (write_answer answer (length name) 0))
     (reported too_short text answer)

@@ -261,9 +261,7 @@ pub extern "C" fn picl_trace_write(
     if !has_record_places(place, answer) {
         return TOO_SHORT;
     }
-    let made = records::write(kind, address, value);
-    let status = made.status;
-    put_record(place, made);
+    let status = put_record(place, records::write(kind, address, value));
     report(
         answer,
         Report {

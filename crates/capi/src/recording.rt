@@ -2,30 +2,29 @@
 ghost use Rattle.std.specs.Prelude.{◌≤◌, ◌≡◌, length};
 ghost use Rattle.records.specs.Records.{record_bytes};
 ghost use Rattle.capi.specs.Places.{has_record_places};
-ghost use Rattle.capi.specs.Crossing.{record_put};
+ghost use Rattle.capi.specs.Crossing.{record_put, record_status};
 
 use crate::places::has_answer;
-use records::{RECORD_BYTES, Written};
+use records::RECORD_BYTES;
+use status::Status;
 
 pub fn has_record_places(place: &[u8], answer: &[u64]) -> bool
     ensures { result ≡ has_record_places place.now answer.now }
 {
-    if place.len() < RECORD_BYTES {
-        return false;
-    }
-    has_answer(answer)
+    place.len() >= RECORD_BYTES && has_answer(answer)
 }
 
-// The record to its place. A refusal touches none of it.
-pub fn put_record(place: &mut [u8], made: Written)
-    requires record_bytes_in_bounds { record_bytes ≤ length place.old }
-    requires bytes_len { length made.bytes ≡ record_bytes }
-    ensures { place.new ≡ record_put place.old made }
+// The record to its place, or the refusal, which touches none of it.
+pub fn put_record(place: &mut [u8], made: Result<[u8; RECORD_BYTES], Status>) -> Status
+    requires { record_bytes ≤ length place.old }
+    ensures put { place.new ≡ record_put place.old made }
+    ensures status { result ≡ record_status made }
 {
-    let status = made.status;
-    if !status.is_ok() {
-        return;
+    match made {
+        Ok(record) => {
+            place[..RECORD_BYTES].copy_from_slice(&record);
+            Status::Ok
+        }
+        Err(status) => status,
     }
-    let record = made.bytes;
-    place[..record.len()].copy_from_slice(&record);
 }

@@ -1,14 +1,15 @@
 -- The reader, fed byte by byte, reads what `Records` says (`reader_reads`); and the laws between writer and reader: what the writer writes the
 -- reader reads back (`read_back`), what the reader accepts the writer writes again (`written_again`), and what the reader refuses no writer
 -- writes (`never_written`).
-use Rattle.std.specs.Prelude.{ℕ, zero, suc, ◌+◌, ◌^◌, ◌<◌, ◌≤◌, Bool, ◌&&◌, List, [], ◌∷◌, ◌++◌, leb, take, drop}
+use Rattle.std.specs.Prelude.{ℕ, zero, suc, ◌+◌, ◌^◌, ◌<◌, ◌≤◌, Bool, ◌&&◌, List, [], ◌∷◌, ◌++◌, leb, take, drop, fold, Some, None, Result, Ok, Err, IfOk}
 use Rattle.std.proofs.Math.Path.{◌≡◌, refl, sym}
-use Rattle.std.proofs.Common.{ap, ap₂, ◌∙◌, arith, zero-add, suc-add, length-append, length-drop, drop_of_length-le, take-add, take_all, take-take, length-take-le}
+use Rattle.std.proofs.Common.{ap, ap₂, ◌∙◌, arith, zero-add, suc-add, length-append, length-drop, drop_of_length-le, take-add, take_all, take-take, length-take-le, length-take, append_assoc, append-nil}
 use Rattle.std.proofs.Math.Bool.{true, false, cond}
 use borrow.Author.Tests.{leb-true, ltb-true, ltb-false, eqb-true, le-ltb, lt-ltb, lt-leb, ne_eqb}
 use Rattle.std.proofs.Math.Dec.{ltb, eqb}
 use Rattle.std.proofs.Math.ListN.{length}
 use Rattle.std.proofs.lemmas.List.{take-append-le, drop-append-le}
+use Rattle.std.proofs.Math.Seq.{take-append_seam}
 use Rattle.base.specs.Cases.{below_or_not, either}
 use Rattle.base.specs.Tests.{and_left, and_right}
 use Rattle.layout.specs.declared.Record.{Record}
@@ -18,14 +19,12 @@ use Rattle.layout.specs.Words.{RecordFits, decode_record, encode_record}
 use Rattle.layout.specs.Bytes.{bytes_of_word, bytes_of, word_of, with_byte, AreBytes, bytes_drop, bytes_take, word_below, word_of_bytes, bytes_of_word_holds, word_grows}
 use Rattle.layout.specs.Laws.{record_laws}
 use Rattle.status.specs.declared.Status.{Status}
-use Rattle.status.specs.declared.Status.TheVariants.{Ok, Trace}
+use Rattle.status.specs.declared.Status.TheVariants.{Trace}
 use Rattle.records.specs.declared.Call.{Call}
 use Rattle.records.specs.declared.Call.TheVariants.{Load, Store, Evict, Commit, Scan}
 use Rattle.records.specs.declared.Reader.{Reader}
-use Rattle.records.specs.declared.Reading.TheVariants.{End, Recorded, Refused}
-use Rattle.records.specs.declared.Written.{Written}
 use Rattle.records.specs.Records.{load_kind, store_kind, commit_kind, scan_kind, evict_kind, record_bytes}
-use Rattle.records.specs.Records.{takes_address, takes_value, zero_unless, has_place, call_of, first_word}
+use Rattle.records.specs.Records.{takes_address, takes_value, zero_unless, has_place, call_of, call_in, first_word}
 use Rattle.records.specs.Records.{written, words_reading, first_in, value_in, reading}
 use Rattle.records.specs.Steps.{new_reader, is_new, is_full, step_of, reading_by}
 
@@ -96,6 +95,29 @@ reading_first bytes = below_or_not (length bytes) record_bytes (λ l. rw (take_a
     let n : length (take record_bytes bytes) ≡ record_bytes = length-take-le record_bytes bytes l in
     rw (n, take-take bytes_of_word record_bytes bytes (omega arith), part_taken bytes_of_word bytes_of_word bytes, ne_eqb (length bytes) 0 (omega arith), le-ltb (length bytes) record_bytes l))
 
+-- the bytes before others are bytes
+pub front_bytes : (xs ys : List ℕ) → AreBytes (xs ++ ys) → AreBytes xs
+front_bytes xs ys h = rw (take-append_seam xs ys) at (bytes_take (length xs) (xs ++ ys) h)
+
+-- more bytes, one after the other
+steps_on : (read bytes : List ℕ) → AreBytes (read ++ bytes) → length (read ++ bytes) ≤ record_bytes → fold step_of (reader_of read) bytes ≡ reader_of (read ++ bytes)
+steps_on read [] h most = ap reader_of (sym (append-nil read))
+steps_on read (b ∷ bytes) h most =
+    let same = append_assoc read (b ∷ []) bytes in
+    let few : length read < record_bytes = omega (arith, length-append read (b ∷ bytes)) in
+    ap (λ (r : Reader). fold step_of r bytes) (reader_steps read b (front_bytes read (b ∷ bytes) h) few)
+    ∙ steps_on (read ++ (b ∷ [])) bytes (rw same h) (rw same most)
+    ∙ ap reader_of same
+
+-- the reader, on bytes that are at hand
+pub bytes_read : (bytes : List ℕ) → AreBytes bytes → reading_by (fold step_of new_reader (take record_bytes bytes)) ≡ reading bytes
+bytes_read bytes h =
+    let most : length (take record_bytes bytes) ≤ record_bytes = omega (arith, length-take record_bytes bytes) in
+    ap (λ (r : Reader). reading_by (fold step_of r (take record_bytes bytes))) reader_new
+    ∙ ap reading_by (steps_on [] (take record_bytes bytes) (bytes_take record_bytes bytes h) most)
+    ∙ reader_reads (take record_bytes bytes) most
+    ∙ reading_first bytes
+
 -- ── what has a place ──
 
 module _ (kind address value : ℕ) (placed : has_place kind address value ≡ true) where
@@ -124,6 +146,16 @@ module _ (kind address value : ℕ) (placed : has_place kind address value ≡ t
 
   value_fits : zero_unless (takes_value kind) value ≡ true
   value_fits = and_right (zero_unless (takes_address kind) address) (zero_unless (takes_value kind) value) both_fit
+
+-- a call that has a place fits the first word
+pub call_fits : (kind address value : ℕ) {c : Call} → call_in kind address value ≡ Ok c → RecordFits (record { kind = kind; address = address; spare = 0 })
+unfolding call_in
+call_fits kind address value {c} e = go (has_place kind address value) refl e
+  where
+    go : (t : Bool) → has_place kind address value ≡ t → cond t (Ok (call_of kind address value)) (Err Trace) ≡ Ok c
+        → RecordFits (record { kind = kind; address = address; spare = 0 })
+    go true h e = place_fits kind address value h
+    go false h e = cc
 
 -- ── writer and reader ──
 
@@ -174,25 +206,25 @@ unfolding reading bytes_of unpack
 words_read first value f v = ap₂ words_reading (word_of_bytes first f) (word_of_bytes value v)
 
 module _ (kind address value : ℕ) where
-  pub written_length : length (written kind address value).bytes ≡ record_bytes
+  pub written_length : IfOk (written kind address value) (λ bytes. length bytes ≡ record_bytes)
   unfolding written bytes_of unpack
-  written_length = either (λ (w : Written). length w.bytes ≡ record_bytes) (has_place kind address value) refl refl
+  written_length = either (λ (w : Result (List ℕ) Status). IfOk w (λ bytes. length bytes ≡ record_bytes)) (has_place kind address value) refl tt
 
   pub written_placed : has_place kind address value ≡ true
-      → written kind address value ≡ record { status = Ok; bytes = bytes_of (first_word kind address) ++ bytes_of value }
+      → written kind address value ≡ Ok (bytes_of (first_word kind address) ++ bytes_of value)
   unfolding written
   written_placed placed = rw placed
 
   -- only what has a place is written
-  pub placed_written : (written kind address value).status ≡ Ok → has_place kind address value ≡ true
+  pub placed_written : {bytes : List ℕ} → written kind address value ≡ Ok bytes → has_place kind address value ≡ true
   unfolding written
-  placed_written w = go (has_place kind address value) _ _ refl w
+  placed_written {bytes} w = go (has_place kind address value) w
     where
-      go : (t : Bool) (x y : Written) → y.status ≡ Trace → (cond t x y).status ≡ Ok → t ≡ true
-      go true x y r e = refl
-      go false x y r e = let z : ◌≡◌ {A = ℕ} 0 1 = cc in absurd (omega arith)
+      go : (t : Bool) → cond t (Ok (bytes_of (first_word kind address) ++ bytes_of value)) (Err Trace) ≡ Ok bytes → t ≡ true
+      go true e = refl
+      go false e = cc
 
-  words_placed : has_place kind address value ≡ true → words_reading (first_word kind address) value ≡ Recorded (call_of kind address value)
+  words_placed : has_place kind address value ≡ true → words_reading (first_word kind address) value ≡ Ok (Some (call_of kind address value))
   unfolding words_reading first_word
   words_placed placed = rw (record_laws.decode_encode (record { kind = kind; address = address; spare = 0 }) (place_fits kind address value placed), placed)
 
@@ -201,11 +233,11 @@ module _ (kind address value : ℕ) where
   word_fits placed = record_laws.encode_below (record { kind = kind; address = address; spare = 0 }) (place_fits kind address value placed)
 
   -- what the writer writes the reader reads back
-  pub read_back : value < 2 ^ word_bits → (written kind address value).status ≡ Ok
-      → reading (written kind address value).bytes ≡ Recorded (call_of kind address value)
-  read_back v w =
+  pub read_back : value < 2 ^ word_bits → (bytes : List ℕ) → written kind address value ≡ Ok bytes → reading bytes ≡ Ok (Some (call_of kind address value))
+  read_back v bytes w =
       let placed = placed_written w in
-      rw (written_placed placed) (words_read (first_word kind address) value (word_fits placed) v ∙ words_placed placed)
+      let is : bytes ≡ bytes_of (first_word kind address) ++ bytes_of value = let z = sym w ∙ written_placed placed in cc in
+      rw is (words_read (first_word kind address) value (word_fits placed) v ∙ words_placed placed)
 
 -- What the reader accepts.
 module _ (bytes : List ℕ) (c : Call) where
@@ -218,7 +250,7 @@ module _ (bytes : List ℕ) (c : Call) where
     placed : has_place word.kind word.address (value_in bytes) ≡ true
     call : c ≡ call_of word.kind word.address (value_in bytes)
 
-  accepted : reading bytes ≡ Recorded c → Accepted
+  accepted : reading bytes ≡ Ok (Some c) → Accepted
   unfolding reading words_reading
   accepted e =
       go (eqb (length bytes) 0) (ltb (length bytes) record_bytes) (eqb word.spare 0) (has_place word.kind word.address (value_in bytes)) refl refl
@@ -226,12 +258,12 @@ module _ (bytes : List ℕ) (c : Call) where
     where
       go : (none short plain placed : Bool) → eqb (length bytes) 0 ≡ none → ltb (length bytes) record_bytes ≡ short → eqb word.spare 0 ≡ plain
           → has_place word.kind word.address (value_in bytes) ≡ placed
-          → cond none End (cond short (Refused Trace)
-          (cond (plain && placed) (Recorded (call_of word.kind word.address (value_in bytes))) (Refused Trace))) ≡ Recorded c → Accepted
-      go true short plain placed n s p q x = let z : ◌≡◌ {A = ℕ} 0 1 = cc in absurd (omega arith)
-      go false true plain placed n s p q x = let z : ◌≡◌ {A = ℕ} 0 1 = cc in absurd (omega arith)
-      go false false false placed n s p q x = let z : ◌≡◌ {A = ℕ} 0 1 = cc in absurd (omega arith)
-      go false false true false n s p q x = let z : ◌≡◌ {A = ℕ} 0 1 = cc in absurd (omega arith)
+          → cond none (Ok None) (cond short (Err Trace)
+          (cond (plain && placed) (Ok (Some (call_of word.kind word.address (value_in bytes)))) (Err Trace))) ≡ Ok (Some c) → Accepted
+      go true short plain placed n s p q x = cc
+      go false true plain placed n s p q x = cc
+      go false false false placed n s p q x = cc
+      go false false true false n s p q x = cc
       go false false true true n s p q x =
           record { long = ltb-false (length bytes) record_bytes s; spare = eqb-true word.spare 0 p; placed = q; call = cc }
 
@@ -257,21 +289,18 @@ module _ (bytes : List ℕ) (h : AreBytes bytes) where
       ∙ sym (take-add bytes_of_word bytes_of_word bytes)
 
   -- what the reader accepts the writer writes again, byte for byte
-  pub written_again : (c : Call) → reading bytes ≡ Recorded c
-      → written (kind_of c) (address_of c) (value_of c) ≡ record { status = Ok; bytes = take record_bytes bytes }
+  pub written_again : (c : Call) → reading bytes ≡ Ok (Some c)
+      → written (kind_of c) (address_of c) (value_of c) ≡ Ok (take record_bytes bytes)
   written_again c e =
       let a = accepted bytes c e in
       let r = decode_record (first_in bytes) in
       let o = call_holds r.kind r.address (value_in bytes) a.placed in
       rw (a.call, o.is_kind, o.is_address, o.is_value) (written_placed r.kind r.address (value_in bytes) a.placed
-      ∙ ap (λ (x : List ℕ). record { status = Ok; bytes = x }) (ap (λ (w : ℕ). bytes_of w ++ bytes_of (value_in bytes)) (word_again a.long a.spare) ∙ bytes_again a.long))
+      ∙ ap (λ (x : List ℕ). Ok x) (ap (λ (w : ℕ). bytes_of w ++ bytes_of (value_in bytes)) (word_again a.long a.spare) ∙ bytes_again a.long))
 
 -- what the reader refuses no writer writes
-pub never_written : (bytes : List ℕ) (s : Status) → reading bytes ≡ Refused s → (kind address value : ℕ) → value < 2 ^ word_bits
-    → written kind address value ≡ record { status = Ok; bytes = take record_bytes bytes } → ⊥
+pub never_written : (bytes : List ℕ) (s : Status) → reading bytes ≡ Err s → (kind address value : ℕ) → value < 2 ^ word_bits
+    → written kind address value ≡ Ok (take record_bytes bytes) → ⊥
 never_written bytes s e kind address value v w =
-    let back = read_back kind address value v (ap (λ (x : Written). x.status) w) in
-    let again : reading (take record_bytes bytes) ≡ Recorded (call_of kind address value) = rw w at back in
-    let is = sym (reading_first bytes ∙ e) ∙ again in
-    let z : ◌≡◌ {A = ℕ} 0 1 = cc in
-    absurd (omega arith)
+    let is = sym (reading_first bytes ∙ e) ∙ read_back kind address value v (take record_bytes bytes) w in
+    cc

@@ -1,10 +1,10 @@
 -- What the reader's functions answer, byte by byte. That bytes so read give what `Records` says of them is `reader_reads`, in `Laws`.
-use Rattle.std.specs.Prelude.{ℕ, ◌+◌, Bool, cond, ◌&&◌, ltb, leb, eqb}
+use Rattle.std.specs.Prelude.{ℕ, ◌+◌, Bool, cond, ◌&&◌, Option, None, Result, Ok, Err, ltb, leb, eqb}
 use Rattle.layout.specs.Bytes.{bytes_of_word, with_byte}
+use Rattle.status.specs.declared.Status.{Status}
 use Rattle.status.specs.declared.Status.TheVariants.{Trace}
+use Rattle.records.specs.declared.Call.{Call}
 use Rattle.records.specs.declared.Reader.{Reader}
-use Rattle.records.specs.declared.Reading.{Reading}
-use Rattle.records.specs.declared.Reading.TheVariants.{End, Refused}
 use Rattle.records.specs.Records.{record_bytes, words_reading}
 
 -- before the first byte
@@ -26,5 +26,5 @@ step_of r byte =
     (record { count = r.count + 1; first = r.first; value = with_byte r.value byte }))
 
 -- what the bytes are where none follow
-unfoldable pub reading_by : Reader → Reading
-reading_by r = cond (eqb r.count 0) End (cond (ltb r.count record_bytes) (Refused Trace) (words_reading r.first r.value))
+unfoldable pub reading_by : Reader → Result (Option Call) Status
+reading_by r = cond (eqb r.count 0) (Ok None) (cond (ltb r.count record_bytes) (Err Trace) (words_reading r.first r.value))

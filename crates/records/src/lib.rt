@@ -2,16 +2,16 @@
 // the reader takes them byte by byte, and keeps numbers and no bytes.
 #![tactic(auto)]
 
-ghost use Rattle.std.specs.Prelude.{◌≡◌, ◌++◌, min, true};
+ghost use Rattle.std.specs.Prelude.{◌≡◌, ◌++◌, fold, take};
 ghost use Rattle.layout.specs.Bytes.{bytes_of};
-ghost use Rattle.records.specs.Records.{record_bytes, has_place, call_of, first_word, written, words_reading, reading as bytesReading};
+ghost use Rattle.records.specs.Records.{record_bytes, Numbers, call_in, written, words_reading, reading as bytesReading};
 ghost use Rattle.records.specs.Steps.{new_reader, is_new, is_full, step_of, reading_by};
 
 use layout::{ADDRESSES, BYTES_OF_WORD, Record};
 use status::Status;
 
 // The calls that a record holds, and that bench programs make: those of a controller that runs.
-#[derive(Clone, Copy)]
+#[derive(Clone, Copy, PartialEq, Eq)]
 pub enum Call {
     // An address.
     Load(u64),
@@ -25,137 +25,95 @@ pub enum Call {
 
 pub const RECORD_BYTES: usize = 2 * BYTES_OF_WORD;
 
-// The kinds.
-const LOAD: u64 = 0;
-
-const STORE: u64 = 1;
-
-const COMMIT: u64 = 2;
-
-const SCAN: u64 = 3;
-
-const EVICT: u64 = 4;
-
-// The bytes of a record, or all zero with the refusal.
-#[derive(Clone, Copy)]
-pub struct Written {
-    pub status: Status,
-    pub bytes: [u8; RECORD_BYTES],
+// The kinds of calls, in the order of their numbers.
+#[derive(Clone, Copy, PartialEq, Eq)]
+enum Kind {
+    Load,
+    Store,
+    Commit,
+    Scan,
+    Evict,
 }
 
-// What stands at the start of some bytes.
-#[derive(Clone, Copy)]
-pub enum Reading {
-    // Nothing: there are no bytes.
-    End,
-    Recorded(Call),
-    Refused(Status),
+impl TryFrom<u64> for Kind {
+    type Error = Status;
+
+    ghost try_from_gives = { Numbers };
+
+    fn try_from(number: u64) -> Result<Self, Status> {
+        match number {
+            0 => Ok(Kind::Load),
+            1 => Ok(Kind::Store),
+            2 => Ok(Kind::Commit),
+            3 => Ok(Kind::Scan),
+            4 => Ok(Kind::Evict),
+            _ => Err(Status::Trace),
+        }
+    }
 }
 
 // The first bytes of a record, as many as count says: those of its first word, then those of its value.
-#[derive(Clone, Copy)]
+#[derive(Clone, Copy, PartialEq, Eq)]
 pub struct Reader {
     count: usize,
     first: u64,
     value: u64,
 }
 
-// Whether a record has a place for the three. A store takes all that fits; of the others none takes a value, and commit and scan
-// no address.
-fn has_place(kind: u64, address: u64, value: u64) -> bool
-    ensures { result ≡ has_place kind address value }
+// The call of the three, where a record has a place for them. A store takes all that fits; of the others none takes a value, and
+// commit and scan no address.
+#[tactic(auto, using(base::specs::Tests::tests), unfolding(crate::specs::Records::call_in, crate::specs::Records::has_place, crate::specs::Records::call_of))]
+fn call_in(kind: u64, address: u64, value: u64) -> Result<Call, Status>
+    ensures { result ≡ call_in kind address value }
 {
     if address >= ADDRESSES {
-        return false;
+        return Err(Status::Trace);
     }
-    if kind == STORE {
-        return true;
+    match (Kind::try_from(kind)?, address, value) {
+        (Kind::Store, _, _) => Ok(Call::Store(address, value)),
+        (Kind::Load, _, 0) => Ok(Call::Load(address)),
+        (Kind::Evict, _, 0) => Ok(Call::Evict(address)),
+        (Kind::Commit, 0, 0) => Ok(Call::Commit),
+        (Kind::Scan, 0, 0) => Ok(Call::Scan),
+        _ => Err(Status::Trace),
     }
-    if value != 0 {
-        return false;
-    }
-    if kind == LOAD {
-        return true;
-    }
-    if kind == EVICT {
-        return true;
-    }
-    if address != 0 {
-        return false;
-    }
-    kind < EVICT
 }
 
-fn call_of(kind: u64, address: u64, value: u64) -> Call
-    ensures { result ≡ call_of kind address value }
+// The bytes of two words.
+#[tactic(auto, unfolding(layout::specs::Bytes::bytes_of))]
+fn bytes_of(first: u64, value: u64) -> [u8; RECORD_BYTES]
+    ensures { result ≡ bytes_of first ++ bytes_of value }
 {
-    if kind == LOAD {
-        return Call::Load(address);
-    }
-    if kind == STORE {
-        return Call::Store(address, value);
-    }
-    if kind == COMMIT {
-        return Call::Commit;
-    }
-    if kind == SCAN {
-        return Call::Scan;
-    }
-    Call::Evict(address)
+    let mut bytes = [0; RECORD_BYTES];
+    bytes[..BYTES_OF_WORD].copy_from_slice(&layout::bytes_of(first));
+    bytes[BYTES_OF_WORD..].copy_from_slice(&layout::bytes_of(value));
+    bytes
 }
 
-fn first_word(kind: u64, address: u64, value: u64) -> u64
-    requires { has_place kind address value ≡ true }
-    ensures { result ≡ first_word kind address }
+// The writer.
+#[tactic(auto, using(base::specs::Tests::tests, crate::specs::Laws::call_fits), unfolding(crate::specs::Records::call_in, crate::specs::Records::written, crate::specs::Records::first_word))]
+pub fn write(kind: u64, address: u64, value: u64) -> Result<[u8; RECORD_BYTES], Status>
+    ensures { result ≡ written kind address value }
 {
+    call_in(kind, address, value)?;
     let record = Record {
         kind,
         address,
         spare: 0,
     };
-    record.encode()
-}
-
-// The bytes of two words.
-fn bytes_of(first: u64, value: u64) -> [u8; RECORD_BYTES]
-    ensures { result ≡ bytes_of first ++ bytes_of value }
-{
-    let a = layout::bytes_of(first);
-    let b = layout::bytes_of(value);
-    [
-        a[0], a[1], a[2], a[3], a[4], a[5], a[6], a[7], b[0], b[1], b[2], b[3], b[4], b[5], b[6],
-        b[7],
-    ]
-}
-
-// The writer.
-pub fn write(kind: u64, address: u64, value: u64) -> Written
-    ensures { result ≡ written kind address value }
-{
-    if !has_place(kind, address, value) {
-        return Written {
-            status: Status::Trace,
-            bytes: [0; RECORD_BYTES],
-        };
-    }
-    Written {
-        status: Status::Ok,
-        bytes: bytes_of(first_word(kind, address, value), value),
-    }
+    Ok(bytes_of(record.encode(), value))
 }
 
 // What two words are as a record.
-fn reading_of(first: u64, value: u64) -> Reading
+#[tactic(auto, using(base::specs::Tests::tests), unfolding(crate::specs::Records::call_in, crate::specs::Records::words_reading))]
+fn reading_of(first: u64, value: u64) -> Result<Option<Call>, Status>
     ensures { result ≡ words_reading first value }
 {
     let record = Record::decode(first);
     if record.spare != 0 {
-        return Reading::Refused(Status::Trace);
+        return Err(Status::Trace);
     }
-    if !has_place(record.kind, record.address, value) {
-        return Reading::Refused(Status::Trace);
-    }
-    Reading::Recorded(call_of(record.kind, record.address, value))
+    Ok(Some(call_in(record.kind, record.address, value)?))
 }
 
 impl Reader {
@@ -171,19 +129,15 @@ impl Reader {
     }
 
     // Whether no byte has been read.
+    #[tactic(auto, using(base::specs::Tests::tests), unfolding(crate::specs::Steps::is_new))]
     pub fn is_new(self) -> bool
         ensures { result ≡ is_new self }
     {
-        if self.count != 0 {
-            return false;
-        }
-        if self.first != 0 {
-            return false;
-        }
-        self.value == 0
+        self == Reader::new()
     }
 
     // Whether a whole record has been read.
+    #[tactic(auto, unfolding(crate::specs::Steps::is_full))]
     pub fn is_full(self) -> bool
         ensures { result ≡ is_full self }
     {
@@ -191,61 +145,56 @@ impl Reader {
     }
 
     // One more byte. A full reader takes none.
+    #[tactic(auto, using(base::specs::Tests::tests), unfolding(crate::specs::Steps::step_of, crate::specs::Steps::is_full))]
     pub fn step(self, byte: u8) -> Reader
         ensures { result ≡ step_of self byte }
     {
-        if self.count >= RECORD_BYTES {
+        if self.is_full() {
             return self;
         }
+        let count = self.count + 1;
         if self.count < BYTES_OF_WORD {
             return Reader {
-                count: self.count + 1,
+                count,
                 first: layout::with_byte(self.first, byte),
-                value: self.value,
+                ..self
             };
         }
         Reader {
-            count: self.count + 1,
-            first: self.first,
+            count,
             value: layout::with_byte(self.value, byte),
+            ..self
         }
     }
 
-    // What the bytes are that have been read, where none follow.
-    pub fn reading(self) -> Reading
+    // What the bytes are that have been read, where none follow: a call, or nothing where there are none.
+    #[tactic(auto, using(base::specs::Tests::tests), unfolding(crate::specs::Steps::reading_by))]
+    pub fn reading(self) -> Result<Option<Call>, Status>
         ensures { result ≡ reading_by self }
     {
         if self.count == 0 {
-            return Reading::End;
+            return Ok(None);
         }
         if self.count < RECORD_BYTES {
-            return Reading::Refused(Status::Trace);
+            return Err(Status::Trace);
         }
         reading_of(self.first, self.value)
     }
 }
 
-// How many of so many bytes may belong to one record.
-fn of_a_record(count: usize) -> usize
-    ensures { result ≡ min count record_bytes }
+// The reader behind bytes that are at hand, those of a record at most.
+fn reader_of(bytes: &[u8]) -> Reader
+    ensures { result ≡ fold step_of new_reader (take record_bytes bytes.now) }
 {
-    if count < RECORD_BYTES {
-        count
-    } else {
-        RECORD_BYTES
-    }
+    bytes
+        .iter()
+        .take(RECORD_BYTES)
+        .fold(Reader::new(), |reader, byte| reader.step(*byte))
 }
 
 // The reader, on bytes that are at hand: what stands at their start.
-pub fn read(bytes: &[u8]) -> Reading
+pub fn read(bytes: &[u8]) -> Result<Option<Call>, Status>
     ensures { result ≡ bytesReading bytes.now }
 {
-    let end = of_a_record(bytes.len());
-    let mut reader = Reader::new();
-    let mut i = 0;
-    while i < end {
-        reader = reader.step(bytes[i]);
-        i += 1;
-    }
-    reader.reading()
+    reader_of(bytes).reading()
 }

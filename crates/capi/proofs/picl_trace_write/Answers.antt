@@ -1,15 +1,12 @@
 use Rattle.capi.proofs.Laws.{array_tested, answer_behind}
-use Rattle.capi.proofs.Writing.{write_short, write_made, record_whole}
+use Rattle.capi.proofs.Writing.{write_short, write_made}
 use Rattle.capi.proofs.picl_trace_write.Goals as goal
 
 pub returns-then-not-has_record_places : goal.returns-then-not-has_record_places
 returns-then-not-has_record_places c = search (write_short)
 
 pub put_record-requires : goal.put_record-requires
-put_record-requires c = record {
-  record_bytes_in_bounds = search (array_tested);
-  bytes_len = search (record_whole);
-}
+put_record-requires c = search (array_tested)
 
 pub report-requires : goal.report-requires
 report-requires c = search (answer_behind)

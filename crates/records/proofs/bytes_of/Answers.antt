@@ -4,4 +4,4 @@ use Rattle.records.proofs.bytes_of.Goals as goal
 
 pub returns : goal.returns
 unfolding bytes_of unpack
-returns c = rw (c.bytes_of-a.ensures, c.bytes_of-b.ensures)
+returns c = rw (c.copy_from_slice.ensures.after, c.copy_from_slice-2.ensures.after, c.bytes_of.ensures, c.bytes_of-2.ensures)
