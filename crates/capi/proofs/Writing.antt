@@ -1,12 +1,9 @@
 -- One law for each way out of the writer of records.
 use Prim.Native.Nat.{ℕ}
-use mathlib.Core.Path.{◌≡◌, ap, ap₂, ◌∙◌}
+use mathlib.Core.Path.{◌≡◌}
 use mathlib.Core.Bool.{Bool, true, false, not}
-use mathlib.Core.List.{List, ◌++◌}
-use native.Mathlib.Omega.{arith}
+use mathlib.Core.List.{List}
 use borrow.Author.Tests.{not-true, not-false}
-use lib.ListN.{length, take, drop}
-use lib.Seq.{take_all}
 use Rattle.std.specs.Prelude.{Result}
 use Rattle.status.specs.declared.Status.{Status}
 use Rattle.records.specs.Records.{written}

@@ -5,8 +5,8 @@ use Rattle.capi.proofs.picl_trace_write.Goals as goal
 pub returns-then-not-has_record_places : goal.returns-then-not-has_record_places
 returns-then-not-has_record_places c = search (write_short)
 
-pub put_record-requires : goal.put_record-requires
-put_record-requires c = search (array_tested)
+pub put_record-status-requires : goal.put_record-status-requires
+put_record-status-requires c = search (array_tested)
 
 pub report-requires : goal.report-requires
 report-requires c = search (answer_behind)
