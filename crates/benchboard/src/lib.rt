@@ -7,7 +7,7 @@ ghost use Rattle.benchboard.specs.Sizes.{bench_sized};
 ghost use Rattle.benchboard.specs.Calls.{call_of, started, Leaves};
 
 use checks::Registers;
-use layout::{BUFFER_WORDS, SLOT_WORDS};
+use layout::{BUFFER_WORDS, ENTRY_WORDS, LOG_AT, SLOT_WORDS};
 use picl::Answer;
 use records::Call;
 
@@ -19,23 +19,19 @@ const MOST_ENTRIES: u64 = 1024;
 const MOST_SLOTS: u64 = 64;
 
 // The words of a bench's memories: as many as the largest sizes take.
-pub const BOARD_WORDS: usize = 4098;
+pub const BOARD_WORDS: usize =
+    LOG_AT + ENTRY_WORDS * MOST_ENTRIES as usize + MOST_LINES as usize;
 
 pub const WORK_WORDS: usize = SLOT_WORDS * MOST_SLOTS as usize + BUFFER_WORDS;
 
 // The allowance of a call that is given no other.
-pub const FULL_ALLOWANCE: u32 = 4294967295;
+pub const FULL_ALLOWANCE: u32 = u32::MAX;
 
+#[tactic(auto, using(base::specs::Tests::tests), unfolding(crate::specs::Sizes::bench_sized))]
 pub fn is_bench_sized(lines: u64, entries: u64, slots: u64) -> bool
     ensures { result ≡ bench_sized lines entries slots }
 {
-    if lines > MOST_LINES {
-        return false;
-    }
-    if entries > MOST_ENTRIES {
-        return false;
-    }
-    slots <= MOST_SLOTS
+    lines <= MOST_LINES && entries <= MOST_ENTRIES && slots <= MOST_SLOTS
 }
 
 // Format and power-up, on the words that are the board and the work memory. The answer is power-up's, or format's where that

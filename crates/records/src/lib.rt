@@ -109,7 +109,7 @@ pub fn write(kind: u64, address: u64, value: u64) -> Result<[u8; RECORD_BYTES], 
 fn reading_of(first: u64, value: u64) -> Result<Option<Call>, Status>
     ensures { result ≡ words_reading first value }
 {
-    let record = Record::decode(first);
+    let record = Record::from(first);
     if record.spare != 0 {
         return Err(Status::Trace);
     }

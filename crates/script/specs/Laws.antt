@@ -1,9 +1,9 @@
 -- That the reader reads what the syntax says: `reads`, for every list of bytes. Before it, the laws that the functions'
 -- proofs cite; after it, that the letter is the first byte, and the laws for a caller's loop.
-use Prim.Native.Nat.{ℕ, zero, suc, ◌+◌, ◌-◌, ◌/◌, ◌^◌, ◌≤◌, ◌<◌}
-use Rattle.std.specs.Prelude.{◌≡◌, Bool, not, ◌&&◌, ◌||◌, ltb, leb, eqb, length, take, get_or}
+use Prim.Native.Nat.{ℕ, zero, suc, ◌+◌, ◌^◌, ◌≤◌, ◌<◌}
+use Rattle.std.specs.Prelude.{◌≡◌, Bool, not, ◌&&◌, ◌||◌, ltb, eqb, length, take, get_or, Option, Some, None, IfSome}
 use Rattle.std.proofs.Math.Path.{refl}
-use Rattle.std.proofs.Common.{sym, ◌∙◌, take-suc, take_all, add-one}
+use Rattle.std.proofs.Common.{sym, ap, ◌∙◌, take-suc, take_all, add-one}
 use Rattle.std.proofs.Math.Bool.{true, false, cond, and-false}
 use Rattle.std.proofs.lemmas.Bool.{false≢true}
 use mathlib.Core.List.{List, [], ◌∷◌, ◌++◌, map, foldl, foldl-append}
@@ -11,113 +11,16 @@ use Rattle.std.proofs.Math.Dec.{eqb-suc-zero}
 use native.Mathlib.Omega.{arith}
 use borrow.Author.Tests.{lt-ltb, le-ltb, le-leb, lt-leb, eq-eqb, ne_eqb, not-true, not-false, ltb-true, ltb-false}
 use Rattle.script.specs.declared.Command.{Command}
-use Rattle.script.specs.declared.Command.TheVariants.{Bad}
+use Rattle.script.specs.declared.Line.{Line}
 use Rattle.script.specs.declared.Reader.{Reader}
 use Rattle.script.specs.Syntax.{Fields, spaced, prefixed, fields, every, is_empty, is_digit, longer, value_of, is_number, command_with, command_in, command_of}
-use Rattle.script.specs.Steps.{new_reader, bad_reader, next_field, with_letter, with_digit, ended, lettered, digited, step_of, numbers_of, letter_by, command_by, reader_of}
-
-pub ruleset tests = (lt-ltb, le-ltb, le-leb, lt-leb, eq-eqb, ne_eqb)
-
--- ── the functions' ways out ──
-
-module _ (r : Reader) (b : ℕ) where
-  pub step_bad : r.bad ≡ true → r ≡ step_of r b
-  unfolding step_of
-  step_bad h = rw h
-
-  module _ (s : Reader) (good : r.bad ≡ false) where
-    pub step_space : b ≡ 32 → s ≡ ended r → s ≡ step_of r b
-    unfolding step_of ended
-    step_space h e = rw (good, eq-eqb) e
-
-    pub step_letter : (b ≡ 32 → ⊥) → r.count ≡ 0 → s ≡ lettered r b → s ≡ step_of r b
-    unfolding step_of lettered
-    step_letter h g e = rw (good, ne_eqb b 32 h, eq-eqb r.count 0 g) e
-
-    pub step_digit : (b ≡ 32 → ⊥) → (r.count ≡ 0 → ⊥) → s ≡ digited r b → s ≡ step_of r b
-    unfolding step_of digited
-    step_digit h g e = rw (good, ne_eqb b 32 h, ne_eqb r.count 0 g) e
-
-module _ (r s : Reader) where
-  pub end_empty : not r.full ≡ true → s ≡ bad_reader → s ≡ ended r
-  unfolding ended
-  end_empty h e = rw (not-true r.full h) e
-
-  pub end_most : 3 ≤ r.count → s ≡ bad_reader → s ≡ ended r
-  unfolding ended
-  end_most h e = rw (le-ltb r.count 3 h, and-false) e
-
-  pub letter_second : (b : ℕ) → r.full ≡ true → s ≡ bad_reader → s ≡ lettered r b
-  unfolding lettered
-  letter_second b h e = rw h e
-
-  module _ (b : ℕ) (e : s ≡ bad_reader) where
-    pub digit_low : b < 48 → s ≡ digited r b
-    unfolding digited
-    digit_low h = rw (lt-leb 48 b h) e
-
-    pub digit_high : 57 < b → s ≡ digited r b
-    unfolding digited
-    digit_high h = rw (lt-leb b 57 h, and-false (leb 48 b)) e
-
-    pub digit_large : 48 ≤ b → (18446744073709551615 - (b - 48)) / 10 < r.third → s ≡ digited r b
-    unfolding digited
-    digit_large g h = let large : 2 ^ 64 ≤ longer r.third b = omega arith in rw (le-ltb (longer r.third b) (2 ^ 64) large, and-false) e
-
-module _ (r : Reader) where
-  pub end_next : not r.full ≡ false → r.count < 3 → next_field r ≡ ended r
-  unfolding ended
-  end_next h g = rw (not-false r.full h, lt-ltb r.count 3 g)
-
-  pub letter_first : (b : ℕ) → r.full ≡ false → with_letter r b ≡ lettered r b
-  unfolding lettered
-  letter_first b h = rw h
-
-  pub digit_next : (b : ℕ) → 48 ≤ b → b ≤ 57 → r.third ≤ (18446744073709551615 - (b - 48)) / 10 → with_digit r b ≡ digited r b
-  unfolding digited
-  digit_next b g f h =
-      let small : longer r.third b < 2 ^ 64 = omega arith in
-      rw (le-leb 48 b g, le-leb b 57 f, lt-ltb (longer r.third b) (2 ^ 64) small)
+use Rattle.script.specs.Steps.{first_of, second_of, third_of, new_line, next_field, with_letter, with_digit, ended, lettered, digited, line_step, numbers_of, line_command, new_reader, step_in, step_of, letter_by, command_at, command_by, reader_of}
 
 cond_same : {A : Type 0} (t : Bool) (a : A) → cond t a a ≡ a
 cond_same true a = refl
 cond_same false a = refl
 
-three_numbers : (count : ℕ) (r : Reader) → 3 ≤ count → numbers_of count r ≡ r.first ∷ r.second ∷ r.third ∷ []
-unfolding numbers_of
-three_numbers zero r h = absurd (omega arith)
-three_numbers (suc zero) r h = absurd (omega arith)
-three_numbers (suc (suc zero)) r h = absurd (omega arith)
-three_numbers (suc (suc (suc n))) r h = refl
-
-module _ (r : Reader) where
-  pub command_bad : r.bad ≡ true → Bad ≡ command_by r
-  unfolding command_by
-  command_bad h = rw h
-
-  pub command_empty : not r.full ≡ true → Bad ≡ command_by r
-  unfolding command_by
-  command_empty h = rw (not-true r.full h, cond_same)
-
-  module _ (k : Command) (good : r.bad ≡ false) (full : not r.full ≡ false) where
-    command_numbers : (numbers : List ℕ) → numbers_of r.count r ≡ numbers → k ≡ command_with r.letter numbers → k ≡ command_by r
-    unfolding command_by
-    command_numbers numbers n e = rw (n, good, not-false r.full full) e
-
-    pub command_none : r.count ≡ 0 → k ≡ command_with r.letter [] → k ≡ command_by r
-    unfolding numbers_of
-    command_none h e = command_numbers [] (rw h) e
-
-    pub command_one : r.count ≡ 1 → k ≡ command_with r.letter (r.third ∷ []) → k ≡ command_by r
-    unfolding numbers_of
-    command_one h e = command_numbers (r.third ∷ []) (rw h) e
-
-    pub command_two : r.count ≡ 2 → k ≡ command_with r.letter (r.second ∷ r.third ∷ []) → k ≡ command_by r
-    unfolding numbers_of
-    command_two h e = command_numbers (r.second ∷ r.third ∷ []) (rw h) e
-
-    pub command_three : (r.count ≡ 0 → ⊥) → (r.count ≡ 1 → ⊥) → (r.count ≡ 2 → ⊥) → k ≡ command_with r.letter (r.first ∷ r.second ∷ r.third ∷ []) → k ≡ command_by r
-    command_three a b c e = command_numbers (r.first ∷ r.second ∷ r.third ∷ []) (three_numbers r.count r (omega arith)) e
+pub ruleset tests = (lt-ltb, le-ltb, le-leb, lt-leb, eq-eqb, ne_eqb)
 
 -- ── a number, digit by digit ──
 
@@ -156,9 +59,9 @@ number_is bs = rw (fits_is bs 0 (omega arith))
 
 -- ── what a line asks for of which a reader has read the start ──
 
-abbrev reader : ℕ → ℕ → ℕ → ℕ → ℕ → Bool → Bool → Reader
-reader letter count first second third full bad =
-    record { letter = letter; count = count; first = first; second = second; third = third; full = full; bad = bad }
+-- the line with another count, and with or without a byte in the field that is being read
+abbrev line_at : Line → ℕ → Bool → Line
+line_at l count full = record { letter = l.letter; count = count; numbers = l.numbers; full = full }
 
 -- the n numbers before the one that is being read
 before : ℕ → ℕ → ℕ → List ℕ
@@ -167,76 +70,79 @@ before (suc zero) first second = second ∷ []
 before (suc (suc n)) first second = first ∷ second ∷ []
 
 -- f: the fields of the rest of the line. The first of them continues the field that is being read
-meant : Reader → Bool → Bool → ℕ → Fields → Command
-meant r true full n f = Bad
-meant r false false zero f = command_in f.head f.rest
-meant r false true zero f = command_in (r.letter ∷ f.head) f.rest
-meant r false full (suc n) f =
-    cond (goes_on full r.third f.head && every is_number f.rest)
-    (command_with r.letter (before n r.first r.second ++ (foldl longer r.third f.head ∷ map value_of f.rest)))
-    Bad
+meant : Line → Bool → ℕ → Fields → Option Command
+meant l false zero f = command_in f.head f.rest
+meant l true zero f = command_in (l.letter ∷ f.head) f.rest
+meant l full (suc n) f =
+    cond (goes_on full (third_of l) f.head && every is_number f.rest)
+    (command_with l.letter (before n (first_of l) (second_of l) ++ (foldl longer (third_of l) f.head ∷ map value_of f.rest)))
+    None
 
-abbrev meaning : Reader → Fields → Command
-meaning r f = meant r r.bad r.full r.count f
+abbrev meaning : Option Line → Fields → Option Command
+meaning None f = None
+meaning (Some l) f = meant l l.full l.count f
 
-module _ (letter first second third : ℕ) where
-  at_end : (count : ℕ) (full bad : Bool)
-      → command_by (reader letter count first second third full bad) ≡ meaning (reader letter count first second third full bad) (record { head = []; rest = [] })
-  unfolding command_by meant numbers_of command_in goes_on fits every before
-  at_end count full true = refl
-  at_end zero false false = refl
-  at_end zero true false = refl
-  at_end (suc n) false false = refl
-  at_end (suc zero) true false = refl
-  at_end (suc (suc zero)) true false = refl
-  at_end (suc (suc (suc n))) true false = refl
+module _ (l : Line) where
+  at_end : (count : ℕ) (full : Bool) → line_command (line_at l count full) ≡ meaning (Some (line_at l count full)) (record { head = []; rest = [] })
+  unfolding line_command meant numbers_of command_in goes_on fits every before
+  at_end zero false = refl
+  at_end zero true = refl
+  at_end (suc n) false = refl
+  at_end (suc zero) true = refl
+  at_end (suc (suc zero)) true = refl
+  at_end (suc (suc (suc n))) true = refl
 
-module _ (letter first second third : ℕ) (f : Fields) where
-  at_space : (count : ℕ) (full : Bool)
-      → meaning (ended (reader letter count first second third full false)) f ≡ meaning (reader letter count first second third full false) (spaced f)
-  unfolding ended meant command_in command_with goes_on fits every before
-  at_space zero false = refl
-  at_space zero true = rw number_is
-  at_space (suc n) false = refl
-  at_space (suc zero) true = rw number_is
-  at_space (suc (suc zero)) true = rw number_is
-  at_space (suc (suc (suc n))) true = rw (le-ltb (suc (suc (suc n))) 3 (omega arith), cond_same)
+  module _ (f : Fields) where
+    at_space : (count : ℕ) (full : Bool) → meaning (ended (line_at l count full)) f ≡ meaning (Some (line_at l count full)) (spaced f)
+    unfolding ended meant command_in command_with goes_on fits every before
+    at_space zero false = refl
+    at_space zero true = rw number_is
+    at_space (suc n) false = refl
+    at_space (suc zero) true = rw number_is
+    at_space (suc (suc zero)) true = rw number_is
+    at_space (suc (suc (suc n))) true = rw (le-ltb (suc (suc (suc n))) 3 (omega arith), cond_same)
 
-  at_digit : (b n : ℕ) (full : Bool)
-      → meaning (digited (reader letter (suc n) first second third full false) b) f ≡ meaning (reader letter (suc n) first second third full false) (prefixed b f)
-  unfolding digited meant goes_on fits every
-  at_digit b n full = go full (is_digit b) (ltb (longer third b) (2 ^ 64))
-    where
-      go : (full t u : Bool)
-          → meaning (cond (t && u) (reader letter (suc n) first second (longer third b) true false) bad_reader) f
-          ≡ cond ((full || true) && (t && (u && fits (longer third b) f.head)) && every is_number f.rest)
-          (command_with letter (before n first second ++ (foldl longer (longer third b) f.head ∷ map value_of f.rest)))
-          Bad
-      go true true true = refl
-      go true true false = refl
-      go true false u = refl
-      go false true true = refl
-      go false true false = refl
-      go false false u = refl
+    at_digit : (b n : ℕ) (full : Bool) → meaning (digited (line_at l (suc n) full) b) f ≡ meaning (Some (line_at l (suc n) full)) (prefixed b f)
+    unfolding digited meant goes_on fits every
+    at_digit b n full = go full (is_digit b) (ltb (longer (third_of l) b) (2 ^ 64))
+      where
+        go : (full t u : Bool)
+            → meaning (cond (t && u) (Some (with_digit (line_at l (suc n) full) b)) None) f
+            ≡ cond ((full || true) && (t && (u && fits (longer (third_of l) b) f.head)) && every is_number f.rest)
+            (command_with l.letter (before n (first_of l) (second_of l) ++ (foldl longer (longer (third_of l) b) f.head ∷ map value_of f.rest)))
+            None
+        go true true true = refl
+        go true true false = refl
+        go true false u = refl
+        go false true true = refl
+        go false true false = refl
+        go false false u = refl
 
--- a byte that is read, and the same byte still to come
-at_byte : (r : Reader) (b : ℕ) (f : Fields) → meaning (step_of r b) f ≡ meaning r (cond (eqb b 32) (spaced f) (prefixed b f))
-unfolding step_of lettered meant command_in
-at_byte r b f = go r.count r.full r.bad (eqb b 32) refl
-  where
-    go : (count : ℕ) (full bad t : Bool) → eqb b 32 ≡ t
-        → meaning (step_of (reader r.letter count r.first r.second r.third full bad) b) f
-        ≡ meaning (reader r.letter count r.first r.second r.third full bad) (cond t (spaced f) (prefixed b f))
-    go count full true t e = refl
-    go count full false true e = rw e (at_space r.letter r.first r.second r.third f count full)
-    go zero false false false e = rw e
-    go zero true false false e = rw e
-    go (suc n) full false false e = rw (e, eqb-suc-zero n) (at_digit r.letter r.first r.second r.third f b n full)
+    -- a byte that is read, and the same byte still to come
+    at_byte : (b count : ℕ) (full : Bool)
+        → meaning (line_step (line_at l count full) b) f ≡ meaning (Some (line_at l count full)) (cond (eqb b 32) (spaced f) (prefixed b f))
+    unfolding line_step lettered meant command_in
+    at_byte b count full = go count full (eqb b 32) refl
+      where
+        go : (count : ℕ) (full t : Bool) → eqb b 32 ≡ t
+            → meaning (line_step (line_at l count full) b) f ≡ meaning (Some (line_at l count full)) (cond t (spaced f) (prefixed b f))
+        go count full true e = rw e (at_space count full)
+        go zero false false e = rw e
+        go zero true false e = rw e
+        go (suc n) full false e = rw (e, eqb-suc-zero n) (at_digit b n full)
 
-reads_on : (line : List ℕ) (r : Reader) → command_by (foldl step_of r line) ≡ meaning r (fields line)
+reads_on : (line : List ℕ) (r : Reader) → command_by (foldl step_of r line) ≡ meaning r.line (fields line)
 unfolding fields
-reads_on [] r = at_end r.letter r.first r.second r.third r.count r.full r.bad
-reads_on (b ∷ line) r = reads_on line (step_of r b) ∙ at_byte r b (fields line)
+reads_on [] r = go r.line
+  where
+    go : (o : Option Line) → command_at o ≡ meaning o (record { head = []; rest = [] })
+    go None = refl
+    go (Some l) = at_end l l.count l.full
+reads_on (b ∷ line) r = reads_on line (step_of r b) ∙ go r.line
+  where
+    go : (o : Option Line) → meaning (step_in o b) (fields line) ≡ meaning o (cond (eqb b 32) (spaced (fields line)) (prefixed b (fields line)))
+    go None = refl
+    go (Some l) = at_byte l (fields line) b l.count l.full
 
 -- what the reader answers at the end of a line is what the line asks for
 pub reads : (line : List ℕ) → command_by (reader_of line) ≡ command_of line
@@ -245,56 +151,56 @@ reads line = reads_on line new_reader
 
 -- ── the letter of a line is its first byte ──
 
--- the reader has its letter, or the line is bad
-record HasLetter (letter : ℕ) (r : Reader) : Type 0 where
-  some : r.bad ≡ false → eqb r.count 0 && not r.full ≡ false
-  is : r.bad ≡ false → r.letter ≡ letter
+-- the line has its letter
+record HasLetter (letter : ℕ) (l : Line) : Type 0 where
+  some : eqb l.count 0 && not l.full ≡ false
+  is : l.letter ≡ letter
 
-bad_letter : (letter : ℕ) → HasLetter letter bad_reader
-bad_letter letter = record { some = λ e. absurd (false≢true (sym e)); is = λ e. absurd (false≢true (sym e)) }
-
--- it keeps it
-letter_kept : (letter : ℕ) (r : Reader) (b : ℕ) → HasLetter letter r → HasLetter letter (step_of r b)
-unfolding step_of ended lettered digited
-letter_kept letter r b h =
-    go r.bad (eqb b 32) (eqb r.count 0) r.full (ltb r.count 3) (is_digit b && ltb (longer r.third b) (2 ^ 64)) refl refl refl
+-- it keeps it, where it is not bad
+letter_kept : (letter : ℕ) (l : Line) (b : ℕ) → HasLetter letter l → IfSome (line_step l b) (HasLetter letter)
+unfolding line_step ended lettered digited
+letter_kept letter l b h =
+    go (eqb b 32) (eqb l.count 0) l.full (ltb l.count 3) (is_digit b && ltb (longer (third_of l) b) (2 ^ 64)) refl refl
   where
-    go : (bad space first full few digit : Bool) → r.bad ≡ bad → eqb r.count 0 ≡ first → r.full ≡ full
-        → HasLetter letter (cond bad r (cond space (cond (full && few) (next_field r) bad_reader)
-        (cond first (cond full bad_reader (with_letter r b)) (cond digit (with_digit r b) bad_reader))))
-    go true space first full few digit e f g = h
-    go false true first true true digit e f g = record { some = λ x. rw (add-one, eqb-suc-zero r.count); is = λ x. h.is e }
-    go false true first true false digit e f g = bad_letter letter
-    go false true first false few digit e f g = bad_letter letter
-    go false false true true few digit e f g = bad_letter letter
-    go false false true false few digit e f g = absurd (false≢true (sym (rw (f, g) at (h.some e))))
-    go false false false full few true e f g = record { some = λ x. rw f; is = λ x. h.is e }
-    go false false false full few false e f g = bad_letter letter
+    go : (space first full few digit : Bool) → eqb l.count 0 ≡ first → l.full ≡ full
+        → IfSome (cond space (cond (full && few) (Some (next_field l)) None)
+        (cond first (cond full None (Some (with_letter l b))) (cond digit (Some (with_digit l b)) None))) (HasLetter letter)
+    go true first true true digit f g = record { some = rw (add-one, eqb-suc-zero l.count); is = h.is }
+    go true first true false digit f g = tt
+    go true first false few digit f g = tt
+    go false true true few digit f g = tt
+    go false true false few digit f g = absurd (false≢true (sym (rw (f, g) at h.some)))
+    go false false full few true f g = record { some = rw f; is = h.is }
+    go false false full few false f g = tt
 
-letter_begun : (b : ℕ) → HasLetter b (step_of new_reader b)
-unfolding step_of ended lettered
+letter_begun : (b : ℕ) → IfSome (line_step new_line b) (HasLetter b)
+unfolding line_step ended lettered
 letter_begun b = go (eqb b 32)
   where
-    go : (space : Bool) → HasLetter b (cond space bad_reader (with_letter new_reader b))
-    go true = bad_letter b
-    go false = record { some = λ x. refl; is = λ x. refl }
+    go : (space : Bool) → IfSome (cond space None (Some (with_letter new_line b))) (HasLetter b)
+    go true = tt
+    go false = record { some = refl; is = refl }
 
-letter_on : (line : List ℕ) (letter : ℕ) (r : Reader) → HasLetter letter r → HasLetter letter (foldl step_of r line)
+letter_on : (line : List ℕ) (letter : ℕ) (r : Reader) → IfSome r.line (HasLetter letter) → IfSome (foldl step_of r line).line (HasLetter letter)
 letter_on [] letter r h = h
-letter_on (b ∷ line) letter r h = letter_on line letter (step_of r b) (letter_kept letter r b h)
+letter_on (b ∷ line) letter r h = letter_on line letter (step_of r b) (go r.line h)
+  where
+    go : (o : Option Line) → IfSome o (HasLetter letter) → IfSome (step_in o b) (HasLetter letter)
+    go None h = tt
+    go (Some l) h = letter_kept letter l b h
 
-letter_is : (line : List ℕ) → (reader_of line).bad ≡ false → letter_by (reader_of line) ≡ get_or line 0 0
+letter_is : (line : List ℕ) (l : Line) → (reader_of line).line ≡ Some l → letter_by (reader_of line) ≡ get_or line 0 0
 unfolding reader_of
-letter_is [] e = refl
-letter_is (b ∷ line) e = (letter_on line b (step_of new_reader b) (letter_begun b)).is e
+letter_is [] l e = refl
+letter_is (b ∷ line) l e = rw e (rw e at (letter_on line b (step_of new_reader b) (letter_begun b))).is
 
 -- the reader's letter is the first byte, or the line is bad
-pub letter_or_bad : {C : Type 0} (line : List ℕ) → (letter_by (reader_of line) ≡ get_or line 0 0 → C) → (command_of line ≡ Bad → C) → C
-letter_or_bad {C} line good bad = go (reader_of line).bad refl
+pub letter_or_bad : {C : Type 0} (line : List ℕ) → (letter_by (reader_of line) ≡ get_or line 0 0 → C) → (command_of line ≡ None → C) → C
+letter_or_bad {C} line good bad = go (reader_of line).line refl
   where
-    go : (t : Bool) → (reader_of line).bad ≡ t → C
-    go true e = bad (sym (reads line) ∙ sym (command_bad (reader_of line) e))
-    go false e = good (letter_is line e)
+    go : (o : Option Line) → (reader_of line).line ≡ o → C
+    go None e = bad (sym (reads line) ∙ ap command_at e)
+    go (Some l) e = good (letter_is line l e)
 
 -- ── for a caller's loop over the bytes of a line ──
 
@@ -308,6 +214,6 @@ pub byte_read : (line : List ℕ) (k : ℕ) (r t : Reader) → k < length line �
 byte_read line k r t h e g = rw (add-one, take-suc line k 0, reader_more (take k line) (get_or line k 0), ← e) g
 
 -- the end: every byte is read, and the command is asked for
-pub line_read : (line : List ℕ) (k : ℕ) (r : Reader) (c : Command) → length line ≤ k → r ≡ reader_of (take k line) → c ≡ command_by r
+pub line_read : (line : List ℕ) (k : ℕ) (r : Reader) (c : Option Command) → length line ≤ k → r ≡ reader_of (take k line) → c ≡ command_by r
     → c ≡ command_of line
 line_read line k r c h e g = let all : r ≡ reader_of line = rw (take_all k line h) at e in rw (← reads, ← all) g

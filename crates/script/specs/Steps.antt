@@ -1,61 +1,89 @@
 -- What the reader's functions answer: `new`, `step` and `command`. That bytes so read give what `Syntax` says of the line is `reads`, in `Laws`.
-use Rattle.std.specs.Prelude.{ℕ, zero, suc, ◌+◌, ◌^◌, true, false, cond, ◌&&◌, ltb, eqb}
+use Rattle.std.specs.Prelude.{ℕ, zero, suc, ◌+◌, ◌^◌, true, false, cond, ◌&&◌, Option, Some, None, ltb, eqb, slice_index}
 use mathlib.Core.List.{List, [], ◌∷◌, foldl}
 use Rattle.script.specs.declared.Command.{Command}
-use Rattle.script.specs.declared.Command.TheVariants.{Bad}
+use Rattle.script.specs.declared.Line.{Line}
 use Rattle.script.specs.declared.Reader.{Reader}
 use Rattle.script.specs.Syntax.{is_digit, longer, command_with}
 
 -- before the first byte
-abbrev pub new_reader : Reader
-new_reader = record { letter = 0; count = 0; first = 0; second = 0; third = 0; full = false; bad = false }
+abbrev pub new_line : Line
+new_line = record { letter = 0; count = 0; numbers = 0 ∷ 0 ∷ 0 ∷ []; full = false }
 
--- after bytes that only bad lines begin with
-abbrev pub bad_reader : Reader
-bad_reader = record { letter = 0; count = 0; first = 0; second = 0; third = 0; full = false; bad = true }
+-- the last three numbers that have begun, the one that is being read last
+abbrev pub first_of : Line → ℕ
+first_of l = slice_index l.numbers 0
+
+abbrev pub second_of : Line → ℕ
+second_of l = slice_index l.numbers 1
+
+abbrev pub third_of : Line → ℕ
+third_of l = slice_index l.numbers 2
 
 -- after a space that ends a field: the numbers move up, and the next begins
-abbrev pub next_field : Reader → Reader
-next_field r = record { letter = r.letter; count = r.count + 1; first = r.second; second = r.third; third = 0; full = false; bad = false }
+abbrev pub next_field : Line → Line
+next_field l = record { letter = l.letter; count = l.count + 1; numbers = second_of l ∷ third_of l ∷ 0 ∷ []; full = false }
 
 -- after a letter
-abbrev pub with_letter : Reader → ℕ → Reader
-with_letter r b = record { letter = b; count = 0; first = r.first; second = r.second; third = r.third; full = true; bad = false }
+abbrev pub with_letter : Line → ℕ → Line
+with_letter l b = record { letter = b; count = l.count; numbers = l.numbers; full = true }
 
 -- after a digit of a number
-abbrev pub with_digit : Reader → ℕ → Reader
-with_digit r b = record { letter = r.letter; count = r.count; first = r.first; second = r.second; third = longer r.third b; full = true; bad = false }
+abbrev pub with_digit : Line → ℕ → Line
+with_digit l b = record { letter = l.letter; count = l.count; numbers = first_of l ∷ second_of l ∷ longer (third_of l) b ∷ []; full = true }
 
 -- after a space
-unfoldable pub ended : Reader → Reader
-ended r = cond (r.full && ltb r.count 3) (next_field r) bad_reader
+unfoldable pub ended : Line → Option Line
+ended l = cond (l.full && ltb l.count 3) (Some (next_field l)) None
 
 -- after a byte of the first field
-unfoldable pub lettered : Reader → ℕ → Reader
-lettered r b = cond r.full bad_reader (with_letter r b)
+unfoldable pub lettered : Line → ℕ → Option Line
+lettered l b = cond l.full None (Some (with_letter l b))
 
 -- after a byte of a number
-unfoldable pub digited : Reader → ℕ → Reader
-digited r b = cond (is_digit b && ltb (longer r.third b) (2 ^ 64)) (with_digit r b) bad_reader
+unfoldable pub digited : Line → ℕ → Option Line
+digited l b = cond (is_digit b && ltb (longer (third_of l) b) (2 ^ 64)) (Some (with_digit l b)) None
+
+-- the line after one more byte; none where only bad lines begin so
+unfoldable pub line_step : Line → ℕ → Option Line
+line_step l b = cond (eqb b 32) (ended l) (cond (eqb l.count 0) (lettered l b) (digited l b))
+
+-- the numbers that a line has where so many have begun
+unfoldable pub numbers_of : ℕ → Line → List ℕ
+numbers_of zero l = []
+numbers_of (suc zero) l = third_of l ∷ []
+numbers_of (suc (suc zero)) l = second_of l ∷ third_of l ∷ []
+numbers_of (suc (suc (suc n))) l = first_of l ∷ second_of l ∷ third_of l ∷ []
+
+-- what the line asks for where it ends here
+unfoldable pub line_command : Line → Option Command
+line_command l = cond l.full (command_with l.letter (numbers_of l.count l)) None
+
+abbrev pub new_reader : Reader
+new_reader = record { line = Some new_line }
+
+abbrev pub step_in : Option Line → ℕ → Option Line
+step_in None b = None
+step_in (Some l) b = line_step l b
 
 -- the reader after one more byte
-unfoldable pub step_of : Reader → ℕ → Reader
-step_of r b = cond r.bad r (cond (eqb b 32) (ended r) (cond (eqb r.count 0) (lettered r b) (digited r b)))
+abbrev pub step_of : Reader → ℕ → Reader
+step_of r b = record { line = step_in r.line b }
 
--- the numbers that a reader holds where so many have begun
-unfoldable pub numbers_of : ℕ → Reader → List ℕ
-numbers_of zero r = []
-numbers_of (suc zero) r = r.third ∷ []
-numbers_of (suc (suc zero)) r = r.second ∷ r.third ∷ []
-numbers_of (suc (suc (suc n))) r = r.first ∷ r.second ∷ r.third ∷ []
+abbrev pub letter_in : Option Line → ℕ
+letter_in None = 0
+letter_in (Some l) = l.letter
 
 -- the letter of the line where it is not bad
 abbrev pub letter_by : Reader → ℕ
-letter_by r = r.letter
+letter_by r = letter_in r.line
 
--- what the line asks for where it ends here
-unfoldable pub command_by : Reader → Command
-command_by r = cond r.bad Bad (cond r.full (command_with r.letter (numbers_of r.count r)) Bad)
+abbrev pub command_at : Option Line → Option Command
+command_at None = None
+command_at (Some l) = line_command l
+
+abbrev pub command_by : Reader → Option Command
+command_by r = command_at r.line
 
 -- the reader after a list of bytes
 unfoldable pub reader_of : List ℕ → Reader

@@ -2,9 +2,8 @@
 // `c`, `a`, `p` or `k count`. The reader keeps numbers and no bytes, so a line may be of any length.
 #![tactic(auto)]
 
-ghost use Rattle.std.specs.Prelude.{◌≡◌, [], ◌∷◌};
-ghost use Rattle.script.specs.Syntax.{command_with};
-ghost use Rattle.script.specs.Steps.{reader_of, bad_reader, ended, lettered, digited, step_of, letter_by, command_by};
+ghost use Rattle.std.specs.Prelude.{◌≡◌, []};
+ghost use Rattle.script.specs.Steps.{ended, lettered, digited, line_step, line_command, reader_of, step_of, letter_by, command_by};
 
 use records::Call;
 
@@ -12,19 +11,13 @@ const SPACE: u8 = b' ';
 
 const ZERO: u8 = b'0';
 
-const NINE: u8 = b'9';
+const TEN: u64 = 10;
 
 // The most numbers that a letter has: those of `n`.
-const MOST: u8 = 3;
-
-// The largest number, 2^64 - 1.
-const LARGEST: u64 = 18446744073709551615;
-
-// How many counts there are, 2^32: each is below that.
-const COUNTS: u64 = 4294967296;
+const MOST: usize = 3;
 
 // What a line asks for.
-#[derive(Clone, Copy)]
+#[derive(Clone, Copy, PartialEq, Eq)]
 pub enum Command {
     // `n N L S`
     Format(u64, u64, u64),
@@ -34,39 +27,127 @@ pub enum Command {
     PowerUp,
     // `k count`
     Allow(u32),
-    // Any other line.
-    Bad,
 }
 
-// What is known of a line whose first bytes have been read. The number that is being read is in
-// `third`, the one before it in `second`, the one before that in `first`.
+// What is known of a line whose first bytes have been read.
 #[derive(Clone, Copy)]
-pub struct Reader {
+struct Line {
     letter: u8,
     // How many numbers have begun: as many as there were spaces.
-    count: u8,
-    first: u64,
-    second: u64,
-    third: u64,
+    count: usize,
+    // The last numbers that have begun. The one that is being read stands last.
+    numbers: [u64; MOST],
     // Whether the field that is being read has a byte.
     full: bool,
-    // Whether only bad lines begin so. Then the other fields say nothing.
-    bad: bool,
+}
+
+impl Line {
+    // One more byte. None where only bad lines begin so.
+    #[tactic(auto, using(crate::specs::Laws::tests), unfolding(crate::specs::Steps::line_step))]
+    fn step(self, byte: u8) -> Option<Line>
+        ensures { result ≡ line_step self byte }
+    {
+        if byte == SPACE {
+            return self.end_field();
+        }
+        if self.count == 0 {
+            return self.take_letter(byte);
+        }
+        self.take_digit(byte)
+    }
+
+    // A space: the field before it has a byte, and a number is to follow.
+    #[tactic(auto, using(crate::specs::Laws::tests), unfolding(crate::specs::Steps::ended))]
+    fn end_field(self) -> Option<Line>
+        ensures { result ≡ ended self }
+    {
+        if !self.full || self.count >= MOST {
+            return None;
+        }
+        let [_, second, third] = self.numbers;
+        Some(Line {
+            count: self.count + 1,
+            numbers: [second, third, 0],
+            full: false,
+            ..self
+        })
+    }
+
+    // A byte before any space: the first is the letter, and there is no second.
+    #[tactic(auto, unfolding(crate::specs::Steps::lettered))]
+    fn take_letter(self, letter: u8) -> Option<Line>
+        ensures { result ≡ lettered self letter }
+    {
+        if self.full {
+            return None;
+        }
+        Some(Line {
+            letter,
+            full: true,
+            ..self
+        })
+    }
+
+    // A byte of a number: a digit that keeps the number below 2^64.
+    #[tactic(auto, using(crate::specs::Laws::tests), unfolding(crate::specs::Steps::digited))]
+    fn take_digit(self, byte: u8) -> Option<Line>
+        ensures { result ≡ digited self byte }
+    {
+        if !byte.is_ascii_digit() {
+            return None;
+        }
+        let digit = u64::from(byte - ZERO);
+        let [first, second, third] = self.numbers;
+        let longer = third.checked_mul(TEN)?.checked_add(digit)?;
+        Some(Line {
+            numbers: [first, second, longer],
+            full: true,
+            ..self
+        })
+    }
+
+    // What the line asks for, at its end.
+    #[tactic(auto, using(crate::specs::Laws::tests), unfolding(crate::specs::Steps::line_command, crate::specs::Steps::numbers_of, crate::specs::Syntax::command_with))]
+    fn command(self) -> Option<Command>
+        ensures { result ≡ line_command self }
+    {
+        if !self.full {
+            return None;
+        }
+        let [first, second, third] = self.numbers;
+        match (self.letter, self.count) {
+            (b'c', 0) => Some(Command::Call(Call::Commit)),
+            (b'a', 0) => Some(Command::Call(Call::Scan)),
+            (b'p', 0) => Some(Command::PowerUp),
+            (b'l', 1) => Some(Command::Call(Call::Load(third))),
+            (b'e', 1) => Some(Command::Call(Call::Evict(third))),
+            (b'k', 1) => u32::try_from(third).ok().map(Command::Allow),
+            (b's', 2) => Some(Command::Call(Call::Store(second, third))),
+            (b'n', MOST..) => Some(Command::Format(first, second, third)),
+            _ => None,
+        }
+    }
+}
+
+// A line whose first bytes have been read: none where only bad lines begin so.
+#[derive(Clone, Copy)]
+pub struct Reader {
+    line: Option<Line>,
 }
 
 impl Reader {
     // The reader at the start of a line.
+    #[tactic(auto, unfolding(crate::specs::Steps::reader_of))]
     pub fn new() -> Reader
         ensures { result ≡ reader_of [] }
     {
         Reader {
-            letter: 0,
-            count: 0,
-            first: 0,
-            second: 0,
-            third: 0,
-            full: false,
-            bad: false,
+            line: Some(Line {
+                letter: 0,
+                count: 0,
+                numbers: [0; MOST],
+                full: false,
+            }),
         }
     }
 
@@ -74,179 +155,22 @@ impl Reader {
     pub fn step(self, byte: u8) -> Reader
         ensures { result ≡ step_of self byte }
     {
-        if self.bad {
-            return self;
+        Reader {
+            line: self.line.and_then(|line| line.step(byte)),
         }
-        if byte == SPACE {
-            return end_field(self);
-        }
-        if self.count == 0 {
-            return take_letter(self, byte);
-        }
-        take_digit(self, byte)
     }
 
     // The letter of a line that is not bad.
     pub fn letter(self) -> u8
         ensures { result ≡ letter_by self }
     {
-        self.letter
+        self.line.map_or(0, |line| line.letter)
     }
 
-    // What the line asks for, at its end.
-    pub fn command(self) -> Command
+    // What the line asks for, at its end. None where it is bad.
+    pub fn command(self) -> Option<Command>
         ensures { result ≡ command_by self }
     {
-        if self.bad {
-            return Command::Bad;
-        }
-        if !self.full {
-            return Command::Bad;
-        }
-        let count = self.count;
-        if count == 0 {
-            return bare(self.letter);
-        }
-        if count == 1 {
-            return with_one(self.letter, self.third);
-        }
-        if count == 2 {
-            return with_two(self.letter, self.second, self.third);
-        }
-        with_three(self.letter, self.first, self.second, self.third)
+        self.line?.command()
     }
-}
-
-// The reader of a bad line.
-fn bad_reader() -> Reader
-    ensures { result ≡ bad_reader }
-{
-    Reader {
-        letter: 0,
-        count: 0,
-        first: 0,
-        second: 0,
-        third: 0,
-        full: false,
-        bad: true,
-    }
-}
-
-// A space: the field before it has a byte, and a number is to follow.
-fn end_field(r: Reader) -> Reader
-    ensures { result ≡ ended r }
-{
-    if !r.full {
-        return bad_reader();
-    }
-    if r.count >= MOST {
-        return bad_reader();
-    }
-    Reader {
-        letter: r.letter,
-        count: r.count + 1,
-        first: r.second,
-        second: r.third,
-        third: 0,
-        full: false,
-        bad: false,
-    }
-}
-
-// A byte before any space: the first is the letter, and there is no second.
-fn take_letter(r: Reader, byte: u8) -> Reader
-    ensures { result ≡ lettered r byte }
-{
-    if r.full {
-        return bad_reader();
-    }
-    Reader {
-        letter: byte,
-        count: 0,
-        first: r.first,
-        second: r.second,
-        third: r.third,
-        full: true,
-        bad: false,
-    }
-}
-
-// A byte of a number: a digit that keeps the number below 2^64.
-fn take_digit(r: Reader, byte: u8) -> Reader
-    ensures { result ≡ digited r byte }
-{
-    if byte < ZERO {
-        return bad_reader();
-    }
-    if byte > NINE {
-        return bad_reader();
-    }
-    let digit = (byte - ZERO) as u64;
-    if r.third > (LARGEST - digit) / 10 {
-        return bad_reader();
-    }
-    Reader {
-        letter: r.letter,
-        count: r.count,
-        first: r.first,
-        second: r.second,
-        third: r.third * 10 + digit,
-        full: true,
-        bad: false,
-    }
-}
-
-// A letter with no number.
-fn bare(letter: u8) -> Command
-    ensures { result ≡ command_with letter [] }
-{
-    if letter == b'c' {
-        return Command::Call(Call::Commit);
-    }
-    if letter == b'a' {
-        return Command::Call(Call::Scan);
-    }
-    if letter == b'p' {
-        return Command::PowerUp;
-    }
-    Command::Bad
-}
-
-// A letter with one number.
-fn with_one(letter: u8, x: u64) -> Command
-    ensures { result ≡ command_with letter (x ∷ []) }
-{
-    if letter == b'l' {
-        return Command::Call(Call::Load(x));
-    }
-    if letter == b'e' {
-        return Command::Call(Call::Evict(x));
-    }
-    if letter != b'k' {
-        return Command::Bad;
-    }
-    if x < COUNTS {
-        return Command::Allow(x as u32);
-    }
-    Command::Bad
-}
-
-// A letter with two numbers.
-fn with_two(letter: u8, x: u64, y: u64) -> Command
-    ensures { result ≡ command_with letter (x ∷ y ∷ []) }
-{
-    if letter == b's' {
-        return Command::Call(Call::Store(x, y));
-    }
-    Command::Bad
-}
-
-// A letter with three numbers.
-fn with_three(letter: u8, x: u64, y: u64, z: u64) -> Command
-    ensures { result ≡ command_with letter (x ∷ y ∷ z ∷ []) }
-{
-    if letter == b'n' {
-        return Command::Format(x, y, z);
-    }
-    Command::Bad
 }
