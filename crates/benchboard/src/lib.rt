@@ -10,6 +10,7 @@ use checks::Registers;
 use layout::{BUFFER_WORDS, ENTRY_WORDS, LOG_AT, SLOT_WORDS};
 use picl::Answer;
 use records::Call;
+use status::Status;
 
 // The largest sizes.
 const MOST_LINES: u64 = 2048;
@@ -40,10 +41,9 @@ pub fn start(board: &mut [u64], work: &mut [u64], lines: u64, entries: u64) -> A
     ensures { Leaves (started lines entries board.old work.old) board.new work.new result }
 {
     let report = picl::format(board, lines, entries);
-    let status = report.status;
-    if !status.is_ok() {
+    if report.status != Status::Ok {
         return Answer {
-            status,
+            status: report.status,
             value: report.value,
             stores: report.stores,
             registers: Registers::all_zero(),

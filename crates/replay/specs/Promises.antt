@@ -1,5 +1,5 @@
 -- What the functions promise, and what the memories are that they are lent.
-use Rattle.std.specs.Prelude.{ℕ, ◌≤◌, ◌≡◌, List, length}
+use Rattle.std.specs.Prelude.{ℕ, ◌≤◌, ◌≡◌, List, Option, IfSome, length}
 use Rattle.benchboard.specs.Sizes.{bench_board, bench_work}
 use Rattle.replay.specs.declared.Bench.{Bench}
 use Rattle.replay.specs.declared.Step.{Step}
@@ -16,7 +16,7 @@ pub record Sized (b : Bench) : Type 0 where
   pub work : b.work ≤ bench_work
 
 -- The memories that a bench is lent.
-pub record Lent (b : Bench) (board work : List ℕ) : Type 0 where
-  pub sized : Sized b
+pub record Lent (b : Option Bench) (board work : List ℕ) : Type 0 where
+  pub sized : IfSome b Sized
   pub board_length : bench_board ≤ length board
   pub work_length : bench_work ≤ length work

@@ -2,11 +2,11 @@
 // The state of a bench goes in by value and comes back by value.
 #![tactic(auto)]
 
-ghost use Rattle.std.specs.Prelude.{◌≡◌};
+ghost use Rattle.std.specs.Prelude.{◌≡◌, Some};
 ghost use Rattle.benchboard.specs.Calls.{Leaves};
 ghost use Rattle.benchboard.specs.Sizes.{Sizes};
 ghost use Rattle.replay.specs.Calls.{requested};
-ghost use Rattle.replay.specs.Bench.{new_bench, answered_bench, bad_step, allowed_step, line_of, start_reply};
+ghost use Rattle.replay.specs.Bench.{answered_bench, bad_step, allowed_step, line_of, start_reply};
 ghost use Rattle.replay.specs.Bench.{running, requesting, starting, formatting, performed};
 ghost use Rattle.replay.specs.Promises.{Performs, Lent};
 
@@ -19,14 +19,14 @@ use script::Command;
 use status::Status;
 
 // What is asked of the board that `n` has formatted.
-#[derive(Clone, Copy)]
+#[derive(Clone, Copy, PartialEq, Eq)]
 pub enum Request {
     Call(Call),
     PowerUp,
 }
 
 // A line of output, behind its letter.
-#[derive(Clone, Copy)]
+#[derive(Clone, Copy, PartialEq, Eq)]
 pub struct Line {
     pub status: Status,
     pub value: u64,
@@ -38,7 +38,7 @@ pub struct Line {
 }
 
 // What a command prints, and whether the replay goes on.
-#[derive(Clone, Copy)]
+#[derive(Clone, Copy, PartialEq, Eq)]
 pub enum Reply {
     // Nothing is printed, and the replay goes on.
     Quiet,
@@ -50,10 +50,9 @@ pub enum Reply {
     Bad,
 }
 
+// The bench once `n` was done: there is none before.
 #[derive(Clone, Copy)]
 pub struct Bench {
-    // Whether `n` was done. Until then the sizes say nothing.
-    pub ready: bool,
     // How many words of the memories are the board, and the work memory.
     pub board: usize,
     pub work: usize,
@@ -62,66 +61,49 @@ pub struct Bench {
     pub allowance: u32,
 }
 
+// The bench after a command, and what that prints.
 #[derive(Clone, Copy)]
 pub struct Step {
-    pub bench: Bench,
+    pub bench: Option<Bench>,
     pub reply: Reply,
 }
 
 impl Bench {
-    // The bench before the first line of a script.
-    pub fn new() -> Bench
-        ensures { result ≡ new_bench }
-    {
-        Bench {
-            ready: false,
-            board: 0,
-            work: 0,
-            registers: Registers::all_zero(),
-            allowance: FULL_ALLOWANCE,
-        }
-    }
-
     // A refused call uses up the allowance too.
     fn answered(self, registers: Registers) -> Bench
         ensures { result ≡ answered_bench self registers }
     {
         Bench {
-            ready: self.ready,
-            board: self.board,
-            work: self.work,
             registers,
             allowance: FULL_ALLOWANCE,
+            ..self
         }
     }
+}
 
-    fn bad(self) -> Step
-        ensures { result ≡ bad_step self }
-    {
-        Step {
-            bench: self,
-            reply: Reply::Bad,
-        }
+fn bad(bench: Option<Bench>) -> Step
+    ensures { result ≡ bad_step bench }
+{
+    Step {
+        bench,
+        reply: Reply::Bad,
     }
+}
 
-    // `k count`
-    fn allow(self, count: u32) -> Step
-        ensures { result ≡ allowed_step self count }
-    {
-        if !self.ready {
-            return self.bad();
-        }
-        let registers = self.registers;
-        Step {
-            bench: Bench {
-                ready: true,
-                board: self.board,
-                work: self.work,
-                registers,
+// `k count`
+#[tactic(auto, unfolding(crate::specs::Bench::allowed_step))]
+fn allow(bench: Option<Bench>, count: u32) -> Step
+    ensures { result ≡ allowed_step bench count }
+{
+    match bench {
+        Some(ready) => Step {
+            bench: Some(Bench {
                 allowance: count,
-            },
+                ..ready
+            }),
             reply: Reply::Quiet,
-        }
+        },
+        None => bad(bench),
     }
 }
 
@@ -145,61 +127,59 @@ fn run(
 fn line_of(answer: Answer, word: u64) -> Line
     ensures { result ≡ line_of answer word }
 {
-    let status = answer.status;
-    let registers = answer.registers;
-    let control = Control::decode(word);
+    let control = Control::from(word);
     Line {
-        status,
+        status: answer.status,
         value: answer.value,
         stores: answer.stores,
-        epoch: registers.epoch,
+        epoch: answer.registers.epoch,
         persisted: control.persisted,
         length: control.length,
-        buffered: registers.buffered,
+        buffered: answer.registers.buffered,
     }
 }
 
 fn run_within(board: &mut [u64], work: &mut [u64], bench: Bench, request: Request) -> Step
-    requires { Lent bench board.old work.old }
+    requires { Lent (Some bench) board.old work.old }
     ensures { Performs (running bench request board.old work.old) board.new work.new result }
 {
-    let words = bench.board;
-    let work_words = bench.work;
-    let registers = bench.registers;
     let answer = run(
-        &mut board[0..words],
-        &mut work[0..work_words],
-        registers,
+        &mut board[..bench.board],
+        &mut work[..bench.work],
+        bench.registers,
         request,
         bench.allowance,
     );
-    let line = line_of(answer, board[CONTROL_AT]);
-    let after = answer.registers;
     Step {
-        bench: bench.answered(after),
-        reply: Reply::Said(line),
+        bench: Some(bench.answered(answer.registers)),
+        reply: Reply::Said(line_of(answer, board[CONTROL_AT])),
     }
 }
 
-fn perform_request(board: &mut [u64], work: &mut [u64], bench: Bench, request: Request) -> Step
+fn perform_request(
+    board: &mut [u64],
+    work: &mut [u64],
+    bench: Option<Bench>,
+    request: Request,
+) -> Step
     requires { Lent bench board.old work.old }
     ensures { Performs (requesting bench request board.old work.old) board.new work.new result }
 {
-    if !bench.ready {
-        return bench.bad();
+    match bench {
+        Some(ready) => run_within(board, work, ready, request),
+        None => bad(bench),
     }
-    run_within(board, work, bench, request)
 }
 
 // A refused `n` ends the replay after its own line.
 fn start_reply(line: Line) -> Reply
     ensures { result ≡ start_reply line }
 {
-    let status = line.status;
-    if !status.is_ok() {
-        return Reply::Last(line);
+    if line.status == Status::Ok {
+        Reply::Said(line)
+    } else {
+        Reply::Last(line)
     }
-    Reply::Said(line)
 }
 
 fn start(board: &mut [u64], work: &mut [u64], lines: u64, entries: u64, slots: u64) -> Step
@@ -209,23 +189,20 @@ fn start(board: &mut [u64], work: &mut [u64], lines: u64, entries: u64, slots: u
     let words = layout::board_words(lines, entries);
     let work_words = layout::work_words(slots as usize);
     let answer = benchboard::start(
-        &mut board[0..words],
-        &mut work[0..work_words],
+        &mut board[..words],
+        &mut work[..work_words],
         lines,
         entries,
     );
-    let line = line_of(answer, board[CONTROL_AT]);
-    let registers = answer.registers;
     let bench = Bench {
-        ready: true,
         board: words,
         work: work_words,
-        registers,
+        registers: answer.registers,
         allowance: FULL_ALLOWANCE,
     };
     Step {
-        bench,
-        reply: start_reply(line),
+        bench: Some(bench),
+        reply: start_reply(line_of(answer, board[CONTROL_AT])),
     }
 }
 
@@ -233,7 +210,7 @@ fn start(board: &mut [u64], work: &mut [u64], lines: u64, entries: u64, slots: u
 fn format(
     board: &mut [u64],
     work: &mut [u64],
-    bench: Bench,
+    bench: Option<Bench>,
     lines: u64,
     entries: u64,
     slots: u64,
@@ -241,25 +218,33 @@ fn format(
     requires { Lent bench board.old work.old }
     ensures { Performs (formatting bench lines entries slots board.old work.old) board.new work.new result }
 {
-    if bench.ready {
-        return bench.bad();
+    if bench.is_some() {
+        return bad(bench);
     }
     if !benchboard::is_bench_sized(lines, entries, slots) {
-        return bench.bad();
+        return bad(bench);
     }
     start(board, work, lines, entries, slots)
 }
 
-// One command of the script.
-pub fn perform(board: &mut [u64], work: &mut [u64], bench: Bench, command: Command) -> Step
+// One line of the script: its command, or none where the line is bad.
+#[tactic(auto, unfolding(crate::specs::Bench::performed))]
+pub fn perform(
+    board: &mut [u64],
+    work: &mut [u64],
+    bench: Option<Bench>,
+    command: Option<Command>,
+) -> Step
     requires { Lent bench board.old work.old }
     ensures { Performs (performed bench command board.old work.old) board.new work.new result }
 {
+    let Some(command) = command else {
+        return bad(bench);
+    };
     match command {
         Command::Format(lines, entries, slots) => format(board, work, bench, lines, entries, slots),
         Command::Call(call) => perform_request(board, work, bench, Request::Call(call)),
         Command::PowerUp => perform_request(board, work, bench, Request::PowerUp),
-        Command::Allow(count) => bench.allow(count),
-        Command::Bad => bench.bad(),
+        Command::Allow(count) => allow(bench, count),
     }
 }

@@ -1,8 +1,8 @@
 use Rattle.replay.specs.Laws.{format_again, format_large, sizes_good, format_starts}
 use Rattle.replay.proofs.format.Goals as goal
 
-pub returns-then-bench : goal.returns-then-bench
-returns-then-bench c = search (format_again)
+pub returns-then-is_some : goal.returns-then-is_some
+returns-then-is_some c = search (format_again)
 
 pub returns-then-not-is_bench_sized : goal.returns-then-not-is_bench_sized
 returns-then-not-is_bench_sized c = search (format_large)

@@ -1,4 +1,4 @@
-use Rattle.replay.specs.Laws.{commanded, command_allow, command_bad}
+use Rattle.replay.specs.Laws.{commanded, command_allow}
 use Rattle.replay.specs.Bench.{performed}
 use Rattle.replay.proofs.perform.Goals as goal
 
@@ -16,6 +16,3 @@ returns-in-PowerUp c = search (commanded)
 
 pub returns-in-Allow : goal.returns-in-Allow
 returns-in-Allow c = search (command_allow)
-
-pub returns-in-Bad : goal.returns-in-Bad
-returns-in-Bad c = search (command_bad)

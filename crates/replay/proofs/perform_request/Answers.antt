@@ -1,8 +1,8 @@
 use Rattle.replay.specs.Laws.{request_refused, request_ready}
 use Rattle.replay.proofs.perform_request.Goals as goal
 
-pub returns-then-not-bench : goal.returns-then-not-bench
-returns-then-not-bench c = search (request_refused)
+pub returns-in-Some : goal.returns-in-Some
+returns-in-Some c = search (request_ready)
 
-pub returns : goal.returns
-returns c = search (request_ready)
+pub returns-in-None : goal.returns-in-None
+returns-in-None c = search (request_refused)
