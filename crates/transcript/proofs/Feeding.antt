@@ -9,21 +9,6 @@ use Rattle.transcript.specs.Printing.{longest}
 use Rattle.transcript.specs.Session.{machine_of, session_of, Turn, resting, roomy, feed_turn, fed_byte, fed, victim_of, Ready, Turns, Feeds}
 use Rattle.transcript.specs.Laws.{still, ready_roomy}
 
--- ── whether the buffer has room ──
-
-module _ (s : Session) (bytes : ℕ) where
-  pub roomy_short : bytes < longest → false ≡ roomy s.used bytes
-  unfolding roomy
-  roomy_short h = sym (lt-leb (s.used + longest) bytes (omega arith))
-
-  pub roomy_full : longest ≤ bytes → bytes - longest < s.used → false ≡ roomy s.used bytes
-  unfolding roomy
-  roomy_full g h = sym (lt-leb (s.used + longest) bytes (omega arith))
-
-  pub roomy_so : longest ≤ bytes → s.used ≤ bytes - longest → true ≡ roomy s.used bytes
-  unfolding roomy
-  roomy_so g h = sym (le-leb (s.used + longest) bytes (omega arith))
-
 -- ── the loop ──
 
 -- the turn of the first k bytes
@@ -62,9 +47,11 @@ feeding_start s input board work out ready =
     }
 
 module _ (s₀ : Session) (input board₀ work₀ out₀ board work out : List ℕ) (s : Session) (i : ℕ) (f : Feeding s₀ input board₀ work₀ out₀ board work out s i) where
-  pub feeding_end : length input ≤ i → Feeds s₀ input board₀ work₀ out₀ board work out (record { session = s; taken = i })
+  pub feeding_end : length input ≤ i → Feeds s₀ input board₀ work₀ out₀ board work out (record { session = s; taken = length input })
   unfolding victim_of
-  feeding_end h = record { taken = walk_end f.walked h; turns = f.turns }
+  feeding_end h =
+      let all : i ≡ length input = omega (arith, f.walked.within, h) in
+      rw (← all) (record { taken = walk_end f.walked h; turns = f.turns })
 
   module _ (t : Bool) (is : t ≡ roomy s.used (length out)) where
     tested : t ≡ room_after s₀ input board₀ work₀ out₀ i

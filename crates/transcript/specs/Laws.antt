@@ -1,5 +1,5 @@
 -- One law for each way out of a function on a session.
-use Rattle.std.specs.Prelude.{◌≡◌, ℕ, ◌+◌, ◌%◌, ◌^◌, ◌<◌, ◌≤◌, Bool, true, false, cond, not, List, [], length, take, ◌==◌, ◌≢◌}
+use Rattle.std.specs.Prelude.{◌≡◌, ℕ, ◌+◌, ◌%◌, ◌^◌, ◌<◌, ◌≤◌, Bool, true, false, cond, not, List, [], length, take, Option, ◌==◌, ◌≢◌}
 use Rattle.std.proofs.Math.Path.{refl}
 use Rattle.std.proofs.Common.{sym, ap, ◌∙◌, append-nil, le-leb, leb-true, eq-eqb, ne_eqb, arith}
 use Rattle.std.proofs.lemmas.Bool.{not-true, not-false}
@@ -14,7 +14,7 @@ use Rattle.replay.specs.declared.Step.{Step}
 use Rattle.replay.specs.Bench.{new_bench, performed}
 use Rattle.benchboard.specs.Sizes.{bench_board, bench_work}
 use Rattle.replay.specs.Promises.{Performs}
-use Rattle.replay.specs.Sizes.{new_sized, performed_sized}
+use Rattle.replay.specs.Sizes.{performed_sized}
 use Rattle.text.specs.Text.{line_feed}
 use Rattle.text.specs.Printing.{Prints}
 use Rattle.transcript.specs.declared.Session.{Session}
@@ -26,7 +26,7 @@ use Rattle.transcript.specs.Session.{new_session, emptied_session, reading_sessi
 use Rattle.transcript.specs.Session.{Machine, machine_of, session_of, Turn, resting, reading, closed, line_turn, feed_turn, closing, finish_turn, fed}
 use Rattle.transcript.specs.Session.{roomy, victim_of, Ready, Turns, Feeds}
 
-pub session_new : (b : Bench) (reader : Reader) → b ≡ new_bench → reader ≡ reader_of []
+pub session_new : (b : Option Bench) (reader : Reader) → b ≡ new_bench → reader ≡ reader_of []
     → ◌≡◌ {A = Session} (record { bench = b; reader = reader; number = 1; begun = false; over = false; used = 0 }) new_session
 session_new b reader e g = rw (e, g)
 
@@ -117,7 +117,7 @@ finish_line s t r board work out board' work' out' h e p c =
       kept = record { sized = p.kept.sized; used_most = p.kept.used_most };
     }))
 
-pub line_ended : (s : Session) (board work out board' work' out' : List ℕ) (k : Command) (t : Step) (reader : Reader) (letter number used : ℕ) (over : Bool)
+pub line_ended : (s : Session) (board work out board' work' out' : List ℕ) (k : Option Command) (t : Step) (reader : Reader) (letter number used : ℕ) (over : Bool)
     → Ready s board work out → k ≡ command_by s.reader → Performs (performed s.bench k board work) board' work' t → reader ≡ reader_of []
     → number ≡ (s.number + 1) % 2 ^ 64 → over ≡ ends t.reply → letter ≡ letter_by s.reader
     → Prints longest out s.used (reply_text letter t.reply s.number) out' used
@@ -166,7 +166,7 @@ pub ready_emptied : (most : ℕ) (s t r : Session) (u : Turn) (board work out bo
 ready_emptied most s t r u board work out board' work' out' ready p same_board same_work same_out e =
     rw e (record {
       lent = record {
-        sized = record { board = p.kept.sized.board; work = p.kept.sized.work };
+        sized = p.kept.sized;
         board_length = omega (arith, ready.lent.board_length, same_board);
         work_length = omega (arith, ready.lent.work_length, same_work);
       };
@@ -190,7 +190,7 @@ module _ (s : Session) (input board work out board' work' out' : List ℕ) (r : 
 pub ready_new : (s : Session) (board work out : List ℕ) → s ≡ new_session → bench_board ≤ length board → bench_work ≤ length work → longest ≤ length out
     → Ready s board work out
 ready_new s board work out e b w h =
-    rw e (record { lent = record { sized = new_sized; board_length = b; work_length = w }; room = omega (arith, h) })
+    rw e (record { lent = record { sized = tt; board_length = b; work_length = w }; room = omega (arith, h) })
 
 pub ready_used : (s : Session) (board work out : List ℕ) → Ready s board work out → s.used ≤ length out
 ready_used s board work out r = omega (arith, r.room)

@@ -1,7 +1,7 @@
 -- What a script prints, from its bytes to the printed bytes. The paper, "Replay on the bench":
 -- "The program `loomreplay` reads lines on standard input". What a line asks for is in `script/specs/Syntax`, what that
 -- does in `replay/specs/Bench`, its text in `Text`.
-use Rattle.std.specs.Prelude.{ℕ, ◌+◌, Bool, true, false, cond, List, [], ◌∷◌, ◌++◌, replicate, ◌==◌, slice_index}
+use Rattle.std.specs.Prelude.{ℕ, ◌+◌, Bool, true, false, cond, List, [], ◌∷◌, ◌++◌, Option, replicate, ◌==◌, slice_index}
 use Rattle.benchboard.specs.Sizes.{bench_board, bench_work}
 use Rattle.script.specs.Syntax.{command_of}
 use Rattle.replay.specs.declared.Bench.{Bench}
@@ -22,7 +22,7 @@ lines_of (b ∷ bs) = cond (b == line_feed) ([] ∷ lines_of bs) (with_byte b (l
 
 -- a replay between two lines
 pub record State : Type 0 where
-  pub bench : Bench
+  pub bench : Option Bench
   pub board : List ℕ
   pub work : List ℕ
 

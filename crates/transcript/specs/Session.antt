@@ -1,6 +1,6 @@
 -- How the code does what `Script` says: a replay between two bytes of its script, what each byte does, and what the end
 -- of the script does. That bytes in any parts print what `Script` says of them is `parts_printed`, in `Parts`.
-use Rattle.std.specs.Prelude.{◌≡◌, ℕ, ◌+◌, ◌%◌, ◌^◌, ◌≤◌, Bool, true, false, cond, List, [], ◌++◌, length, take, drop, ◌==◌, nat_le}
+use Rattle.std.specs.Prelude.{◌≡◌, ℕ, ◌+◌, ◌%◌, ◌^◌, ◌≤◌, Bool, true, false, cond, List, [], ◌++◌, length, take, drop, IfSome, ◌==◌, nat_le}
 use mathlib.Core.List.{foldl}
 use Rattle.base.specs.Walk.{first}
 use Rattle.text.specs.Text.{line_feed}
@@ -124,7 +124,7 @@ pub record Ready (s : Session) (board work out : List ℕ) : Type 0 where
 
 -- The sizes of the bench lie within its memories, and so much of the buffer is in use at most.
 pub record Open (s : Session) (most : ℕ) : Type 0 where
-  pub sized : Sized s.bench
+  pub sized : IfSome s.bench Sized
   pub used_most : s.used ≤ most
 
 -- The turn that was taken: the replay and the memories are those of the turn, and its text stands in the buffer behind

@@ -21,7 +21,7 @@ const LONGEST_LINE: usize = 137;
 // A replay between two bytes of its script.
 #[derive(Clone, Copy)]
 pub struct Session {
-    pub bench: Bench,
+    pub bench: Option<Bench>,
     pub reader: Reader,
     // The number of the line that is being read, counted from 1, and whether it has a byte.
     pub number: u64,
@@ -53,7 +53,6 @@ fn put_line(out: &mut [u8], at: usize, letter: u8, line: Line) -> usize
     requires { at + longest ≤ length out.old }
     ensures { Prints longest out.old at (line_text letter line) out.new result }
 {
-    let status = line.status;
     let numbers = [
         line.value,
         line.stores as u64,
@@ -62,7 +61,7 @@ fn put_line(out: &mut [u8], at: usize, letter: u8, line: Line) -> usize
         line.length,
         line.buffered,
     ];
-    let head = put_head(out, at, letter, status);
+    let head = put_head(out, at, letter, line.status);
     let end = put_numbers(out, head, &numbers);
     put_byte(out, end, b'\n')
 }
@@ -72,9 +71,8 @@ fn put_bad(out: &mut [u8], at: usize, number: u64) -> usize
     requires { at + longest ≤ length out.old }
     ensures { Prints longest out.old at (bad_text number) out.new result }
 {
-    let numbers = [number];
     let mark = put_byte(out, at, b'?');
-    let end = put_numbers(out, mark, &numbers);
+    let end = put_numbers(out, mark, &[number]);
     put_byte(out, end, b'\n')
 }
 
@@ -93,12 +91,7 @@ fn put_reply(out: &mut [u8], at: usize, letter: u8, reply: Reply, number: u64) -
 fn is_end(reply: Reply) -> bool
     ensures { result ≡ ends reply }
 {
-    match reply {
-        Reply::Quiet => false,
-        Reply::Said(_) => false,
-        Reply::Last(_) => true,
-        Reply::Bad => true,
-    }
+    matches!(reply, Reply::Last(_) | Reply::Bad)
 }
 
 impl Session {
@@ -107,7 +100,7 @@ impl Session {
         ensures { result ≡ new_session }
     {
         Session {
-            bench: Bench::new(),
+            bench: None,
             reader: Reader::new(),
             number: 1,
             begun: false,
@@ -120,59 +113,35 @@ impl Session {
     pub fn emptied(self) -> Session
         ensures { result ≡ emptied_session self }
     {
-        let bench = self.bench;
-        let reader = self.reader;
-        Session {
-            bench,
-            reader,
-            number: self.number,
-            begun: self.begun,
-            over: self.over,
-            used: 0,
-        }
+        Session { used: 0, ..self }
     }
 
     // Whether a buffer of so many bytes has room for one more line.
+    #[tactic(auto, using(base::specs::Tests::tests), unfolding(crate::specs::Session::roomy))]
     pub fn is_roomy(self, bytes: usize) -> bool
         ensures { result ≡ roomy self.used bytes }
     {
-        if bytes < LONGEST_LINE {
-            return false;
-        }
-        if self.used > bytes - LONGEST_LINE {
-            return false;
-        }
-        true
+        bytes >= LONGEST_LINE && self.used <= bytes - LONGEST_LINE
     }
 
     // One more byte of the line that is being read.
     fn reading(self, byte: u8) -> Session
         ensures { result ≡ reading_session self byte }
     {
-        let bench = self.bench;
-        let reader = self.reader;
         Session {
-            bench,
-            reader: reader.step(byte),
-            number: self.number,
+            reader: self.reader.step(byte),
             begun: true,
-            over: self.over,
-            used: self.used,
+            ..self
         }
     }
 
     fn closed(self) -> Session
         ensures { result ≡ closed_session self }
     {
-        let bench = self.bench;
-        let reader = self.reader;
         Session {
-            bench,
-            reader,
-            number: self.number,
             begun: false,
             over: true,
-            used: self.used,
+            ..self
         }
     }
 }
@@ -182,18 +151,15 @@ fn end_line(session: Session, board: &mut [u64], work: &mut [u64], out: &mut [u8
     requires { Ready session board.old work.old out.old }
     ensures { Turns (session.used + longest) session out.old (line_turn (machine_of session board.old work.old)) board.new work.new out.new result }
 {
-    let bench = session.bench;
-    let reader = session.reader;
-    let step = replay::perform(board, work, bench, reader.command());
-    let after = step.bench;
-    let reply = step.reply;
+    let step = replay::perform(board, work, session.bench, session.reader.command());
+    let letter = session.reader.letter();
     Session {
-        bench: after,
+        bench: step.bench,
         reader: Reader::new(),
-        number: std::num::wrapping_add_u64(session.number, 1),
+        number: session.number.wrapping_add(1),
         begun: false,
-        over: is_end(reply),
-        used: put_reply(out, session.used, reader.letter(), reply, session.number),
+        over: is_end(step.reply),
+        used: put_reply(out, session.used, letter, step.reply, session.number),
     }
 }
 
@@ -213,7 +179,7 @@ fn feed(session: Session, byte: u8, board: &mut [u64], work: &mut [u64], out: &m
 
 // Bytes of the script, one after the other: all of them, or until the buffer may not hold one more line.
 pub fn feed_bytes(
-    session: Session,
+    mut session: Session,
     input: &[u8],
     board: &mut [u64],
     work: &mut [u64],
@@ -222,18 +188,15 @@ pub fn feed_bytes(
     requires { Ready session board.old work.old out.old }
     ensures { Feeds session input.now board.old work.old out.old board.new work.new out.new result }
 {
-    let mut s = session;
-    let mut i = 0;
-    while i < input.len() {
-        if !s.is_roomy(out.len()) {
-            break;
+    for (taken, byte) in input.iter().enumerate() {
+        if !session.is_roomy(out.len()) {
+            return Fed { session, taken };
         }
-        s = feed(s, input[i], board, work, out);
-        i += 1;
+        session = feed(session, *byte, board, work, out);
     }
     Fed {
-        session: s,
-        taken: i,
+        session,
+        taken: input.len(),
     }
 }
 
