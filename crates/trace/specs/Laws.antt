@@ -6,14 +6,13 @@ use mathlib.Core.List.{foldl, flatten, append_assoc, append-nil}
 use Rattle.std.proofs.Math.Numerals.{add-one}
 use Rattle.std.proofs.lemmas.Bool.{lt-leb}
 use Rattle.std.proofs.lemmas.List.{take-append-le, drop-append-le}
-use Rattle.std.proofs.Math.Seq.{take-append_seam}
 use Rattle.base.specs.Cases.{below_or_not}
 use Rattle.layout.specs.Bytes.{AreBytes, bytes_drop, bytes_take}
 use Rattle.status.specs.Numbers.{is_ok}
 use Rattle.records.specs.declared.Reader.{Reader}
 use Rattle.records.specs.Records.{record_bytes, reading}
 use Rattle.records.specs.Steps.{step_of, is_full, reading_by}
-use Rattle.records.specs.Laws.{reader_of, reader_new, reader_steps, reader_reads, reading_first}
+use Rattle.records.specs.Laws.{reader_of, reader_new, reader_steps, reader_reads, reading_first, front_bytes}
 use Rattle.trace.specs.Run.{State, begun, turn, record_at, after, ran, failed, line_text, printed}
 use Rattle.trace.specs.Steps.{Machine, resting, turned, waiting, stepped, fed, finished, broken}
 
@@ -108,9 +107,6 @@ module _ (s : State) (xs : List ℕ) (b : ℕ) (h : AreBytes xs) where
       rw reader_more (below_or_not (length longer) record_bytes
       (λ l. rw (lt-leb record_bytes (length longer) l) (byte_waits l))
       (λ l. rw (le-leb record_bytes (length longer) l) (record_taken l)))
-
-front_bytes : (xs ys : List ℕ) → AreBytes (xs ++ ys) → AreBytes xs
-front_bytes xs ys h = rw (take-append_seam xs ys) at (bytes_take (length xs) (xs ++ ys) h)
 
 -- bytes that follow others
 pub fed_so_far : (s : State) (xs ys : List ℕ) → AreBytes (xs ++ ys) → fed (so_far s xs) ys ≡ so_far s (xs ++ ys)

@@ -1,7 +1,7 @@
 -- The run of a trace, from N, L, S and the file's bytes to the line that is printed. The request: "a bench program that runs a file of
 -- the controller's calls on a fresh woken board. .. It prints one line .. : the name of what ended it (ok, trace or the refused
 -- wake's), then the totals of board stores made by loads, stores, evictions and scans."
-use Rattle.std.specs.Prelude.{ℕ, zero, suc, ◌+◌, ◌*◌, ◌/◌, ◌%◌, ◌^◌, cond, List, [], ◌∷◌, ◌++◌, length, take, drop, replicate}
+use Rattle.std.specs.Prelude.{ℕ, zero, suc, ◌+◌, ◌*◌, ◌/◌, ◌%◌, ◌^◌, cond, List, [], ◌∷◌, ◌++◌, Option, Some, None, Result, Ok, Err, length, take, drop, replicate}
 use Rattle.layout.specs.Memory.{board_words, work_words}
 use Rattle.status.specs.declared.Status.{Status}
 use Rattle.status.specs.declared.Status.TheVariants.{Shape, Trace}
@@ -13,8 +13,6 @@ use Rattle.benchboard.specs.Sizes.{bench_sized}
 use Rattle.benchboard.specs.Calls.{full_allowance, call_of, Left, left, started}
 use Rattle.records.specs.declared.Call.{Call}
 use Rattle.records.specs.declared.Call.TheVariants.{Load, Store, Evict, Commit, Scan}
-use Rattle.records.specs.declared.Reading.{Reading}
-use Rattle.records.specs.declared.Reading.TheVariants.{End, Recorded, Refused}
 use Rattle.records.specs.Records.{record_bytes, reading}
 use Rattle.text.specs.Text.{line_feed, numbers_text, name_text}
 use Rattle.trace.specs.declared.Totals.{Totals}
@@ -65,13 +63,13 @@ called s c =
 abbrev pub ended : State → Status → State
 ended s status = record { status = status; registers = s.registers; totals = s.totals; board = s.board; work = s.work }
 
-unfoldable pub taken : State → Reading → State
-taken s End = s
-taken s (Recorded c) = called s c
-taken s (Refused status) = ended s status
+unfoldable pub taken : State → Result (Option Call) Status → State
+taken s (Ok None) = s
+taken s (Ok (Some c)) = called s c
+taken s (Err status) = ended s status
 
 -- once it has ended nothing more is done
-unfoldable pub turn : State → Reading → State
+unfoldable pub turn : State → Result (Option Call) Status → State
 turn s r = cond (is_ok s.status) (taken s r) s
 
 -- the file's record k: the last may end early, or have no bytes, which is the end
@@ -87,7 +85,7 @@ ran s file = after s file (length file / record_bytes + 1)
 
 -- a file whose reading fails behind these bytes; "one that won't open is trace at its first record": it fails behind none
 unfoldable pub failed : State → (bytes : List ℕ) → State
-failed s bytes = turn (after s bytes (length bytes / record_bytes)) (Refused Trace)
+failed s bytes = turn (after s bytes (length bytes / record_bytes)) (Err Trace)
 
 -- "It prints one line, single spaces"
 unfoldable pub line_text : Status → Totals → List ℕ

@@ -1,12 +1,11 @@
 -- What the functions on a run answer, byte by byte. That bytes in any parts leave what `Run` says of them is `parts_so_far`, in `Laws`.
-use Rattle.std.specs.Prelude.{ℕ, Bool, cond, ◌&&◌, List, nat_le}
+use Rattle.std.specs.Prelude.{ℕ, Bool, cond, ◌&&◌, List, Option, Result, Err, nat_le}
 use mathlib.Core.List.{foldl}
 use Rattle.status.specs.declared.Status.{Status}
 use Rattle.status.specs.declared.Status.TheVariants.{Trace}
 use Rattle.checks.specs.declared.Registers.{Registers}
 use Rattle.records.specs.declared.Reader.{Reader}
-use Rattle.records.specs.declared.Reading.{Reading}
-use Rattle.records.specs.declared.Reading.TheVariants.{Refused}
+use Rattle.records.specs.declared.Call.{Call}
 use Rattle.records.specs.Records.{record_bytes}
 use Rattle.records.specs.Steps.{new_reader, is_new, is_full, step_of, reading_by}
 use Rattle.trace.specs.declared.Run.{Run}
@@ -41,7 +40,7 @@ ended_run r status = record { status = status; registers = r.registers; totals =
 abbrev pub resting : State → Machine
 resting s = record { state = s; reader = new_reader }
 
-abbrev pub turned : Machine → Reading → Machine
+abbrev pub turned : Machine → Result (Option Call) Status → Machine
 turned m r = resting (turn m.state r)
 
 -- after one more byte
@@ -67,4 +66,4 @@ finished m = turned m (reading_by m.reader)
 
 -- where the file can not be read on
 abbrev pub broken : Machine → Machine
-broken m = turned m (Refused Trace)
+broken m = turned m (Err Trace)

@@ -5,18 +5,18 @@
 ghost use Rattle.std.specs.Prelude.{◌≡◌, ◌<◌, ◌≤◌, length};
 ghost use Rattle.benchboard.specs.Calls.{started};
 ghost use Rattle.text.specs.Printing.{Prints};
-ghost use Rattle.trace.specs.Run.{no_totals, plus, counted, started_state, called, line_text};
+ghost use Rattle.trace.specs.Run.{plus, counted, started_state, called, line_text};
 ghost use Rattle.trace.specs.Steps.{machine_of, new_run, reading_run, ended_run, resting, turned, stepped, has_record, fed, finished, broken};
 ghost use Rattle.trace.specs.Promises.{Runs, Feeds};
 ghost use Rattle.trace.specs.Line.{longest};
 
 use benchboard::FULL_ALLOWANCE;
 use checks::Registers;
-use records::{Call, RECORD_BYTES, Reader, Reading};
+use records::{Call, RECORD_BYTES, Reader};
 use status::Status;
 
 // The board stores made by the calls of each kind, each a sum modulo 2^64. Commits make none.
-#[derive(Clone, Copy)]
+#[derive(Clone, Copy, Default, PartialEq, Eq)]
 pub struct Totals {
     pub loads: u64,
     pub stores: u64,
@@ -38,21 +38,10 @@ pub struct Run {
 fn sum(total: u64, stores: u32) -> u64
     ensures { result ≡ plus total stores }
 {
-    std::num::wrapping_add_u64(total, stores as u64)
+    total.wrapping_add(u64::from(stores))
 }
 
 impl Totals {
-    pub fn none() -> Totals
-        ensures { result ≡ no_totals }
-    {
-        Totals {
-            loads: 0,
-            stores: 0,
-            evictions: 0,
-            scans: 0,
-        }
-    }
-
     // The totals once a call has answered that it made so many stores.
     pub fn counting(self, call: Call, stores: u32) -> Totals
         ensures { result ≡ counted self call stores }
@@ -60,27 +49,19 @@ impl Totals {
         match call {
             Call::Load(_) => Totals {
                 loads: sum(self.loads, stores),
-                stores: self.stores,
-                evictions: self.evictions,
-                scans: self.scans,
+                ..self
             },
             Call::Store(_, _) => Totals {
-                loads: self.loads,
                 stores: sum(self.stores, stores),
-                evictions: self.evictions,
-                scans: self.scans,
+                ..self
             },
             Call::Evict(_) => Totals {
-                loads: self.loads,
-                stores: self.stores,
                 evictions: sum(self.evictions, stores),
-                scans: self.scans,
+                ..self
             },
             Call::Scan => Totals {
-                loads: self.loads,
-                stores: self.stores,
-                evictions: self.evictions,
                 scans: sum(self.scans, stores),
+                ..self
             },
             Call::Commit => self,
         }
@@ -95,7 +76,7 @@ impl Run {
         Run {
             status,
             registers,
-            totals: Totals::none(),
+            totals: Totals::default(),
             reader: Reader::new(),
         }
     }
@@ -104,27 +85,16 @@ impl Run {
     fn reading(self, reader: Reader) -> Run
         ensures { result ≡ reading_run self reader }
     {
-        let status = self.status;
-        let registers = self.registers;
-        let totals = self.totals;
-        Run {
-            status,
-            registers,
-            totals,
-            reader,
-        }
+        Run { reader, ..self }
     }
 
     fn ended(self, status: Status) -> Run
         ensures { result ≡ ended_run self status }
     {
-        let registers = self.registers;
-        let totals = self.totals;
         Run {
             status,
-            registers,
-            totals,
             reader: Reader::new(),
+            ..self
         }
     }
 }
@@ -134,39 +104,38 @@ pub fn start(board: &mut [u64], work: &mut [u64], lines: u64, entries: u64) -> R
     ensures { Runs (resting (started_state (started lines entries board.old work.old))) board.new work.new result }
 {
     let answer = benchboard::start(board, work, lines, entries);
-    let status = answer.status;
-    let registers = answer.registers;
-    Run::new(status, registers)
+    Run::new(answer.status, answer.registers)
 }
 
 fn perform(run: Run, call: Call, board: &mut [u64], work: &mut [u64]) -> Run
     ensures { Runs (resting (called (machine_of run board.old work.old).state call)) board.new work.new result }
 {
-    let status = run.status;
-    let registers = run.registers;
-    let totals = run.totals;
-    let answer = benchboard::perform(board, work, registers, call, FULL_ALLOWANCE);
-    let after = answer.registers;
+    let answer = benchboard::perform(board, work, run.registers, call, FULL_ALLOWANCE);
     Run {
-        status,
-        registers: after,
-        totals: totals.counting(call, answer.stores),
+        registers: answer.registers,
+        totals: run.totals.counting(call, answer.stores),
         reader: Reader::new(),
+        ..run
     }
 }
 
-// A record, or what stands in its place.
-fn take(run: Run, reading: Reading, board: &mut [u64], work: &mut [u64]) -> Run
+// A record's call, the end where there is none, or the refusal of what stands in its place.
+#[tactic(auto, unfolding(crate::specs::Run::turn, crate::specs::Run::taken))]
+fn take(
+    run: Run,
+    reading: Result<Option<Call>, Status>,
+    board: &mut [u64],
+    work: &mut [u64],
+) -> Run
     ensures { Runs (turned (machine_of run board.old work.old) reading) board.new work.new result }
 {
-    let status = run.status;
-    if !status.is_ok() {
-        return run.ended(status);
+    if run.status != Status::Ok {
+        return run.ended(run.status);
     }
     match reading {
-        Reading::End => run.ended(status),
-        Reading::Recorded(call) => perform(run, call, board, work),
-        Reading::Refused(refusal) => run.ended(refusal),
+        Ok(Some(call)) => perform(run, call, board, work),
+        Ok(None) => run.ended(run.status),
+        Err(refusal) => run.ended(refusal),
     }
 }
 
@@ -174,77 +143,58 @@ fn take(run: Run, reading: Reading, board: &mut [u64], work: &mut [u64]) -> Run
 fn feed(run: Run, byte: u8, board: &mut [u64], work: &mut [u64]) -> Run
     ensures { Runs (stepped (machine_of run board.old work.old) byte) board.new work.new result }
 {
-    let reader = run.reader;
-    let next = reader.step(byte);
+    let next = run.reader.step(byte);
     if !next.is_full() {
         return run.reading(next);
     }
     take(run, next.reading(), board, work)
 }
 
-// The run once the first bytes have been taken, as many as taken says.
-#[derive(Clone, Copy)]
-struct Fed {
-    run: Run,
-    taken: usize,
-}
-
 // Whether the next bytes, so many of them, begin with a whole record.
+#[tactic(auto, unfolding(crate::specs::Steps::has_record))]
 fn has_record(reader: Reader, count: usize) -> bool
     ensures { result ≡ has_record reader count }
 {
-    if !reader.is_new() {
-        return false;
-    }
-    count >= RECORD_BYTES
+    reader.is_new() && count >= RECORD_BYTES
 }
 
-// Some bytes of the trace: a whole record, or else one byte.
-fn feed_some(run: Run, input: &[u8], board: &mut [u64], work: &mut [u64]) -> Fed
+// Some bytes of the trace: a whole record, or else one byte. Answers how many.
+fn feed_some(run: &mut Run, input: &[u8], board: &mut [u64], work: &mut [u64]) -> usize
     requires { 0 < length input.now }
-    ensures { Feeds (machine_of run board.old work.old) input.now board.new work.new result }
+    ensures { Feeds (machine_of run.old board.old work.old) input.now board.new work.new run.new result }
 {
-    let byte = input[0];
-    let reader = run.reader;
-    if !has_record(reader, input.len()) {
-        return Fed {
-            run: feed(run, byte, board, work),
-            taken: 1,
-        };
+    if has_record(run.reader, input.len()) {
+        *run = take(*run, records::read(input), board, work);
+        return RECORD_BYTES;
     }
-    Fed {
-        run: take(run, records::read(input), board, work),
-        taken: RECORD_BYTES,
-    }
+    *run = feed(*run, input[0], board, work);
+    1
 }
 
 // Bytes of the trace.
-pub fn feed_bytes(run: Run, input: &[u8], board: &mut [u64], work: &mut [u64]) -> Run
+pub fn feed_bytes(mut run: Run, input: &[u8], board: &mut [u64], work: &mut [u64]) -> Run
     ensures { Runs (fed (machine_of run board.old work.old) input.now) board.new work.new result }
 {
-    let mut now = run;
-    let mut i = 0;
-    while i < input.len() {
-        let some = feed_some(now, &input[i..], board, work);
-        now = some.run;
-        i += some.taken;
+    let mut rest = input;
+    while !rest.is_empty() {
+        let taken = feed_some(&mut run, rest, board, work);
+        rest = &rest[taken..];
     }
-    now
+    run
 }
 
 // The end of the trace: what is left of it is a record that ends early.
 pub fn finish(run: Run, board: &mut [u64], work: &mut [u64]) -> Run
     ensures { Runs (finished (machine_of run board.old work.old)) board.new work.new result }
 {
-    let reader = run.reader;
-    take(run, reader.reading(), board, work)
+    take(run, run.reader.reading(), board, work)
 }
 
 // The trace can not be read, or not be read on.
 pub fn fail(run: Run, board: &mut [u64], work: &mut [u64]) -> Run
     ensures { Runs (broken (machine_of run board.old work.old)) board.new work.new result }
 {
-    take(run, Reading::Refused(Status::Trace), board, work)
+    take(run, Err(Status::Trace), board, work)
 }
 
 // The line of a run: the name of what ended it, and the totals. Answers how many bytes it has.
@@ -252,10 +202,9 @@ pub fn put_line(out: &mut [u8], run: Run) -> usize
     requires { longest ≤ length out.old }
     ensures { Prints longest out.old 0 (line_text run.status run.totals) out.new result }
 {
-    let status = run.status;
     let totals = run.totals;
     let numbers = [totals.loads, totals.stores, totals.evictions, totals.scans];
-    let name = text::put_name(out, 0, status);
+    let name = text::put_name(out, 0, run.status);
     let end = text::put_numbers(out, name, &numbers);
     text::put_byte(out, end, b'\n')
 }
