@@ -117,7 +117,7 @@ fn sizes(rt: &impl Env) -> Option<(u64, u64, u64)>
     for place in FIRST_SIZE..FILE {
         reader = step_argument(rt, reader, place);
     }
-    match reader.command() {
+    match reader.command()? {
         Command::Format(lines, entries, slots)
             if benchboard::is_bench_sized(lines, entries, slots) => {
             Some((lines, entries, slots))

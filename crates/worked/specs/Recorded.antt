@@ -1,18 +1,17 @@
 -- Records by their bytes, the paper's replay as a trace, and a trace in which calls of every kind make stores.
-use Rattle.std.specs.Prelude.{ℕ, ◌*◌, List, [], ◌∷◌, ◌++◌, replicate}
-use Rattle.status.specs.declared.Status.TheVariants.{Ok, Trace}
-use Rattle.records.specs.declared.Reading.{Reading}
-use Rattle.records.specs.declared.Reading.TheVariants.{Refused}
-use Rattle.records.specs.declared.Written.{Written}
+use Rattle.std.specs.Prelude.{ℕ, ◌*◌, List, [], ◌∷◌, ◌++◌, Option, Result, Ok, Err, replicate}
+use Rattle.status.specs.declared.Status.{Status}
+use Rattle.status.specs.declared.Status.TheVariants.{Trace}
+use Rattle.records.specs.declared.Call.{Call}
 
 abbrev pub zeros : ℕ → List ℕ
 zeros n = replicate n 0
 
-abbrev pub wrote : List ℕ → Written
-wrote bytes = record { status = Ok; bytes = bytes }
+abbrev pub wrote : List ℕ → Result (List ℕ) Status
+wrote bytes = Ok bytes
 
-abbrev pub bad : Reading
-bad = Refused Trace
+abbrev pub bad : Result (Option Call) Status
+bad = Err Trace
 
 -- records by kind, line and value: the kind stands in the top three bits of the first byte, a line below 8 in those of
 -- the third, a value below 256 in the last byte

@@ -1,5 +1,5 @@
 -- "Checked by proof, W1 to W12": the paper's worked examples, as rows of one table, and behind them a row for each of its traps.
-use Rattle.std.specs.Prelude.{ℕ, ◌+◌, ◌-◌, ◌*◌, ◌^◌, ◌≡◌, refl, true, false, [], ◌∷◌, ◌++◌, replicate, set}
+use Rattle.std.specs.Prelude.{ℕ, ◌+◌, ◌-◌, ◌*◌, ◌^◌, ◌≡◌, refl, true, false, Some, None, Ok, [], ◌∷◌, ◌++◌, replicate, set}
 use Rattle.std.specs.Int.Count.{ones, ones_in, ones-ones}
 use Rattle.base.specs.Walk.{first_from}
 use Rattle.board.specs.Stores.{applied, each, shifted}
@@ -36,7 +36,6 @@ use Rattle.status.specs.Names.{bytes, row_of, name_of, with_name}
 use Rattle.benchboard.specs.Sizes.{bench_sized}
 use Rattle.benchboard.specs.Calls.{started}
 use Rattle.records.specs.declared.Call.TheVariants.{Store}
-use Rattle.records.specs.declared.Reading.TheVariants.{End, Recorded}
 use Rattle.records.specs.Records.{load_kind, store_kind, commit_kind, scan_kind, evict_kind, has_place, call_of, first_word, written, words_reading, reading}
 use Rattle.text.specs.Text.{decimal_places, decimal_of, numbers_text, name_text}
 use Rattle.trace.specs.Run.{plus, begun, called, taken, turn, after, ran, line_text, printed}
@@ -160,9 +159,9 @@ pub record Worked : Type 0 where
   pub record_store : written store_kind 5 9 ≡ wrote (0x20 ∷ 0x00 ∷ 0xA0 ∷ zeros 12 ++ (9 ∷ []))
   pub record_evict : written evict_kind 65535 0 ≡ wrote (0x9F ∷ 0xFF ∷ 0xE0 ∷ zeros 13)
   pub record_scan : written scan_kind 0 0 ≡ wrote (0x60 ∷ zeros 15)
-  pub record_back : reading (0x20 ∷ 0x00 ∷ 0xA0 ∷ zeros 12 ++ (9 ∷ [])) ≡ Recorded (Store 5 9)
+  pub record_back : reading (0x20 ∷ 0x00 ∷ 0xA0 ∷ zeros 12 ++ (9 ∷ [])) ≡ Ok (Some (Store 5 9))
   -- a byte behind a record's sixteen is none of it
-  pub record_behind : reading (0x20 ∷ 0x00 ∷ 0xA0 ∷ zeros 12 ++ (9 ∷ 0xA0 ∷ [])) ≡ Recorded (Store 5 9)
+  pub record_behind : reading (0x20 ∷ 0x00 ∷ 0xA0 ∷ zeros 12 ++ (9 ∷ 0xA0 ∷ [])) ≡ Ok (Some (Store 5 9))
   -- "from the writer, a kind, address or value with no place in it"
   pub no_kind : (written 5 0 0).status ≡ status.Trace
   pub no_address : ((written load_kind 65536 0).status ≡ status.Trace) × ((written commit_kind 1 0).status ≡ status.Trace)
@@ -174,7 +173,7 @@ pub record Worked : Type 0 where
   pub bad_value : reading (zeros 15 ++ (9 ∷ [])) ≡ bad
   -- "or ends early"; no bytes are the end
   pub early : reading (zeros 15) ≡ bad
-  pub at_end : reading [] ≡ End
+  pub at_end : reading [] ≡ Ok None
   -- "each total is the sum modulo 2^64"
   pub wraps : plus (2 ^ 64 - 1) 3 ≡ 2
   -- the paper's replay as a trace, with no `n` and no `p`: its last scan makes the listing's 6 stores
