@@ -20,8 +20,7 @@ const MOST_ENTRIES: u64 = 1024;
 const MOST_SLOTS: u64 = 64;
 
 // The words of a bench's memories: as many as the largest sizes take.
-pub const BOARD_WORDS: usize =
-    LOG_AT + ENTRY_WORDS * MOST_ENTRIES as usize + MOST_LINES as usize;
+pub const BOARD_WORDS: usize = LOG_AT + ENTRY_WORDS * MOST_ENTRIES as usize + MOST_LINES as usize;
 
 pub const WORK_WORDS: usize = SLOT_WORDS * MOST_SLOTS as usize + BUFFER_WORDS;
 

@@ -146,8 +146,3 @@ module _ (b : Option Bench) (k : Option Command) (c : Command) (is : k ≡ Some 
       → Performs (performed b k board work) board work s
   unfolding performed allowing
   command_allow count board work s e p = rw (is, e) (still p)
-
-pub command_bad : (b : Option Bench) (k : Option Command) (board work : List ℕ) (s : Step) → k ≡ None → s ≡ bad_step b
-    → Performs (performed b k board work) board work s
-unfolding performed
-command_bad b k board work s e p = rw e (still p)

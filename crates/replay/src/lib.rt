@@ -1,5 +1,6 @@
 // The bench of the replay: performs a script's commands one by one on a board memory and a work memory that the caller lends.
-// The state of a bench goes in by value and comes back by value.
+// The state of a bench goes in by value and comes back by value. The memories stay two slices beside it: `perform` takes any that are
+// long enough, and what it leaves on each stands in its contract.
 #![tactic(auto)]
 
 ghost use Rattle.std.specs.Prelude.{◌≡◌, Some};
@@ -37,7 +38,7 @@ pub struct Line {
     pub buffered: u64,
 }
 
-// What a command prints, and whether the replay goes on.
+// What a command prints, and whether the replay goes on. A Result of an Option would need a second enum for the two ends, and says no more.
 #[derive(Clone, Copy, PartialEq, Eq)]
 pub enum Reply {
     // Nothing is printed, and the replay goes on.
@@ -188,12 +189,7 @@ fn start(board: &mut [u64], work: &mut [u64], lines: u64, entries: u64, slots: u
 {
     let words = layout::board_words(lines, entries);
     let work_words = layout::work_words(slots as usize);
-    let answer = benchboard::start(
-        &mut board[..words],
-        &mut work[..work_words],
-        lines,
-        entries,
-    );
+    let answer = benchboard::start(&mut board[..words], &mut work[..work_words], lines, entries);
     let bench = Bench {
         board: words,
         work: work_words,

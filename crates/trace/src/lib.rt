@@ -27,7 +27,7 @@ pub struct Totals {
 // A run between two bytes of its trace. The memories are the caller's.
 #[derive(Clone, Copy)]
 pub struct Run {
-    // The name of what has ended the run, or ok.
+    // What has ended the run, or ok. The line prints ok as it prints the others, so an Option would be turned back into it there.
     pub status: Status,
     pub registers: Registers,
     pub totals: Totals,
@@ -121,12 +121,7 @@ fn perform(run: Run, call: Call, board: &mut [u64], work: &mut [u64]) -> Run
 
 // A record's call, the end where there is none, or the refusal of what stands in its place.
 #[tactic(auto, unfolding(crate::specs::Run::turn, crate::specs::Run::taken))]
-fn take(
-    run: Run,
-    reading: Result<Option<Call>, Status>,
-    board: &mut [u64],
-    work: &mut [u64],
-) -> Run
+fn take(run: Run, reading: Result<Option<Call>, Status>, board: &mut [u64], work: &mut [u64]) -> Run
     ensures { Runs (turned (machine_of run board.old work.old) reading) board.new work.new result }
 {
     if run.status != Status::Ok {

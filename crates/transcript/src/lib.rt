@@ -23,10 +23,11 @@ const LONGEST_LINE: usize = 137;
 pub struct Session {
     pub bench: Option<Bench>,
     pub reader: Reader,
-    // The number of the line that is being read, counted from 1, and whether it has a byte.
+    // The number of the line that is being read, counted from 1, and whether it has a byte. No Option of the reader: a line with no
+    // byte is asked too what it is.
     pub number: u64,
     pub begun: bool,
-    // Whether the replay has ended: what follows in the script is not read.
+    // Whether the replay has ended: what follows in the script is not read. It still has its bench, and so much in the buffer.
     pub over: bool,
     // How many bytes of the buffer have been printed to.
     pub used: usize,

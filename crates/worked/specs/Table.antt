@@ -1,5 +1,5 @@
 -- "Checked by proof, W1 to W12": the paper's worked examples, as rows of one table, and behind them a row for each of its traps.
-use Rattle.std.specs.Prelude.{ℕ, ◌+◌, ◌-◌, ◌*◌, ◌^◌, ◌≡◌, refl, true, false, Some, None, Ok, [], ◌∷◌, ◌++◌, replicate, set}
+use Rattle.std.specs.Prelude.{ℕ, ◌+◌, ◌-◌, ◌*◌, ◌^◌, ◌≡◌, refl, true, false, Some, None, Ok, Err, [], ◌∷◌, ◌++◌, replicate, set}
 use Rattle.std.specs.Int.Count.{ones, ones_in, ones-ones}
 use Rattle.base.specs.Walk.{first_from}
 use Rattle.board.specs.Stores.{applied, each, shifted}
@@ -163,9 +163,9 @@ pub record Worked : Type 0 where
   -- a byte behind a record's sixteen is none of it
   pub record_behind : reading (0x20 ∷ 0x00 ∷ 0xA0 ∷ zeros 12 ++ (9 ∷ 0xA0 ∷ [])) ≡ Ok (Some (Store 5 9))
   -- "from the writer, a kind, address or value with no place in it"
-  pub no_kind : (written 5 0 0).status ≡ status.Trace
-  pub no_address : ((written load_kind 65536 0).status ≡ status.Trace) × ((written commit_kind 1 0).status ≡ status.Trace)
-  pub no_value : (written load_kind 5 9).status ≡ status.Trace
+  pub no_kind : written 5 0 0 ≡ Err status.Trace
+  pub no_address : (written load_kind 65536 0 ≡ Err status.Trace) × (written commit_kind 1 0 ≡ Err status.Trace)
+  pub no_value : written load_kind 5 9 ≡ Err status.Trace
   -- "a record that breaks this layout": kind 5, the last and the first of the 45 bits, an address with commit, a value with load
   pub bad_kind : reading (0xA0 ∷ zeros 15) ≡ bad
   pub bad_bits : (reading (zeros 7 ++ (1 ∷ zeros 8)) ≡ bad) × (reading (0x00 ∷ 0x00 ∷ 0x10 ∷ zeros 13) ≡ bad)
