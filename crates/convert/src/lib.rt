@@ -94,7 +94,7 @@ impl OldBoard<'_> {
         (OldEntry::from(self.words[at]), self.words[at + 1])
     }
 
-    // 3, for the first improper entry.
+    // 3, for the first improper entry. The loop goes over numbers: entries are apart where the ring ends, and a refusal has the number.
     fn check_entries(self) -> Result<(), Refusal>
         requires { Readable self.words.now self.undo }
         ensures { result ≡ entries_checked (old_log_in self.entry.words.now self.entry.undo) self.entry.lines }
@@ -125,7 +125,7 @@ impl OldBoard<'_> {
         }
     }
 
-    // From the newest entry to the oldest, so that a line gets the data of its oldest covering entry.
+    // From the newest entry to the oldest, so that a line gets the data of its oldest covering entry. By their numbers, as above.
     fn restore(self, lines: &mut [u64])
         requires { Recoverable self.words.now self.undo (length lines.old) }
         ensures { lines.new ≡ applied lines.old (restore_all (old_log_in self.entry.words.now self.entry.undo) 0) }

@@ -81,7 +81,8 @@ fn read_character(c: u8) -> Option<u8>
     None
 }
 
-// Answers whether all characters are digits. Compilers make vector instructions of this loop, and of the next.
+// Answers whether all characters are digits. The values go to a lent slice, since there is no heap for as many as there are.
+// Compilers make vector instructions of this loop, and of the next.
 pub fn read_values(into: &mut [u8], characters: &[u8]) -> bool
     requires { length into.old ≡ length characters.now }
     ensures { ReadsValues characters.now into.new result }

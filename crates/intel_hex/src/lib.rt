@@ -22,7 +22,7 @@ use record::MOST_TEXT;
 use status::Status;
 pub use taking::take_record;
 
-// What is carried from one record that is taken to the next. It is first 0 and false.
+// What is carried from one record that is taken to the next. It is first 0 and false. Two fields and no enum: C carries two words.
 #[derive(Clone, Copy)]
 pub struct Reader {
     pub upper: u64,

@@ -28,7 +28,7 @@ pub fn count_of(bytes: usize) -> usize
     (bytes - END_BYTES) / BYTE_DIGITS
 }
 
-// Whether a text begins and ends as a record does, and has these digits for the count and the type.
+// Whether a text begins and ends as a record does, and has these digits for the count and the type. Byte by byte: what is compared stands apart.
 fn is_framed(text: &[u8], count: [u8; BYTE_DIGITS], kind: [u8; BYTE_DIGITS]) -> bool
     requires { text_bytes 0 ≤ length text.now }
     ensures { Decides (Framed text.now count kind) result }

@@ -21,6 +21,7 @@ pub const TAIL_BYTES: usize = BYTE_DIGITS + 1;
 
 pub const LINE_FEED: u8 = 10;
 
+// The types are numbers and no enum: a type is one of the bytes that are put, and summed up, as they are.
 pub const DATA_TYPE: u8 = 0;
 
 pub const BANK_TYPE: u8 = 4;

@@ -1,5 +1,4 @@
-use Rattle.std.proofs.Common.{◌+◌, ◌*◌, arith}
-use Rattle.intel_hex.proofs.DigitReading.{digit_at, sum_start, sum_next, sum_end}
+use Rattle.intel_hex.proofs.DigitReading.{sum_start, sum_next, sum_end}
 use Rattle.intel_hex.proofs.digits.read_bytes.Goals as goal
 
 pub loop-i-init : goal.loop-i-init
