@@ -40,14 +40,7 @@ zero_figure = 48
 abbrev small_a : ℕ
 small_a = 97
 
--- by one test of all characters each
-folds : ℕ → Bool
-folds c = eqb (capital c) (cond (ltb (behind small_a c) letters) (c - small) c)
-
-all_fold : characters ≤ first folds characters
-unfolding folds capital place_in first_from
-all_fold = omega arith
-
+-- by one test of all characters
 reads : ℕ → Bool
 reads c =
     let figure = behind zero_figure c in
@@ -60,16 +53,6 @@ unfolding reads capital value_of place_in first_from
 all_read = omega arith
 
 module _ (c : ℕ) (byte : c < characters) where
-  fold_is : capital c ≡ cond (ltb (behind small_a c) letters) (c - small) c
-  unfolding folds
-  fold_is = eqb-true (capital c) _ (first_all folds characters all_fold c byte)
-
-  pub folded : behind small_a c < letters → c - small ≡ capital c
-  folded few = rw (fold_is, lt-ltb (behind small_a c) letters few)
-
-  pub kept : letters ≤ behind small_a c → c ≡ capital c
-  kept many = rw (fold_is, le-ltb (behind small_a c) letters many)
-
   read_is : reads c ≡ true
   read_is = first_all reads characters all_read c byte
 

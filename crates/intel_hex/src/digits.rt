@@ -2,7 +2,6 @@
 ghost use Rattle.std.specs.Prelude.{◌≡◌, ◌+◌, ◌*◌, ◌^◌, ◌<◌, ◌≤◌, ◌&&◌, [], ◌∷◌, length};
 ghost use Rattle.std.proofs.lemmas.List.Edits.{sets};
 ghost use Rattle.intel_hex.specs.Records.{digit, digit_bits, byte_digits, digits_of};
-ghost use Rattle.intel_hex.specs.Import.{capital};
 ghost use Rattle.intel_hex.specs.Promises.{Gap, PutsBytes, Means, ReadsValues, AreDigits, ReadsBytes};
 
 const DIGIT_VALUES: u8 = 16;
@@ -55,16 +54,6 @@ pub fn put_bytes(text: &mut [u8], at: usize, bytes: &[u8]) -> u8
 const LETTERS: u8 = DIGIT_VALUES - FIGURES;
 
 const SMALL: u8 = b'a' - b'A';
-
-// A small letter that is a digit as the capital one, and every other character as it is.
-pub fn capital(c: u8) -> u8
-    ensures { result ≡ capital c }
-{
-    if c.wrapping_sub(b'a') < LETTERS {
-        return c - SMALL;
-    }
-    c
-}
 
 // What a character stands for, if it is a digit in either case.
 fn read_character(c: u8) -> Option<u8>
