@@ -14,7 +14,7 @@ ghost use Rattle.slots.specs.Promises.{BoundsReady};
 use layout::{SLOT_WORDS, Slot, WAYS};
 pub use sets::{first_slot_of, is_all_dirty, is_any_dirty, is_nowhere, site_for, spot_at};
 
-// The slot that an address takes, and whether it is held there.
+// The slot that an address takes, and whether it is held there: a slot in either case, so no Option.
 #[derive(Clone, Copy)]
 pub struct Spot {
     pub slot: usize,

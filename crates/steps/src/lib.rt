@@ -1,4 +1,5 @@
-// What the calls do once their tests have passed: the steps of load, store, evict and scan.
+// What the calls do once their tests have passed: the steps of load, store, evict and scan. Board and work memory are lent side by side: behind a
+// call that is lent a struct of both, its caller no longer knows what either has.
 #![tactic(auto)]
 
 mod moves;

@@ -37,14 +37,6 @@ use Rattle.undo.specs.Laws.{formed_nonempty, proper_till}
 abbrev pub Bounds : (persisted older least : ℕ) → Type 0
 Bounds persisted older least = (till : ℕ) → leb least till ≡ ltb persisted till && leb older till
 
--- the test of an epoch, one law for each way out
-module _ (epoch least most : ℕ) where
-  pub between_above : least ≤ epoch → leb epoch most ≡ leb least epoch && leb epoch most
-  between_above h = rw (le-leb least epoch h)
-
-  pub between_below : epoch < least → false ≡ leb least epoch && leb epoch most
-  between_below h = rw (lt-leb least epoch h)
-
 -- the test of an entry's word, one law for each way out
 module _ (word lines least most : ℕ) (t : Bool) (address : t ≡ ltb (decode_entry word).address lines) where
   pub word_address : not t ≡ true → false ≡ proper_word lines least most (decode_entry word)

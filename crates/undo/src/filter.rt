@@ -1,5 +1,6 @@
 // The filter of the undo buffer: which addresses may have an entry there. No other module knows where its bits stand. The buffer is lent
-// whole: the places of its entries, and the filter's words behind them.
+// whole: the places of its entries, and the filter's words behind them. It is a slice: a lent part becomes an array only by a test, whose other way
+// out no call would take.
 ghost use Rattle.std.specs.Prelude.{◌^◌, ◌<◌, length, ◌≡◌};
 ghost use Rattle.layout.specs.Limits.{address_bits, filter_size};
 ghost use Rattle.layout.specs.Memory.{filter_words, buffer_words};

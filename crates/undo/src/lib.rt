@@ -24,7 +24,8 @@ use layout::{CONTROL_AT, Control, ENTRY_WORDS, Entry, LOG_AT, MOST_AHEAD};
 pub use recovery::recover;
 
 // The undo log as a call carries it: what the control word says, how many entries the ring has place for (the paper's L)
-// and how many the buffer holds.
+// and how many the buffer holds. It has no invariant of its own: the definitions `counted` and `flushed`
+// make values of it from any other.
 #[derive(Clone, Copy)]
 pub struct LogState {
     pub control: Control,
@@ -74,14 +75,12 @@ pub struct Progress {
 fn is_between(epoch: u64, least: u64, most: u64) -> bool
     ensures { result ≡ leb least epoch && leb epoch most }
 {
-    if epoch < least {
-        return false;
-    }
-    epoch <= most
+    least <= epoch && epoch <= most
 }
 
 // Whether the entry with this first word is proper. The persisted epoch and the older entry bound its till from below: least is
-// the larger bound. The persisted epoch alone bounds it from above.
+// the larger bound. The persisted epoch alone bounds it from above. That lines and epochs are within their limits stays a clause here and below:
+// callers have them as numbers of the board and of the registers, and a type of each would be taken apart again in every test.
 fn is_proper_word(word: u64, lines: u64, least: u64, most: u64) -> bool
     requires le_lines { 1 ≤ lines }
     requires lines_le_most_lines { lines ≤ most_lines }
@@ -212,7 +211,8 @@ fn dropped_by(board: &[u64], undo: LogState, target: u64) -> u64
     (run + useless_in(newer, target)) as u64
 }
 
-// Whether the buffered entry with this first word is proper.
+// Whether the buffered entry with this first word is proper. Not `is_proper_word` at 0 and the epoch: the till is not needed besides, and tests
+// on the word as it is cost an instruction less an entry.
 fn is_buffered_proper(word: u64, lines: u64, epoch: u64) -> bool
     requires le_lines { 1 ≤ lines }
     requires lines_le_most_lines { lines ≤ most_lines }
