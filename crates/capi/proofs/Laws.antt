@@ -18,7 +18,7 @@ use Rattle.checks.specs.Refusals.{Checked, running_checked}
 use Rattle.picl.specs.Answers.{Verdict, answer_of}
 use Rattle.picl.specs.Calls as call
 use Rattle.picl.specs.Calls.{verdict_of, no_allowance, judged, unstored, format_report, format_after, report_of, tally_report}
-use Rattle.picl.specs.Promises.{Answers, Formats}
+use Rattle.picl.specs.Promises.{Answers, Calls, Formats}
 use Rattle.convert.specs.Convert.{Conversion, conversion_report, memory_after, Converts}
 use Rattle.intel_hex.specs.Export.{export_report, export_text, Exports}
 use Rattle.capi.specs.Places.{epoch_at, buffered_at, cursor_at, dirty_at, register_words, answer_words, has_answer, has_both, has_places, read_registers, write_registers}
@@ -152,12 +152,22 @@ tally_reports board work r = go (running_checked board work r)
     go (Ok w) = refl
 
 module _ (board work registers answer : List ℕ) (t : Bool) (is : t ≡ has_places registers answer) where
-  pub tally_made : (given : Report) (answer' : List ℕ) (number : ℕ) → not t ≡ false → given ≡ tally_report board work (read_registers registers)
+  -- a call on registers that are read from their places
+  pub call_made : (c : call.Call) (allowance : ℕ) (r : Registers) (board' work' registers' answer' : List ℕ) (a : Answer) (number : ℕ) → not t ≡ false
+      → r ≡ read_registers registers → Calls c allowance r board work board' work' a → Gives registers answer a registers' answer' number
+      → back number board' work' registers' answer' ≡ call_crossing c allowance board work registers answer
+  call_made c allowance r board' work' registers' answer' a number e read x =
+      crossing_made allowance (read_registers registers) (verdict_of board work (read_registers registers) c) board work registers answer t is
+      board' work' registers' answer' a number e (rw read at x)
+
+  pub tally_made : (r : Registers) (given : Report) (answer' : List ℕ) (number : ℕ) → not t ≡ false → r ≡ read_registers registers
+      → given ≡ tally_report board work r
       → Reports answer given answer' number → back number board work registers answer' ≡ call_crossing call.tally no_allowance board work registers answer
   unfolding crossing
-  tally_made given answer' number e x g =
+  tally_made given_registers given answer' number e read told_as g =
       let p = sym is ∙ not-false t e in
       let r = read_registers registers in
+      let x = rw read at told_as in
       let kept = tally_answers board work r in
       let told = x ∙ tally_reports board work r in
       rw (p, g.number_is, g.answer_left, told, kept.0, kept.1, kept.2, written_again registers (array_lent register_words registers answer p))

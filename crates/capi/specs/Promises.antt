@@ -1,6 +1,7 @@
 -- What the functions promise that fill the arrays.
-use Rattle.std.specs.Prelude.{ℕ, ◌≡◌, false, List}
-use Rattle.status.specs.Numbers.{number_of, is_cut}
+use Rattle.std.specs.Prelude.{ℕ, ◌≡◌, ◌≢◌, List}
+use Rattle.status.specs.declared.Status.TheVariants as status
+use Rattle.status.specs.Numbers.{number_of}
 use Rattle.checks.specs.declared.Registers.{Registers}
 use Rattle.checks.specs.Registers.{given}
 use Rattle.picl.specs.declared.Answer.{Answer}
@@ -18,7 +19,7 @@ with_pass r left = given r.epoch left.buffered r.cursor left.dirty r.target
 
 -- unless it was cut, a call has left s, c and the target of these registers as they were
 pub record LeavesPass (r : Registers) (a : Answer) : Type 0 where
-  pub same : is_cut a.status ≡ false → with_pass r a.registers ≡ a.registers
+  pub same : (a.status ≢ status.Cut) → with_pass r a.registers ≡ a.registers
 
 pub record Reports (answer : List ℕ) (r : Report) (answer' : List ℕ) (number : ℕ) : Type 0 where
   pub number_is : number ≡ number_of r.status

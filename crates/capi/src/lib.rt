@@ -4,7 +4,6 @@
 
 mod importing;
 mod places;
-mod reading;
 mod recording;
 
 ghost use Rattle.std.specs.Prelude.{length, ◌≡◌};
@@ -18,7 +17,7 @@ ghost use Rattle.intel_hex.specs.Export.{export_report, export_text};
 
 use importing::{has_reader_places, put_reader, read_reader};
 use picl::Report;
-use places::{TOO_SHORT, give, give_line, has_answer, has_places, report};
+use places::{TOO_SHORT, give, give_line, has_answer, has_places, read_registers, report};
 use recording::{has_record_places, put_record};
 use status::Status;
 
@@ -73,7 +72,7 @@ pub extern "C" fn picl_load(
     if !has_places(registers, answer) {
         return TOO_SHORT;
     }
-    let given = reading::load(board, work, registers, address, allowance);
+    let given = picl::load(board, work, read_registers(registers), address, allowance);
     give_line(registers, answer, given)
 }
 
@@ -93,7 +92,14 @@ pub extern "C" fn picl_store(
     if !has_places(registers, answer) {
         return TOO_SHORT;
     }
-    let given = reading::store(board, work, registers, address, value, allowance);
+    let given = picl::store(
+        board,
+        work,
+        read_registers(registers),
+        address,
+        value,
+        allowance,
+    );
     give_line(registers, answer, given)
 }
 
@@ -112,7 +118,7 @@ pub extern "C" fn picl_evict(
     if !has_places(registers, answer) {
         return TOO_SHORT;
     }
-    let given = reading::evict(board, work, registers, address, allowance);
+    let given = picl::evict(board, work, read_registers(registers), address, allowance);
     give_line(registers, answer, given)
 }
 
@@ -130,7 +136,7 @@ pub extern "C" fn picl_commit(
     if !has_places(registers, answer) {
         return TOO_SHORT;
     }
-    let given = reading::commit(board, work, registers, allowance);
+    let given = picl::commit(board, work, read_registers(registers), allowance);
     give(registers, answer, given)
 }
 
@@ -148,7 +154,7 @@ pub extern "C" fn picl_begin(
     if !has_places(registers, answer) {
         return TOO_SHORT;
     }
-    let given = reading::begin(board, work, registers, target);
+    let given = picl::begin(board, work, read_registers(registers), target);
     give(registers, answer, given)
 }
 
@@ -166,7 +172,7 @@ pub extern "C" fn picl_scan(
     if !has_places(registers, answer) {
         return TOO_SHORT;
     }
-    let given = reading::scan(board, work, registers, allowance);
+    let given = picl::scan(board, work, read_registers(registers), allowance);
     give(registers, answer, given)
 }
 
@@ -183,7 +189,7 @@ pub extern "C" fn picl_tally(
     if !has_places(registers, answer) {
         return TOO_SHORT;
     }
-    let counted = reading::tally(board, work, registers);
+    let counted = picl::tally(board, work, read_registers(registers));
     report(answer, counted)
 }
 

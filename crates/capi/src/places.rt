@@ -1,10 +1,11 @@
-// Where registers and answer stand in the arrays that C lends.
+// Where registers and answer stand in the arrays that C lends, by the names that include/picl.h has for them.
 ghost use Rattle.std.specs.Prelude.{◌≡◌, true, ◌≤◌, length};
 ghost use Rattle.capi.specs.Places.{register_words, answer_words, has_answer, has_places, read_registers, write_registers, write_answer};
 ghost use Rattle.capi.specs.Promises.{Gives, Reports, LeavesPass};
 
 use checks::Registers;
 use picl::{Answer, Report};
+use status::Status;
 
 const EPOCH_AT: usize = 0;
 
@@ -46,13 +47,13 @@ pub fn read_registers(registers: &[u64]) -> Registers
     requires { register_words ≤ length registers.now }
     ensures { result ≡ read_registers registers.now }
 {
-    Registers::given(
-        registers[EPOCH_AT],
-        registers[BUFFERED_AT],
-        registers[CURSOR_AT],
-        registers[DIRTY_AT],
-        registers[TARGET_AT],
-    )
+    Registers {
+        epoch: registers[EPOCH_AT],
+        buffered: registers[BUFFERED_AT],
+        cursor: registers[CURSOR_AT],
+        dirty: registers[DIRTY_AT],
+        target: registers[TARGET_AT],
+    }
 }
 
 fn write_registers(registers: &mut [u64], new: Registers)
@@ -79,10 +80,9 @@ pub fn give(registers: &mut [u64], answer: &mut [u64], given: Answer) -> u64
     requires { has_places registers.old answer.old ≡ true }
     ensures { Gives registers.old answer.old given registers.new answer.new result }
 {
-    let status = given.status;
     write_registers(registers, given.registers);
     write_answer(answer, given.value, given.stores);
-    status.number()
+    u64::from(given.status)
 }
 
 // The same for a call on one line. Unless it was cut it leaves s, c and the target as they were, and so as they stand.
@@ -91,14 +91,13 @@ pub fn give_line(registers: &mut [u64], answer: &mut [u64], given: Answer) -> u6
     requires leaves_pass { LeavesPass (read_registers registers.old) given }
     ensures { Gives registers.old answer.old given registers.new answer.new result }
 {
-    let status = given.status;
-    if status.is_cut() {
+    if given.status == Status::Cut {
         return give(registers, answer, given);
     }
     registers[BUFFERED_AT] = given.registers.buffered;
     registers[DIRTY_AT] = given.registers.dirty;
     write_answer(answer, given.value, given.stores);
-    status.number()
+    u64::from(given.status)
 }
 
 // The same for a call that returns no registers.
@@ -106,7 +105,6 @@ pub fn report(answer: &mut [u64], made: Report) -> u64
     requires { has_answer answer.old ≡ true }
     ensures { Reports answer.old made answer.new result }
 {
-    let status = made.status;
     write_answer(answer, made.value, made.stores);
-    status.number()
+    u64::from(made.status)
 }

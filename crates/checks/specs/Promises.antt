@@ -1,5 +1,5 @@
 -- What a view that was read, and one that passed a call's first tests, tell.
-use Rattle.std.specs.Prelude.{◌≡◌, ℕ, ◌+◌, ◌-◌, ◌<◌, ◌≤◌, Bool, true, List, [], ◌∷◌, length, ◌==◌, ◌≢◌}
+use Rattle.std.specs.Prelude.{Ok, ◌≡◌, ℕ, ◌+◌, ◌-◌, ◌<◌, ◌≤◌, Bool, true, List, [], ◌∷◌, length, ◌==◌, ◌≢◌}
 use Rattle.layout.specs.Limits.{last_epoch, ways, most_slots, buffer_places, most_ahead}
 use Rattle.layout.specs.Memory.{board_words, work_words, slot_at}
 use Rattle.layout.specs.Sizes.{Sizes, Bounded, WholeSets}
@@ -8,8 +8,9 @@ use Rattle.checks.specs.declared.Registers.{Registers}
 use Rattle.checks.specs.declared.View.{View}
 use Rattle.status.specs.declared.Status.TheVariants as status
 use Rattle.slots.specs.Passes.{nowhere, first_slot_of}
-use Rattle.slots.specs.Sets.{slots_from}
-use Rattle.checks.specs.Refusals.{Row, row}
+use Rattle.slots.specs.Sets.{slots_from, spot_of}
+use Rattle.checks.specs.declared.Line.{Line}
+use Rattle.checks.specs.Refusals.{Row, row, line_checked, store_checked}
 use Rattle.checks.specs.View.{view_of, proper_pass, miscounted}
 
 pub record Viewed (board : List ℕ) (v : View) : Type 0 where
@@ -57,6 +58,16 @@ pub record RowsReady (work : List ℕ) (r : Registers) (v : View) : Type 0 where
   pub sets : WholeSets v.slots
   pub work_words_holds : length work ≡ work_words v.slots
   pub proper : Proper v r
+
+-- all tests of load and evict passed, and where the line is held or put
+pub record Sited (board work : List ℕ) (r : Registers) (address : ℕ) (l : Line) : Type 0 where
+  pub passed : Ok l.view ≡ line_checked board work r address
+  pub at : l.spot ≡ spot_of work l.view.slots address
+
+-- and of store
+pub record Roomy (board work : List ℕ) (r : Registers) (address : ℕ) (l : Line) : Type 0 where
+  pub passed : Ok l.view ≡ store_checked board work r address
+  pub at : l.spot ≡ spot_of work l.view.slots address
 
 -- 6 and the count's test as a pass over a set tells them: nowhere, or of the set in which the site is
 abbrev pub site_rows : View → List ℕ → Registers → (site : ℕ) → List Row

@@ -1,6 +1,6 @@
 -- A call makes its check in stages: what the answer of one stage tells of the whole check, and what it gives the next stage. The premises
 -- are what the code knows there.
-use Rattle.std.specs.Prelude.{Ok, Err, IsErrAnd, ◌≡◌, ℕ, ◌+◌, ◌-◌, ◌<◌, ◌≤◌, Bool, true, false, List, ◌++◌, length, ◌≢◌, refl}
+use Rattle.std.specs.Prelude.{Result, Ok, Err, IsErrAnd, MatchResult, ◌≡◌, ℕ, ◌+◌, ◌-◌, ◌<◌, ◌≤◌, Bool, true, false, List, ◌++◌, length, ◌≢◌, refl}
 use Rattle.std.proofs.Common.{sym, ap, ◌∙◌, arith}
 use Rattle.layout.specs.Laws.{control_laws}
 use Rattle.layout.specs.Limits.{last_epoch, ways, most_slots}
@@ -16,34 +16,32 @@ use Rattle.slots.specs.Sited.{bounds_by_holds, tags_ready, site_improper, site_s
 use Rattle.slots.specs.Slots.{dirty_slot}
 use Rattle.checks.specs.declared.Refusal.{Refusal}
 use Rattle.checks.specs.declared.Registers.{Registers}
+use Rattle.checks.specs.declared.Line.{Line}
 use Rattle.checks.specs.declared.View.{View}
 use Rattle.checks.specs.View.{view_of, bounds_of}
 use Rattle.checks.specs.Refusals.{Checked, unvalued, Row, tested, then, line_rows, buffer_rows, room_rows}
 use Rattle.checks.specs.Refusals.{memories_checked, running_checked, ready_checked, named_checked, line_checked, store_checked}
-use Rattle.checks.specs.Promises.{Running, RowsReady, SiteReady, site_rows}
+use Rattle.checks.specs.Promises.{Running, RowsReady, SiteReady, Sited, Roomy, site_rows}
 use Rattle.checks.specs.Laws.{passed_view, then_passed, memories_shaped, running, ready_running, named_running, named_inside, line_running, line_proper}
 
 -- what `?` hands on is what the check before it has refused
+pub handed_as : {T U : Type 0} (P : T → Type 0) (Q : U → Type 0) (k : Result T U) (why : U) → IsErrAnd k (λ x. x ≡ why) → Q why → MatchResult k P Q
+handed_as P Q (Ok v) why same q = absurd same
+handed_as P Q (Err x) why same q = rw same q
+
 pub handed : (whole k : Checked) (why : Refusal) → IsErrAnd k (λ x. x ≡ why) → Err why ≡ whole → k ≡ whole
 handed whole (Ok v) why same e = absurd same
 handed whole (Err x) why same e = rw same e
-
--- a check that is known by what a function has answered
-module _ (whole k : Checked) (is : k ≡ whole) where
-  pub told_refused : (why : Refusal) → k ≡ Err why → Err why ≡ whole
-  told_refused why e = sym e ∙ is
-
-  pub told_passed : (v : View) → k ≡ Ok v → Ok v ≡ whole
-  told_passed v e = sym e ∙ is
 
 -- rows behind a check that passed
 module _ (before : Checked) (rows : View → List Row) (v : View) (passed : Ok v ≡ before) (k : Checked) (is : k ≡ tested (rows v) v) where
   pub staged : k ≡ then before rows
   staged = is ∙ sym (then_passed before rows v passed)
 
-  -- what passes is the view that was tested
-  pub staged_passed : (w : View) → k ≡ Ok w → Ok v ≡ then before rows
-  staged_passed w e = rw (passed_view (rows v) v w (sym e ∙ is)) at (sym e) ∙ staged
+-- what passes is the view that was tested
+pub staged_passed : (before : Checked) (rows : View → List Row) (v w : View) → Ok v ≡ before → Ok w ≡ tested (rows v) v → Ok v ≡ then before rows
+staged_passed before rows v w passed is =
+    rw (passed_view (rows v) v w is) at (staged before rows v passed (Ok w) is)
 
 ready_of : (board work : List ℕ) (r : Registers) (v : View) → Running board work r v → RowsReady work r v
 ready_of board work r v h =
@@ -137,37 +135,37 @@ module _ (board work : List ℕ) (r : Registers) (address : ℕ) (v : View) (pas
           go false e = rw (e, site_improper (bounds_of v r) work address some most e)
 
       -- 6, the count, 7 and 14
-      module _ (k : Checked) (is : k ≡ tested (site_rows v work r site ++ buffer_rows v work r) v) where
-        pub line_staged : k ≡ line_checked board work r address
-        unfolding line_checked
-        line_staged = staged (named_checked board work r address) (λ w. line_rows w work r address) v passed k (is ∙ site_tested)
+      abbrev site_rest : Checked
+      site_rest = tested (site_rows v work r site ++ buffer_rows v work r) v
 
-        pub line_passed : (w : View) → k ≡ Ok w → Ok v ≡ line_checked board work r address
-        unfolding line_checked
-        line_passed = staged_passed (named_checked board work r address) (λ w. line_rows w work r address) v passed k (is ∙ site_tested)
+      pub line_staged : (k : Checked) → k ≡ site_rest → k ≡ line_checked board work r address
+      unfolding line_checked
+      line_staged k is = staged (named_checked board work r address) (λ w. line_rows w work r address) v passed k (is ∙ site_tested)
 
-        -- and where the line is held or put
-        pub line_spot : (w : View) (spot : Spot) → k ≡ Ok w → spot ≡ spot_at site → spot ≡ spot_of work v.slots address
-        line_spot w spot e at =
-            let whole = here ∙ site_proper (bounds_of v r) work address some most (line_proper board work r address v (line_passed w e)) in
-            at ∙ ap spot_at whole ∙ spot_again (spot_of work v.slots address)
+      -- and where the line is held or put
+      pub line_sited : (w : View) (l : Line) → Ok w ≡ site_rest → l.view ≡ v → l.spot ≡ spot_at site → Sited board work r address l
+      unfolding line_checked
+      line_sited w l is e at =
+          let all : Ok v ≡ line_checked board work r address =
+          staged_passed (named_checked board work r address) (λ w. line_rows w work r address) v w passed (is ∙ site_tested) in
+          let whole = here ∙ site_proper (bounds_of v r) work address some most (line_proper board work r address v all) in
+          record { passed = rw e all; at = rw e (at ∙ ap spot_at whole ∙ spot_again (spot_of work v.slots address)) }
 
 -- 8 of store, behind the rows of load
-module _ (board work : List ℕ) (r : Registers) (address : ℕ) (v : View) (passed : Ok v ≡ line_checked board work r address) where
-  pub line_ready : RowsReady work r v
-  line_ready = ready_of board work r v (line_running board work r address v passed)
+module _ (board work : List ℕ) (r : Registers) (address : ℕ) (l : Line) (s : Sited board work r address l) where
+  pub line_ready : RowsReady work r l.view
+  line_ready = ready_of board work r l.view (line_running board work r address l.view s.passed)
 
-  module _ (spot : Spot) (at : spot ≡ spot_of work v.slots address) where
-    pub line_below : spot.slot < v.slots
-    line_below = rw at (spot_below work v.slots address line_ready.sets.some)
+  pub line_below : l.spot.slot < l.view.slots
+  line_below = rw s.at (spot_below work l.view.slots address line_ready.sets.some)
 
-    module _ (k : Checked) (is : k ≡ tested (room_rows v work r spot) v) where
-      pub room_staged : k ≡ store_checked board work r address
-      unfolding store_checked
-      room_staged =
-          staged (line_checked board work r address) (λ w. room_rows w work r (spot_of work w.slots address)) v passed k (rw at at is)
+  abbrev room : View → List Row
+  room w = room_rows w work r (spot_of work w.slots address)
 
-      pub room_passed : (w : View) → k ≡ Ok w → Ok v ≡ store_checked board work r address
-      unfolding store_checked
-      room_passed =
-          staged_passed (line_checked board work r address) (λ w. room_rows w work r (spot_of work w.slots address)) v passed k (rw at at is)
+  pub room_staged : (k : Checked) → k ≡ tested (room_rows l.view work r l.spot) l.view → k ≡ store_checked board work r address
+  unfolding store_checked
+  room_staged k is = staged (line_checked board work r address) room l.view s.passed k (rw s.at at is)
+
+  pub room_passed : (w : View) → Ok w ≡ tested (room_rows l.view work r l.spot) l.view → Roomy board work r address l
+  unfolding store_checked
+  room_passed w is = record { passed = staged_passed (line_checked board work r address) room l.view w s.passed (rw s.at at is); at = s.at }

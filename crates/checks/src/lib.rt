@@ -8,7 +8,7 @@ ghost use Rattle.std.specs.Prelude.{◌≡◌, ◌+◌, ◌-◌, ◌<◌, ◌≤
 ghost use Rattle.layout.specs.Limits.{last_epoch, ways, most_slots};
 ghost use Rattle.layout.specs.Memory.{log_at, slot_at, slot_words, buffer_words};
 ghost use Rattle.layout.specs.Words.{ControlFits, OwnLines, encode_slot};
-ghost use Rattle.checks.specs.Registers.{all_zero, given, restarted, committed, begun, stepped, ended, recounted, leaving, scan_target};
+ghost use Rattle.checks.specs.Registers.{all_zero, restarted, committed, begun, stepped, ended, recounted, leaving, scan_target};
 ghost use Rattle.checks.specs.View.{good_control, good_shape, proper_epoch, proper_counts, proper_pass, proper_registers, waits, miscounted};
 ghost use Rattle.checks.specs.View.{lent, bounds_of, undo_of};
 ghost use Rattle.checks.specs.Promises.{Viewed, Countable};
@@ -18,16 +18,16 @@ ghost use Rattle.slots.specs.Slots.{dirty_slot};
 
 use layout::{BUFFER_PLACES, CONTROL_AT, Control, LAST_EPOCH, MOST_AHEAD, SHAPE_AT, Shape};
 pub use refusals::{
-    check_begin, check_board, check_commit, check_named, check_power_up, check_ready, check_room,
-    check_running, check_scan, check_site,
+    check_begin, check_board, check_commit, check_line, check_power_up, check_ready, check_running,
+    check_scan, check_store,
 };
 pub use sizes::{is_good_sizes, is_good_work};
-use slots::Bounds;
+use slots::{Bounds, Spot};
 use status::Status;
 use undo::{LogState, Progress};
 
 // s, b and c of the paper, the count of dirty slots and the target: the running epoch, the number of buffered entries, the scan's cursor and
-// the epoch that its pass persists, 0 outside a pass.
+// the epoch that its pass persists, 0 outside a pass: five words, as C hands them in, and no Option for the target.
 #[derive(Clone, Copy)]
 pub struct Registers {
     pub epoch: u64,
@@ -38,6 +38,7 @@ pub struct Registers {
 }
 
 impl Registers {
+    // Not a derived Default: its clause is an equation for each field, and every caller would need a law to join them.
     pub fn all_zero() -> Registers
         ensures { result ≡ all_zero }
     {
@@ -50,19 +51,6 @@ impl Registers {
         }
     }
 
-    // As a caller hands them in: any words.
-    pub fn given(epoch: u64, buffered: u64, cursor: u64, dirty: u64, target: u64) -> Registers
-        ensures { result ≡ given epoch buffered cursor dirty target }
-    {
-        Registers {
-            epoch,
-            buffered,
-            cursor,
-            dirty,
-            target,
-        }
-    }
-
     // Of a controller that has just powered up.
     pub fn restarted(persisted: u64) -> Registers
         requires { persisted < last_epoch }
@@ -70,10 +58,7 @@ impl Registers {
     {
         Registers {
             epoch: persisted + 1,
-            buffered: 0,
-            cursor: 0,
-            dirty: 0,
-            target: 0,
+            ..Registers::all_zero()
         }
     }
 
@@ -82,9 +67,10 @@ impl Registers {
         requires { self.epoch ≤ last_epoch }
         ensures { result ≡ committed self }
     {
-        let mut r = self;
-        r.epoch += 1;
-        r
+        Registers {
+            epoch: self.epoch + 1,
+            ..self
+        }
     }
 
     // The target of a scan: that of the pass, or the oldest epoch that waits, with which the scan begins one.
@@ -102,9 +88,7 @@ impl Registers {
     pub fn begun(self, target: u64) -> Registers
         ensures { result ≡ begun self target }
     {
-        let mut r = self;
-        r.target = target;
-        r
+        Registers { target, ..self }
     }
 
     // With the cursor at the next slot.
@@ -112,28 +96,31 @@ impl Registers {
         requires { self.cursor ≤ most_slots }
         ensures { result ≡ stepped self }
     {
-        let mut r = self;
-        r.cursor += 1;
-        r
+        Registers {
+            cursor: self.cursor + 1,
+            ..self
+        }
     }
 
     // Outside a pass, the cursor before the first slot.
     pub fn ended(self) -> Registers
         ensures { result ≡ ended self }
     {
-        let mut r = self;
-        r.cursor = 0;
-        r.target = 0;
-        r
+        Registers {
+            cursor: 0,
+            target: 0,
+            ..self
+        }
     }
 
     // With what the steps of a call have left: the entries that are still buffered.
     pub fn leaving(self, done: Progress) -> Registers
         ensures { result ≡ leaving self done.undo }
     {
-        let mut r = self;
-        r.buffered = done.undo.buffered;
-        r
+        Registers {
+            buffered: done.undo.buffered,
+            ..self
+        }
     }
 
     // With what a step on one slot has left: and so one dirty slot less where it has found the slot dirty, one more where it leaves it dirty.
@@ -141,10 +128,11 @@ impl Registers {
         requires { Countable self was }
         ensures { result ≡ leaving (recounted self was is) done.undo }
     {
-        let mut r = self;
-        r.buffered = done.undo.buffered;
-        r.dirty = self.dirty - layout::bit(was) + layout::bit(is);
-        r
+        Registers {
+            buffered: done.undo.buffered,
+            dirty: self.dirty - layout::bit(was) + layout::bit(is),
+            ..self
+        }
     }
 
     // Ahead of the persisted epoch, and not too far. One comparison for both ends: an epoch that is not ahead wraps round to more than
@@ -255,11 +243,9 @@ impl View {
         requires { log_at ≤ length board.now }
         ensures { Viewed board.now result }
     {
-        let control = Control::from(board[CONTROL_AT]);
-        let shape = Shape::from(board[SHAPE_AT]);
         View {
-            control,
-            shape,
+            control: Control::from(board[CONTROL_AT]),
+            shape: Shape::from(board[SHAPE_AT]),
             slots: 0,
         }
     }
@@ -269,12 +255,9 @@ impl View {
         requires { buffer_words ≤ words }
         ensures { result ≡ lent self words }
     {
-        let control = self.control;
-        let shape = self.shape;
         View {
-            control,
-            shape,
             slots: layout::slots_of(words),
+            ..self
         }
     }
 
@@ -334,25 +317,26 @@ impl View {
     pub fn log(self) -> LogState
         ensures { result ≡ undo_of self all_zero }
     {
-        let control = self.control;
-        LogState {
-            control,
-            entries: self.shape.entries,
-            buffered: 0,
-        }
+        self.undo(Registers::all_zero())
     }
 
     // The undo log as the call carries it.
     pub fn undo(self, registers: Registers) -> LogState
         ensures { result ≡ undo_of self registers }
     {
-        let control = self.control;
         LogState {
-            control,
+            control: self.control,
             entries: self.shape.entries,
             buffered: registers.buffered,
         }
     }
+}
+
+// What the tests of load, store and evict have found: what the call has read, and the slot that holds its line or takes it.
+#[derive(Clone, Copy)]
+pub struct Line {
+    pub view: View,
+    pub spot: Spot,
 }
 
 // Why a call's tests refuse it, and with which value.

@@ -1,18 +1,18 @@
 // The paper's table of refusals. A call makes its tests in stages, in the order of specs/Refusals. Each check stands behind another:
 // check_board (1), check_memories (and 2), check_power_up (and 3); check_running (1 2 4), check_ready (1 2 4 7 14), and behind that
-// check_commit (9 10) and check_begin (15). Load, store and evict make check_named (1 2 4 5), a pass over their set, check_site (6, the
-// count's 4, 7 and 14) and, store alone, check_room (8). Scan makes check_running and check_scan (6, the count's 4, 7, 14 and 11).
-ghost use Rattle.std.specs.Prelude.{◌≡◌, ◌<◌, ◌≤◌, ◌++◌, length};
+// check_commit (9 10) and check_begin (15). Load and evict make check_line: check_named (1 2 4 5), a pass over their set and check_site (6,
+// the count's 4, 7 and 14); check_store has check_room (8) besides. Scan makes check_running and check_visit (6, the count's 4, 7, 14 and 11).
+// Those that calls share are `#[inline(always)]`: then a Result is no struct in memory, and costs a commit 80 instructions less.
+ghost use Rattle.std.specs.Prelude.{Err, MatchResult, ◌≡◌, ◌<◌, ◌≤◌, ◌++◌, length};
 ghost use Rattle.layout.specs.Limits.{last_epoch};
 ghost use Rattle.layout.specs.Words.{ControlFits};
 ghost use Rattle.checks.specs.Refusals.{tested, entry_rows, register_rows, buffer_rows, address_rows, room_rows, epoch_rows, cursor_rows, waiting_rows, scan_rows, target_rows};
-ghost use Rattle.checks.specs.Refusals.{board_checked, memories_checked, power_up_checked, running_checked, ready_checked, named_checked, commit_checked, begin_checked};
-ghost use Rattle.checks.specs.Promises.{Shaped, RowsReady, SiteReady, site_rows};
+ghost use Rattle.checks.specs.Refusals.{board_checked, memories_checked, power_up_checked, running_checked, ready_checked, named_checked, commit_checked, begin_checked, scan_checked, line_checked, store_checked};
+ghost use Rattle.checks.specs.Promises.{Shaped, RowsReady, SiteReady, site_rows, Sited, Roomy};
 
 use crate::sizes::is_good_work;
-use crate::{Refusal, Registers, View};
+use crate::{Line, Refusal, Registers, View};
 use layout::{LAST_EPOCH, LOG_AT, MOST_AHEAD, SHAPE_AT, Shape};
-use slots::Spot;
 use status::Status;
 
 // 1 of the paper's table.
@@ -87,6 +87,9 @@ pub fn check_running(board: &[u64], work: &[u64], registers: Registers) -> Resul
     check_registers(view, registers)
 }
 
+// RowsReady is a `requires` of six functions: as the ghost field of a struct of view, work memory and registers it was tried, and then each
+// clause says `self.old.view` and `self.old.work`, which is no plainer.
+
 // 7 and 14. One pass tells that neither holds; only where one does, another tells which.
 fn check_buffer(view: View, work: &[u64], registers: Registers) -> Result<View, Refusal>
     requires { RowsReady work.now registers view }
@@ -133,7 +136,7 @@ fn check_address(view: View, address: u64) -> Result<View, Refusal>
 
 // 1, 2, 4 and 5 of load, store and evict.
 #[inline(always)]
-pub fn check_named(
+fn check_named(
     board: &[u64],
     work: &[u64],
     registers: Registers,
@@ -159,13 +162,9 @@ fn check_set(view: View, work: &[u64], registers: Registers, site: usize) -> Res
     Ok(view)
 }
 
-// And then 7 and 14.
-pub fn check_site(
-    view: View,
-    work: &[u64],
-    registers: Registers,
-    site: usize,
-) -> Result<View, Refusal>
+// The rows behind 5 of load, store and evict: 6, the count's 4, 7 and 14.
+#[inline(always)]
+fn check_site(view: View, work: &[u64], registers: Registers, site: usize) -> Result<View, Refusal>
     requires rows_ready { RowsReady work.now registers view }
     requires site_ready { SiteReady work.now view site }
     ensures { result ≡ tested (site_rows view work.now registers site ++ buffer_rows view work.now registers) view }
@@ -174,24 +173,58 @@ pub fn check_site(
     check_buffer(view, work, registers)
 }
 
-// 8 of store.
-pub fn check_room(
-    view: View,
+// All of load and evict, by one pass over the set of the address.
+#[inline(always)]
+pub fn check_line(
+    board: &[u64],
     work: &[u64],
     registers: Registers,
-    spot: Spot,
-) -> Result<View, Refusal>
-    requires rows_ready { RowsReady work.now registers view }
-    requires slot_lt_slots { spot.slot < view.slots }
-    ensures { result ≡ tested (room_rows view work.now registers spot) view }
+    address: u64,
+) -> Result<Line, Refusal>
+    ensures { MatchResult result (λ line. Sited board.now work.now registers address line)
+        (λ refusal. Err refusal ≡ line_checked board.now work.now registers address) }
 {
-    if !slots::is_undo_due(work, spot, registers.epoch) {
+    let view = check_named(board, work, registers, address)?;
+    let least = view.least_tag();
+    let tags = view.tags(registers);
+    let site = slots::site_for(work, view.slots, view.shape.lines, least, tags, address);
+    check_site(view, work, registers, site)?;
+    Ok(Line {
+        view,
+        spot: slots::spot_at(site),
+    })
+}
+
+// 8 of store.
+fn check_room(line: Line, work: &[u64], registers: Registers) -> Result<View, Refusal>
+    requires rows_ready { RowsReady work.now registers line.view }
+    requires slot_lt_slots { line.spot.slot < line.view.slots }
+    ensures { result ≡ tested (room_rows line.view work.now registers line.spot) line.view }
+{
+    let view = line.view;
+    if !slots::is_undo_due(work, line.spot, registers.epoch) {
         return Ok(view);
     }
     if view.control.length + registers.buffered + 1 > view.shape.entries {
         return Err(Refusal::from(Status::Room));
     }
     Ok(view)
+}
+
+// All of store.
+#[inline(always)]
+pub fn check_store(
+    board: &[u64],
+    work: &[u64],
+    registers: Registers,
+    address: u64,
+) -> Result<Line, Refusal>
+    ensures { MatchResult result (λ line. Roomy board.now work.now registers address line)
+        (λ refusal. Err refusal ≡ store_checked board.now work.now registers address) }
+{
+    let line = check_line(board, work, registers, address)?;
+    check_room(line, work, registers)?;
+    Ok(line)
 }
 
 // 9 and 10 of commit.
@@ -281,10 +314,17 @@ fn check_scan_end(view: View, work: &[u64], registers: Registers) -> Result<View
 }
 
 // The rows of scan behind 1, 2 and 4.
-pub fn check_scan(view: View, work: &[u64], registers: Registers) -> Result<View, Refusal>
+fn check_visit(view: View, work: &[u64], registers: Registers) -> Result<View, Refusal>
     requires { RowsReady work.now registers view }
     ensures { result ≡ tested (scan_rows view work.now registers) view }
 {
     check_cursor(view, work, registers)?;
     check_scan_end(view, work, registers)
+}
+
+pub fn check_scan(board: &[u64], work: &[u64], registers: Registers) -> Result<View, Refusal>
+    ensures { result ≡ scan_checked board.now work.now registers }
+{
+    let view = check_running(board, work, registers)?;
+    check_visit(view, work, registers)
 }

@@ -106,7 +106,13 @@ fn of_answer(answer: picl::Answer) -> Outcome {
 impl Side for Library {
     fn call(board: &mut [u64], work: &mut [u64], registers: Words, call: Call) -> Outcome {
         let [epoch, buffered, cursor, dirty, target] = registers;
-        let r = checks::Registers::given(epoch, buffered, cursor, dirty, target);
+        let r = checks::Registers {
+            epoch,
+            buffered,
+            cursor,
+            dirty,
+            target,
+        };
         let Call {
             kind,
             address,

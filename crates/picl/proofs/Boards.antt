@@ -28,7 +28,6 @@ use Rattle.checks.specs.Promises.{Shaped}
 use Rattle.checks.specs.Laws.{sizes_told, words_told, entries_shaped, entries_proper}
 use Rattle.checks.specs.Refusals.{Checked, power_up_checked}
 use Rattle.checks.specs.Registers as registers
-use Rattle.checks.specs.Stages.{told_refused}
 use Rattle.checks.specs.View.{good_sizes, undo_of}
 use Rattle.picl.specs.declared.Answer.{Answer}
 use Rattle.picl.specs.declared.Report.{Report}
@@ -71,12 +70,12 @@ module _ (allowance : ℕ) (board board' : List ℕ) (u : LogState) (m m' : Mete
       (ap length z ∙ length-replicate (length work) 0) (λ h. z) (λ h. refl) (λ h. e) f
 
 -- a power-up that is refused leaves registers zero
-pub power_up_refused : (allowance : ℕ) (board work : List ℕ) (k : Checked) (why : Refusal) (z : Registers) (a : Answer)
-    → k ≡ power_up_checked board work → k ≡ Err why → z ≡ registers.all_zero → a ≡ refusal why.status why.value z
+pub power_up_refused : (allowance : ℕ) (board work : List ℕ) (why : Refusal) (z : Registers) (a : Answer)
+    → Err why ≡ power_up_checked board work → z ≡ registers.all_zero → a ≡ refusal why.status why.value z
     → Answers allowance registers.all_zero board work (power_up_verdict board work) board work a
 unfolding power_up_verdict
-power_up_refused allowance board work k why z a is e n x =
-    judged_refused allowance board work registers.all_zero (power_up_checked board work) (power_up_outcome board work) why a (told_refused _ k is why e)
+power_up_refused allowance board work why z a e n x =
+    judged_refused allowance board work registers.all_zero (power_up_checked board work) (power_up_outcome board work) why a e
     (rw n at x)
 
 -- format

@@ -3,18 +3,10 @@ use Rattle.std.specs.Prelude.{ℕ, ◌+◌, ◌-◌, ◌<◌, ◌≤◌, ◌≡�
 use Rattle.board.specs.declared.Meter.{Meter}
 use Rattle.board.specs.Stores.{was_cut}
 use Rattle.layout.specs.Memory.{slot_at, slot_words}
-use Rattle.layout.specs.Words.{encode_slot}
-use Rattle.ranges.specs.Ranges.{Waits}
 use Rattle.status.specs.declared.Status.TheVariants as status
 use Rattle.undo.specs.declared.Progress.{Progress}
-use Rattle.slots.specs.declared.Spot.{Spot}
-use Rattle.slots.specs.Sets.{places_of, proper_set, spot_of}
-use Rattle.slots.specs.Slots.{proper_at, dirty_at, dirty_slot, undo_due}
-use Rattle.checks.specs.declared.View.{View}
-use Rattle.checks.specs.Promises.{Running, Countable}
-use Rattle.checks.specs.Refusals.{tested, line_rows, running_checked}
-use Rattle.checks.specs.Registers.{scan_target}
-use Rattle.checks.specs.View.{bounds_of}
+use Rattle.slots.specs.Slots.{dirty_at}
+use Rattle.checks.specs.Promises.{Countable}
 use Rattle.checks.specs.declared.Registers.{Registers}
 use Rattle.picl.specs.declared.Answer.{Answer}
 use Rattle.picl.specs.declared.Report.{Report}
@@ -51,20 +43,3 @@ pub record FinishReady (work : List ℕ) (k : ℕ) (was : Bool) (p : Progress) (
 pub record Found (work : List ℕ) (r : Registers) (k : ℕ) (was : Bool) : Type 0 where
   pub is : was ≡ dirty_at work k
   pub count : Countable r was
-
--- what the tests of each call told
-pub record LinePassed (board work : List ℕ) (r : Registers) (address : ℕ) (v : View) : Type 0 where
-  pub running : Running board work r v
-  pub named : address < v.shape.lines
-  pub slot : proper_set (bounds_of v r) work (places_of v.slots address) ≡ true
-  pub count : Countable r (dirty_at work (spot_of work v.slots address).slot)
-
-pub record StorePassed (board work : List ℕ) (r : Registers) (address : ℕ) (v : View) : Type 0 where
-  pub line : LinePassed board work r address v
-  pub room : undo_due work (spot_of work v.slots address) r.epoch ≡ true → v.control.length + r.buffered + 1 ≤ v.shape.entries
-
-pub record ScanPassed (board work : List ℕ) (r : Registers) (v : View) : Type 0 where
-  pub running : Running board work r v
-  pub slot : r.cursor < v.slots → proper_at (bounds_of v r) work r.cursor ≡ true
-  pub count : r.cursor < v.slots → Countable r (dirty_at work r.cursor)
-  pub aims : Waits v.control.persisted r.epoch (scan_target r v.control.persisted)

@@ -3,29 +3,29 @@
 #![tactic(auto)]
 
 mod epochs;
-mod evictions;
-mod loads;
+mod lines;
 mod memory;
-mod stores;
 
 ghost use Rattle.std.specs.Prelude.{◌+◌, ◌≤◌, ◌≡◌};
-ghost use Rattle.picl.specs.Answers.{refusal as refused};
+ghost use Rattle.picl.specs.Answers.{answer, refusal as refused};
+ghost use Rattle.status.specs.declared.Status.TheVariants as status;
 ghost use Rattle.picl.specs.Calls.{report};
 ghost use Rattle.slots.specs.Slots.{dirty_at};
+ghost use Rattle.board.specs.Stores.{full};
 ghost use Rattle.checks.specs.Registers.{recounted, leaving};
+ghost use Rattle.checks.specs.View.{undo_of};
 ghost use Rattle.picl.specs.Promises.{Finishes, FinishReady};
 
 use board::Meter;
-use checks::{Refusal, Registers};
+use checks::{Refusal, Registers, View};
 pub use epochs::{begin, commit, power_up, scan};
-pub use evictions::evict;
-pub use loads::load;
+pub use lines::{evict, load, store};
 pub use memory::{filter_bits, format, tally};
 use status::Status;
-pub use stores::store;
 use undo::Progress;
 
-// What a call answers: the paper's number, the value, the number of board stores made and the new registers.
+// What a call answers: the paper's number, the value, the number of board stores made and the new registers. No Result: C is given all of
+// them, whatever the number, and on a cut and a refusal too each has its meaning.
 #[derive(Clone, Copy)]
 pub struct Answer {
     pub status: Status,
@@ -72,6 +72,29 @@ fn refused(refusal: Refusal, registers: Registers) -> Answer
         value: refusal.value,
         stores: 0,
         registers,
+    }
+}
+
+// The answer of a call that makes no store and leaves both memories as they are.
+fn unstored(registers: Registers) -> Answer
+    ensures { result ≡ answer status.Ok 0 0 registers }
+{
+    Answer {
+        status: Status::Ok,
+        value: 0,
+        stores: 0,
+        registers,
+    }
+}
+
+// What the steps of a call begin with: the log as its tests have read it, and the whole allowance.
+fn progress(view: View, registers: Registers, allowance: u32) -> Progress
+    ensures undo { result.undo ≡ undo_of view registers }
+    ensures meter { result.meter ≡ full allowance }
+{
+    Progress {
+        undo: view.undo(registers),
+        meter: Meter::new(allowance),
     }
 }
 

@@ -40,8 +40,7 @@ pub fn filter_bits(work: &[u64]) -> Report
 pub fn tally(board: &[u64], work: &[u64], registers: Registers) -> Report
     ensures { result ≡ tally_report board.now work.now registers }
 {
-    let running = checks::check_running(board, work, registers);
-    match running {
+    match checks::check_running(board, work, registers) {
         Err(refusal) => Report::from(refusal),
         Ok(_) => Report::unstored(Status::Ok, registers.dirty),
     }

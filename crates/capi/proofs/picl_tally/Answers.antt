@@ -4,8 +4,8 @@ use Rattle.capi.proofs.picl_tally.Goals as goal
 pub returns-then-not-has_places : goal.returns-then-not-has_places
 returns-then-not-has_places c = search (crossing_short)
 
-pub tally-counted-requires : goal.tally-counted-requires
-tally-counted-requires c = search (array_tested)
+pub read_registers-requires : goal.read_registers-requires
+read_registers-requires c = search (array_tested)
 
 pub report-requires : goal.report-requires
 report-requires c = search (answer_behind)

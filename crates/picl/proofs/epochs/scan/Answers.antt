@@ -1,12 +1,8 @@
-use Rattle.checks.specs.Laws.{then_refused}
-use Rattle.checks.specs.Refusals.{scan_checked}
-use Rattle.checks.specs.Stages.{told_refused, told_passed}
 use Rattle.picl.proofs.Calling.{judged_refused}
 use Rattle.picl.proofs.epochs.scan.Goals as goal
 
-pub scan_running-requires : goal.scan_running-requires
-scan_running-requires c = search (told_passed)
+pub scan_passed-requires : goal.scan_passed-requires
+scan_passed-requires c = search (c.in-Ok.ensures)
 
 pub returns-in-Err : goal.returns-in-Err
-unfolding scan_checked
-returns-in-Err c = search (judged_refused, then_refused, told_refused)
+returns-in-Err c = search (judged_refused, c.in-Err.ensures)

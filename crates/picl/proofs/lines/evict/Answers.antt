@@ -1,0 +1,5 @@
+use Rattle.picl.proofs.Calling.{judged_refused}
+use Rattle.picl.proofs.lines.evict.Goals as goal
+
+pub returns-in-Err : goal.returns-in-Err
+returns-in-Err c = search (judged_refused, c.in-Err.ensures)
