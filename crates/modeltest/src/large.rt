@@ -68,8 +68,8 @@ impl fmt::Display for Size {
     }
 }
 
-// A board whose log fills the ring, from its last place on: every place has a proper entry. The lines and the old
-// data are any words.
+// A board whose log fills the ring, from its last place on: every place has a proper entry, whose address goes by its
+// number. The lines and the old data are any words.
 fn write<L: Layout>(board: &mut Large, lines: u64, entries: u64, seed: Seed) {
     let last = entries.wrapping_sub(1);
     board.fill(seed);

@@ -29,8 +29,6 @@ mod rows;
 mod sides;
 mod spans;
 
-ghost use Rattle.std.specs.Prelude.{◌<◌};
-
 use compare::Score;
 use histories::History;
 use random::Seed;
@@ -40,12 +38,11 @@ const LISTS: u64 = 1080;
 
 const TURNS: u64 = 200;
 
-fn list(n: u64, score: &mut Score)
-    requires { n < LISTS }
-{
+fn list(n: u64, score: &mut Score) {
     let mut h = History::opened(n, score);
+    let first = Seed(n.wrapping_mul(TURNS));
     for turn in 0..TURNS {
-        h.turn(Seed(n * TURNS + turn).hashed(), score);
+        h.turn(first.plus(turn).hashed(), score);
     }
 }
 

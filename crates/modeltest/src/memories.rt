@@ -4,7 +4,7 @@ ghost use Rattle.std.specs.Prelude.{◌<◌};
 use crate::packing::Field;
 use crate::random::Seed;
 
-// Behind the lent words there may be room for more, which no call may touch.
+// Behind the lent words there may be room for more, which no call may touch: so it is no slice and no Vec.
 #[derive(Clone, Copy)]
 pub struct Memory<const ROOM: usize> {
     pub room: [u64; ROOM],

@@ -57,7 +57,8 @@ fn damage_sizes(c: &mut Conversion, seed: Seed) {
     }
 }
 
-// The ring's words are any, and the control word is too where it is said so.
+// The ring's words are any, and the control word is too where it is said so. The ring is gone over by numbers: a place
+// past the room is the first, and a shape word of any L has many.
 fn damage_log(c: &mut Conversion, any_control: bool, seed: Seed) {
     for i in 0..c.shape(Old::ENTRIES) {
         c.old.put(entry_place(i), seed.plus(i).hashed().0);

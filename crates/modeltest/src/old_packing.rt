@@ -81,7 +81,7 @@ fn rewritten(word: u64) -> u64 {
 }
 
 // A board written anew in the old layout: control word, shape word and every place of the ring; epochs modulo
-// 2^24.
+// 2^24. The ring is gone over by numbers: a place past the room is the first.
 pub fn old_board(board: &Board) -> Board {
     let control = board.word(CONTROL);
     let shape = board.word(SHAPE);

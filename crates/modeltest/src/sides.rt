@@ -6,7 +6,7 @@ use crate::packing::*;
 use status::Status;
 
 // The registers as words, in the order s, b, c, the count of dirty slots and the target of a pass: so a state
-// holds them, and so they are compared.
+// holds them, and so they are compared; damage draws one by its place.
 pub const REGISTERS: usize = 5;
 
 pub type Words = [u64; REGISTERS];
@@ -50,7 +50,7 @@ impl State {
 }
 
 // What a call answers. Format, tally and the status question return no registers: theirs are those
-// given.
+// given. The status is its number, since one that either side alone knows must show.
 #[derive(Clone, Copy)]
 pub struct Outcome {
     pub number: u64,
