@@ -66,63 +66,6 @@ fn put_lines(board: &mut [u64], upper: u64, from: u64, held: &[u8], view: View)
     );
 }
 
-fn take_lines(board: &mut [u64], reader: Reader, text: &[u8], view: View) -> Result<Reader, Status>
-    requires ready { Ready board.old reader view }
-    requires text_value { has_lines (length text.now) ≡ true }
-    ensures { Imports board.old reader text.now board.new (taken_from reader result) }
-{
-    let mut held = [0; MOST_DATA];
-    let Some(from) = read_lines(&mut held, text) else {
-        return Err(Status::Record);
-    };
-    let count = count_of(text.len());
-    if is_outside(view.shape.lines, reader.upper, from, count as u64) {
-        return Err(Status::Outside);
-    }
-    put_lines(board, reader.upper, from, &held[..count], view);
-    Ok(reader)
-}
-
-fn take_bank(board: &[u64], reader: Reader, text: &[u8], view: View) -> Result<Reader, Status>
-    requires ready { Ready board.now reader view }
-    requires text_len { length text.now ≡ text_bytes address_bytes }
-    ensures { Imports board.now reader text.now board.now (taken_from reader result) }
-{
-    let Some(upper) = read_bank(text) else {
-        return Err(Status::Record);
-    };
-    Ok(Reader {
-        upper,
-        ended: false,
-    })
-}
-
-fn take_end(board: &[u64], reader: Reader, text: &[u8], view: View) -> Result<Reader, Status>
-    requires ready { Ready board.now reader view }
-    requires short_text { ShortText (length text.now) }
-    ensures { Imports board.now reader text.now board.now (taken_from reader result) }
-{
-    if !is_end(text) {
-        return Err(Status::Record);
-    }
-    Ok(Reader {
-        upper: reader.upper,
-        ended: true,
-    })
-}
-
-// The records without lines, whose texts are shorter.
-fn take_short(board: &[u64], reader: Reader, text: &[u8], view: View) -> Result<Reader, Status>
-    requires ready { Ready board.now reader view }
-    requires text_len_bound { length text.now < text_bytes bytes_of_word }
-    ensures { Imports board.now reader text.now board.now (taken_from reader result) }
-{
-    if text.len() == BANK_TEXT {
-        return take_bank(board, reader, text, view);
-    }
-    take_end(board, reader, text, view)
-}
-
 fn has_lines(bytes: usize) -> bool
     ensures { result ≡ has_lines bytes }
 {
@@ -132,33 +75,100 @@ fn has_lines(bytes: usize) -> bool
     bytes == LINE_TEXT
 }
 
-// 1, 18 and the end have passed.
-fn take_text(board: &mut [u64], reader: Reader, text: &[u8], view: View) -> Result<Reader, Status>
-    requires { Ready board.old reader view }
-    ensures { Imports board.old reader text.now board.new (taken_from reader result) }
-{
-    if text.len() < LINE_TEXT {
-        return take_short(board, reader, text, view);
-    }
-    if !has_lines(text.len()) {
-        return Err(Status::Record);
-    }
-    take_lines(board, reader, text, view)
+// A record that is offered to a board that passes 1: the reader, the record's text, and what the board's test has read.
+#[derive(Clone, Copy)]
+struct Offer<'a> {
+    reader: Reader,
+    text: &'a [u8],
+    view: View,
 }
 
-// 1 has passed.
-fn take_shaped(board: &mut [u64], reader: Reader, text: &[u8], view: View) -> Result<Reader, Status>
-    requires view_value { Ok view ≡ board_checked board.old }
-    requires opened { Opened board.old view }
-    ensures { Imports board.old reader text.now board.new (taken_from reader result) }
-{
-    if view.control.length != 0 {
-        return Err(Status::LogHeld);
+impl Offer<'_> {
+    fn take_lines(self, board: &mut [u64]) -> Result<Reader, Status>
+        requires ready { Ready board.old self.reader self.view }
+        requires text_value { has_lines (length self.text.now) ≡ true }
+        ensures { Imports board.old self.entry.reader self.entry.text.now board.new (taken_from self.entry.reader result) }
+    {
+        let mut held = [0; MOST_DATA];
+        let Some(from) = read_lines(&mut held, self.text) else {
+            return Err(Status::Record);
+        };
+        let count = count_of(self.text.len());
+        if is_outside(self.view.shape.lines, self.reader.upper, from, count as u64) {
+            return Err(Status::Outside);
+        }
+        put_lines(board, self.reader.upper, from, &held[..count], self.view);
+        Ok(self.reader)
     }
-    if reader.ended {
-        return Err(Status::Record);
+
+    fn take_bank(self, board: &[u64]) -> Result<Reader, Status>
+        requires ready { Ready board.now self.reader self.view }
+        requires text_len { length self.text.now ≡ text_bytes address_bytes }
+        ensures { Imports board.now self.entry.reader self.entry.text.now board.now (taken_from self.entry.reader result) }
+    {
+        let Some(upper) = read_bank(self.text) else {
+            return Err(Status::Record);
+        };
+        Ok(Reader {
+            upper,
+            ended: false,
+        })
     }
-    take_text(board, reader, text, view)
+
+    fn take_end(self, board: &[u64]) -> Result<Reader, Status>
+        requires ready { Ready board.now self.reader self.view }
+        requires short_text { ShortText (length self.text.now) }
+        ensures { Imports board.now self.entry.reader self.entry.text.now board.now (taken_from self.entry.reader result) }
+    {
+        if !is_end(self.text) {
+            return Err(Status::Record);
+        }
+        Ok(Reader {
+            upper: self.reader.upper,
+            ended: true,
+        })
+    }
+
+    // The records without lines, whose texts are shorter.
+    fn take_short(self, board: &[u64]) -> Result<Reader, Status>
+        requires ready { Ready board.now self.reader self.view }
+        requires text_len_bound { length self.text.now < text_bytes bytes_of_word }
+        ensures { Imports board.now self.entry.reader self.entry.text.now board.now (taken_from self.entry.reader result) }
+    {
+        if self.text.len() == BANK_TEXT {
+            return self.take_bank(board);
+        }
+        self.take_end(board)
+    }
+
+    // 1, 18 and the end have passed.
+    fn take_text(self, board: &mut [u64]) -> Result<Reader, Status>
+        requires { Ready board.old self.reader self.view }
+        ensures { Imports board.old self.entry.reader self.entry.text.now board.new (taken_from self.entry.reader result) }
+    {
+        if self.text.len() < LINE_TEXT {
+            return self.take_short(board);
+        }
+        if !has_lines(self.text.len()) {
+            return Err(Status::Record);
+        }
+        self.take_lines(board)
+    }
+
+    // 1 has passed.
+    fn take(self, board: &mut [u64]) -> Result<Reader, Status>
+        requires view_value { Ok self.view ≡ board_checked board.old }
+        requires opened { Opened board.old self.view }
+        ensures { Imports board.old self.entry.reader self.entry.text.now board.new (taken_from self.entry.reader result) }
+    {
+        if self.view.control.length != 0 {
+            return Err(Status::LogHeld);
+        }
+        if self.reader.ended {
+            return Err(Status::Record);
+        }
+        self.take_text(board)
+    }
 }
 
 // 1, and then the record.
@@ -166,7 +176,8 @@ fn take(board: &mut [u64], reader: Reader, text: &[u8]) -> Result<Reader, Refusa
     ensures { Imports board.old reader text.now board.new (taken_by reader result) }
 {
     let view = checks::check_board(board)?;
-    Ok(take_shaped(board, reader, text, view)?)
+    let offer = Offer { reader, text, view };
+    Ok(offer.take(board)?)
 }
 
 // A text is one record and its line feed. What is refused leaves the board and the reader as they were.

@@ -1,7 +1,7 @@
 use Rattle.std.proofs.Common.{rules}
 use Rattle.intel_hex.proofs.Importing.{lines_there, long_refused}
 use Rattle.std.proofs.Common.{rules}
-use Rattle.intel_hex.proofs.taking.take_text.Goals as goal
+use Rattle.intel_hex.proofs.taking.Offer.take_text.Goals as goal
 
 pub returns-then-not-has_lines : goal.returns-then-not-has_lines
 returns-then-not-has_lines c = search (long_refused)

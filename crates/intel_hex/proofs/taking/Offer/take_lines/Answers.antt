@@ -1,6 +1,6 @@
 use Rattle.std.proofs.Common.{rules}
 use Rattle.intel_hex.proofs.Importing.{lines_inside, lines_refused, lines_outside, lines_out}
-use Rattle.intel_hex.proofs.taking.take_lines.Goals as goal
+use Rattle.intel_hex.proofs.taking.Offer.take_lines.Goals as goal
 
 pub returns-in_default : goal.returns-in_default
 returns-in_default c = search (lines_refused, c.in_default.ensures)
