@@ -170,12 +170,6 @@ impl From<u64> for Control {
 }
 
 impl Control {
-    pub fn decode(word: u64) -> Control
-        ensures { Decoded ControlFits (decode_control word) result }
-    {
-        Control::from(word)
-    }
-
     pub fn encode(self) -> u64
         requires { ControlFits self }
         ensures { result ≡ encode_control self }
@@ -209,12 +203,6 @@ impl From<u64> for Shape {
 }
 
 impl Shape {
-    pub fn decode(word: u64) -> Shape
-        ensures { Decoded ShapeFits (decode_shape word) result }
-    {
-        Shape::from(word)
-    }
-
     pub fn encode(self) -> u64
         requires { ShapeFits self }
         ensures { result ≡ encode_shape self }
@@ -256,12 +244,6 @@ impl From<u64> for Entry {
 }
 
 impl Entry {
-    pub fn decode(word: u64) -> Entry
-        ensures { Decoded EntryFits (decode_entry word) result }
-    {
-        Entry::from(word)
-    }
-
     pub fn encode(self) -> u64
         requires { EntryFits self }
         ensures { result ≡ encode_entry self }
@@ -380,12 +362,6 @@ impl From<u64> for Slot {
 }
 
 impl Slot {
-    pub fn decode(word: u64) -> Slot
-        ensures { Decoded SlotFits (decode_slot word) result }
-    {
-        Slot::from(word)
-    }
-
     pub fn encode(self) -> u64
         requires { SlotFits self }
         ensures { result ≡ encode_slot self }
@@ -424,12 +400,6 @@ impl From<u64> for Record {
 }
 
 impl Record {
-    pub fn decode(word: u64) -> Record
-        ensures { Decoded RecordFits (decode_record word) result }
-    {
-        Record::from(word)
-    }
-
     pub fn encode(self) -> u64
         requires { RecordFits self }
         ensures { result ≡ encode_record self }

@@ -1,4 +1,0 @@
-use Rattle.status.proofs.Status.is_cut.Goals as goal
-
-pub returns : goal.returns
-returns c = rw c.number.ensures
