@@ -119,7 +119,7 @@ fn lowest(a: u64, b: u64, c: u64, d: u64) -> usize
 }
 
 // A spot as one number: the slot, doubled, and one more where the line is held. The four lines are tested by name: a position in an array of them
-// costs 20 to 30 instructions a call.
+// costs 15 to 19 instructions a call.
 fn site(first: usize, address: u64, a: Line, b: Line, c: Line, d: Line) -> usize
     requires ways_bound { first + ways ≤ most_slots }
     requires form_bound { b.form + 3 < 2 ^ 64 }
