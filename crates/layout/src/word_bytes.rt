@@ -20,14 +20,15 @@ pub fn with_byte(word: u64, byte: u8) -> u64
     (word << BYTE_BITS) + byte as u64
 }
 
-// The word that bytes are.
+// The word that bytes are. A fold: with u64::from_be_bytes the compiler reads words by vectors, and a record of Intel HEX takes 253
+// instructions for 244.
 fn word_of(bytes: &[u8; BYTES_OF_WORD]) -> u64
     ensures { result ≡ word_of bytes.now }
 {
     bytes.iter().fold(0, |word, byte| with_byte(word, *byte))
 }
 
-// The words that bytes are, to a memory of as many.
+// The words that bytes are, to a memory of as many. No zip of words and parts: behind it a proof knows nothing of what was written.
 pub fn read_words(words: &mut [u64], bytes: &[u8])
     requires { length bytes.now ≡ bytes_of_word * length words.old }
     ensures { words.new ≡ words_of bytes.now }
