@@ -1,9 +1,8 @@
 -- The first stages of a check, 1 and 2, 3, and 4: one law for each way out of a function.
-use Rattle.std.proofs.Common.{Ok, Err, ◌≡◌, ℕ, ◌<◌, ◌≤◌, Bool, true, false, cond, not, List, [], length, get_or, sym, ◌∙◌, arith, le-ltb, lt-ltb}
+use Rattle.std.proofs.Common.{Ok, Err, ◌≡◌, ℕ, ◌<◌, ◌≤◌, Bool, true, false, cond, not, List, [], length, get_or, arith, le-ltb, lt-ltb}
 use borrow.Author.Tests.{lt-leb, not-true, not-false}
 use Rattle.layout.specs.Memory.{shape_at, log_at, lines_at}
 use Rattle.layout.specs.Words.{OwnLines, decode_shape}
-use Rattle.status.specs.declared.Status.{Status}
 use Rattle.status.specs.declared.Status.TheVariants as status
 use Rattle.undo.specs.declared.LogState.{LogState}
 use Rattle.undo.specs.Log.{log_in, Sound}
@@ -13,7 +12,7 @@ use Rattle.checks.specs.declared.Registers.{Registers}
 use Rattle.checks.specs.declared.View.{View}
 use Rattle.checks.specs.Registers.{all_zero}
 use Rattle.checks.specs.View.{view_of, lent, undo_of, good_control, good_shape, good_work, proper_registers}
-use Rattle.checks.specs.Refusals.{Checked, unvalued, tested, board_rows, work_rows, entry_rows, register_rows, board_checked, memories_checked}
+use Rattle.checks.specs.Refusals.{unvalued, tested, board_rows, work_rows, entry_rows, register_rows, board_checked, memories_checked}
 use Rattle.checks.specs.Promises.{Viewed, Shaped}
 use Rattle.checks.specs.Laws.{differ, passed_view, passed_row, refused_first}
 

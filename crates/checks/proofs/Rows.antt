@@ -5,7 +5,6 @@ use Rattle.base.specs.Parts.{rest_lent}
 use Rattle.base.specs.Tests.{and_left, and_right}
 use Rattle.layout.specs.Limits.{ways}
 use Rattle.layout.specs.Memory.{slot_at, slot_in, buffer_at, buffer_in}
-use Rattle.status.specs.declared.Status.{Status}
 use Rattle.status.specs.declared.Status.TheVariants as status
 use Rattle.undo.specs.Log.{buffer_proper, buffer_marked}
 use Rattle.slots.specs.declared.Bounds.{Bounds}
@@ -14,13 +13,12 @@ use Rattle.slots.specs.Promises.{BoundsReady}
 use Rattle.slots.specs.Passes.{nowhere, first_slot_of}
 use Rattle.slots.specs.Sets.{slots_from, proper_set}
 use Rattle.slots.specs.Slots.{proper_at, undo_due}
-use Rattle.checks.specs.declared.Refusal.{Refusal}
 use Rattle.checks.specs.declared.Registers.{Registers}
 use Rattle.checks.specs.declared.View.{View}
 use Rattle.checks.specs.View.{bounds_of, waits, miscounted, good_buffer, good_filter}
-use Rattle.checks.specs.Refusals.{Checked, unvalued, Row, tested, buffer_rows, address_rows, room_rows, target_rows, cursor_rows, waiting_rows, scan_rows}
+use Rattle.checks.specs.Refusals.{Checked, unvalued, Row, tested, buffer_rows, address_rows, room_rows, target_rows, cursor_rows}
 use Rattle.checks.specs.Promises.{RowsReady, SiteReady, site_rows}
-use Rattle.checks.specs.Laws.{refused_first, passed_first}
+use Rattle.checks.specs.Laws.{passed_first}
 
 -- 7 and 14
 module _ (v : View) (work : List ℕ) (r : Registers) (at : ℕ) (here : at ≡ buffer_at (length work)) where

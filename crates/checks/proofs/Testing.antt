@@ -7,8 +7,8 @@ use Rattle.base.specs.Bits.{and_high_last}
 use Rattle.base.specs.Tests.{held, hold_together}
 use Rattle.layout.specs.declared.Control.{Control}
 use Rattle.layout.specs.declared.Shape.{Shape}
-use Rattle.layout.specs.Limits.{word_bits, address_bits, board_version, last_epoch, most_lines, most_entries, ways, most_slots, most_ahead}
-use Rattle.layout.specs.Memory.{log_at, entry_words, lines_at, board_words, control_at, shape_at, slots_of, work_words}
+use Rattle.layout.specs.Limits.{word_bits, board_version, last_epoch, most_lines, most_entries, ways, most_slots, most_ahead}
+use Rattle.layout.specs.Memory.{log_at, board_words, control_at, shape_at, slots_of, work_words}
 use Rattle.layout.specs.Words.{Decoded, ControlFits, ShapeFits, OwnLines, decode_control, decode_shape}
 use Rattle.checks.specs.declared.Registers.{Registers}
 use Rattle.checks.specs.declared.View.{View}

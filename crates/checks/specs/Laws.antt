@@ -22,7 +22,7 @@ use Rattle.checks.specs.declared.Refusal.{Refusal}
 use Rattle.checks.specs.declared.Registers.{Registers}
 use Rattle.checks.specs.declared.View.{View}
 use Rattle.checks.specs.View.{view_of, bounds_of, undo_of, good_sizes, good_control, good_shape, good_slots, good_work, proper_epoch, proper_counts, proper_pass, proper_registers, waits, miscounted}
-use Rattle.checks.specs.Refusals.{Checked, unvalued, Row, tested, then, board_rows, work_rows, entry_rows, register_rows, buffer_rows, address_rows, line_rows, room_rows, epoch_rows, target_rows, scan_rows}
+use Rattle.checks.specs.Refusals.{Checked, Row, tested, then, board_rows, work_rows, entry_rows, register_rows, buffer_rows, address_rows, line_rows, room_rows, epoch_rows, target_rows, scan_rows}
 use Rattle.checks.specs.Refusals.{board_checked, memories_checked, power_up_checked, running_checked, ready_checked, named_checked, line_checked, store_checked, commit_checked, begin_checked, scan_checked}
 use Rattle.checks.specs.Registers.{all_zero, scan_target}
 use Rattle.undo.specs.Log.{log_in}

@@ -6,8 +6,6 @@ use Rattle.layout.specs.Laws.{control_laws}
 use Rattle.layout.specs.Limits.{last_epoch, ways, most_slots}
 use Rattle.layout.specs.Memory.{slot_at}
 use Rattle.layout.specs.Words.{ControlFits, encode_slot}
-use Rattle.status.specs.declared.Status.{Status}
-use Rattle.slots.specs.declared.Spot.{Spot}
 use Rattle.slots.specs.Promises.{BoundsReady, SpotReady, TagsReady}
 use Rattle.slots.specs.Laws.{spot_below}
 use Rattle.slots.specs.Passes.{bounds_by, nowhere, first_slot_of, site_for, spot_at}
@@ -19,7 +17,7 @@ use Rattle.checks.specs.declared.Registers.{Registers}
 use Rattle.checks.specs.declared.Line.{Line}
 use Rattle.checks.specs.declared.View.{View}
 use Rattle.checks.specs.View.{view_of, bounds_of}
-use Rattle.checks.specs.Refusals.{Checked, unvalued, Row, tested, then, line_rows, buffer_rows, room_rows}
+use Rattle.checks.specs.Refusals.{Checked, Row, tested, then, line_rows, buffer_rows, room_rows}
 use Rattle.checks.specs.Refusals.{memories_checked, running_checked, ready_checked, named_checked, line_checked, store_checked}
 use Rattle.checks.specs.Promises.{Running, RowsReady, SiteReady, Sited, Roomy, site_rows}
 use Rattle.checks.specs.Laws.{passed_view, then_passed, memories_shaped, running, ready_running, named_running, named_inside, line_running, line_proper}

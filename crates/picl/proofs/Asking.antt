@@ -9,7 +9,6 @@ use borrow.Author.Tests.{not-true, not-false}
 use lib.ListN.{length, take, drop, length-drop}
 use Rattle.base.specs.Parts.{rest_lent}
 use Rattle.layout.specs.Memory.{filter_words, buffer_at, buffer_words}
-use Rattle.status.specs.declared.Status.{Status}
 use Rattle.status.specs.declared.Status.TheVariants as status
 use Rattle.undo.specs.Filter.{ones_of}
 use Rattle.checks.specs.declared.Refusal.{Refusal}

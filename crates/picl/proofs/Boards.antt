@@ -15,7 +15,6 @@ use Rattle.board.specs.Verdict.{due}
 use Rattle.layout.specs.Limits.{last_epoch}
 use Rattle.layout.specs.Memory.{shape_at, board_words, formatted, shape_for}
 use Rattle.layout.specs.Words.{ShapeFits, encode_shape}
-use Rattle.status.specs.declared.Status.{Status}
 use Rattle.status.specs.declared.Status.TheVariants as status
 use Rattle.undo.specs.declared.LogState.{LogState}
 use Rattle.undo.specs.Promises.{RecoverReady}
@@ -26,7 +25,7 @@ use Rattle.checks.specs.declared.Registers.{Registers}
 use Rattle.checks.specs.declared.View.{View}
 use Rattle.checks.specs.Promises.{Shaped}
 use Rattle.checks.specs.Laws.{sizes_told, words_told, entries_shaped, entries_proper}
-use Rattle.checks.specs.Refusals.{Checked, power_up_checked}
+use Rattle.checks.specs.Refusals.{power_up_checked}
 use Rattle.checks.specs.Registers as registers
 use Rattle.checks.specs.View.{good_sizes, undo_of}
 use Rattle.picl.specs.declared.Answer.{Answer}

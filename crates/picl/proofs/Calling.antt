@@ -11,7 +11,6 @@ use Rattle.board.specs.Stores.{full}
 use Rattle.layout.specs.Limits.{last_epoch}
 use Rattle.layout.specs.Memory.{data_in}
 use Rattle.layout.specs.Words.{bit, IsBit}
-use Rattle.status.specs.declared.Status.{Status}
 use Rattle.status.specs.declared.Status.TheVariants as status
 use Rattle.undo.specs.declared.LogState.{LogState}
 use Rattle.undo.specs.declared.Progress.{Progress}

@@ -1,6 +1,5 @@
 -- The calls: what each comes to on any memories, registers and arguments.
 use Rattle.std.specs.Prelude.{Ok, Err, ℕ, cond, List, [], ltb, length, replicate}
-use Rattle.layout.specs.declared.Shape.{Shape}
 use Rattle.layout.specs.Memory.{filter_words, data_in, buffer_in, formatted}
 use Rattle.layout.specs.Words.{bit}
 use Rattle.status.specs.declared.Status.{Status}

@@ -1,5 +1,5 @@
 -- What the calls promise, on every input.
-use Rattle.std.specs.Prelude.{ℕ, ◌+◌, ◌-◌, ◌<◌, ◌≤◌, ◌≡◌, Bool, true, cond, List, length, replicate}
+use Rattle.std.specs.Prelude.{ℕ, ◌+◌, ◌-◌, ◌≤◌, ◌≡◌, Bool, cond, List, length, replicate}
 use Rattle.board.specs.declared.Meter.{Meter}
 use Rattle.board.specs.Stores.{was_cut}
 use Rattle.layout.specs.Memory.{slot_at, slot_words}

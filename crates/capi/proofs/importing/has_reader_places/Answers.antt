@@ -1,4 +1,4 @@
-use Rattle.capi.specs.Places.{has_answer, has_both}
+use Rattle.capi.specs.Places.{has_answer}
 use Rattle.base.specs.Tests.{tests}
 use Rattle.capi.proofs.importing.has_reader_places.Goals as goal
 

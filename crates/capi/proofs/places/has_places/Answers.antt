@@ -1,5 +1,5 @@
 use Rattle.base.specs.Tests.{tests}
-use Rattle.capi.specs.Places.{has_answer, has_both}
+use Rattle.capi.specs.Places.{has_answer}
 use Rattle.capi.proofs.places.has_places.Goals as goal
 
 pub returns-then-registers-lt-REGISTER_WORDS : goal.returns-then-registers-lt-REGISTER_WORDS

@@ -1,6 +1,4 @@
-use Rattle.std.proofs.Common.{rules}
 use Rattle.checks.proofs.Checking.{board_short, board_lines, board_shape, board_passed}
-use Rattle.std.proofs.Common.{rules}
 use Rattle.checks.proofs.refusals.check_board.Goals as goal
 
 pub returns-then-board-lt-LOG_AT : goal.returns-then-board-lt-LOG_AT
