@@ -52,7 +52,7 @@ fn put(text: &mut [u8], address: u64, kind: u8, held: &[u8]) -> usize
     let sum = put_bytes(text, DATA_AT, held);
     let head = put_head(text, held.len() as u8, address, kind);
     let end = DATA_AT + BYTE_DIGITS * held.len();
-    let check = head.wrapping_add(sum).wrapping_neg();
+    let check = std::num::wrapping_sub_u8(0, head.wrapping_add(sum));
     put_tail(text, end, check);
     end + TAIL_BYTES
 }

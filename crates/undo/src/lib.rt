@@ -153,13 +153,15 @@ fn improper_in(entries: &[[u64; ENTRY_WORDS]], lines: u64, persisted: u64, bound
 {
     let most = persisted + MOST_AHEAD;
     let mut least = bound;
-    for (i, &[word, _]) in entries.iter().enumerate() {
-        if !is_proper_word(word, lines, least, most) {
-            return i;
+    'entries: {
+        for (i, &[word, _]) in entries.iter().enumerate() {
+            if !is_proper_word(word, lines, least, most) {
+                break 'entries i;
+            }
+            least = Entry::from(word).till;
         }
-        least = Entry::from(word).till;
+        entries.len()
     }
-    entries.len()
 }
 
 // The place of the first improper entry of the log, the oldest counted 0, or the log's length where all are proper.

@@ -10,5 +10,5 @@ returns-then-not-is_proper_word c = search (order_found)
 pub loop-i-preserved : goal.loop-i-preserved
 loop-i-preserved c = search (order_next)
 
-pub returns : goal.returns
-returns c = search (order_end)
+pub returns-after-loop-i : goal.returns-after-loop-i
+returns-after-loop-i c = search (order_end)
