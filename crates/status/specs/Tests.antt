@@ -4,7 +4,27 @@ use denote.Enum.Bare.{sameb}
 use Rattle.status.specs.contracts.Status.{the_type}
 use Rattle.status.specs.declared.Status.{Status}
 use Rattle.status.specs.declared.Status.TheVariants.{
-  Ok, Shape, Work, Entry, Regs, Address, Slot, Buffer, Room, Waiting, Last, None, Cut, Trace, Filter, Short, Past, LogHeld, Target, Record, Outside
+  Ok,
+  Shape,
+  Work,
+  Entry,
+  Regs,
+  Address,
+  Slot,
+  Buffer,
+  Room,
+  Waiting,
+  Last,
+  None,
+  Cut,
+  Trace,
+  Filter,
+  Short,
+  Past,
+  LogHeld,
+  Target,
+  Record,
+  Outside,
 }
 use Rattle.status.specs.Numbers.{is_ok}
 
