@@ -28,10 +28,10 @@ use Rattle.checks.specs.Laws.{words_told}
 use Rattle.convert.specs.Laws.{convertible_told, is_filled, ok_filled}
 use Rattle.loomconvert.specs.Output.{no_slots, refusal_text, conversion_text, words_text, output, most_refusal, most_output}
 
-pub refusal_put : (s : Status) (end r : ℕ) (out out' out'' : List ℕ) → Prints most_letters out 0 (name_text s) out' end
-    → Prints 1 out' end (line_feed ∷ []) out'' r → Prints most_refusal out 0 (refusal_text s) out'' r
+pub refusal_put : (s : Status) (at end r : ℕ) (out out' out'' : List ℕ) → Prints most_letters out at (name_text s) out' end
+    → Prints 1 out' end (line_feed ∷ []) out'' r → Prints most_refusal out at (refusal_text s) out'' r
 unfolding refusal_text
-refusal_put s end r out out' out'' p q = prints_then p q
+refusal_put s at end r out out' out'' p q = prints_then p q
 
 -- a conversion: the status says which text is due
 module _ (v : Conversion) (told : is_ok (conversion_report v).status ≡ is_filled v) (report : Report) (is : report ≡ conversion_report v) where

@@ -2,10 +2,10 @@
 // output. Of a refusal it writes the name and a line feed.
 #![tactic(auto)]
 
-ghost use Rattle.std.specs.Prelude.{◌≤◌, ◌≡◌, length, take, MatchResult, IfOk};
+ghost use Rattle.std.specs.Prelude.{◌+◌, ◌≤◌, ◌≡◌, length, take, MatchResult, IfOk};
 ghost use Rattle.benchboard.specs.Sizes.{bench_sized};
 ghost use Rattle.convert.specs.Old.{old_shape_in};
-ghost use Rattle.text.specs.Printing.{Prints};
+ghost use Rattle.text.specs.Printing.{Prints, PrintsOn};
 ghost use Rattle.image.specs.Image.{image_of};
 ghost use Rattle.loomconvert.specs.Output.{most_refusal, most_output, refusal_text, words_text, output, no_slots};
 
@@ -15,6 +15,7 @@ use status::Status;
 use std::alloc::Global;
 use std::io;
 use std::io::Read;
+use text::Printer;
 
 // The bytes of the largest image.
 const MOST_BYTES: usize = BYTES_OF_WORD * BOARD_WORDS;
@@ -25,12 +26,21 @@ const READ_BYTES: usize = MOST_BYTES + 1;
 // A board by itself has no slots, and so no more than a bench has.
 const NO_SLOTS: u64 = 0;
 
+fn put_line(printer: &mut Printer<'_>, status: Status)
+    requires { printer.old.used + most_refusal ≤ length printer.old.out.now }
+    ensures { PrintsOn most_refusal printer.old (refusal_text status) printer.new }
+{
+    printer.put_name(status);
+    printer.put_byte(b'\n');
+}
+
 fn put_refusal(out: &mut [u8], status: Status) -> usize
     requires { most_refusal ≤ length out.old }
     ensures { Prints most_refusal out.old 0 (refusal_text status) out.new result }
 {
-    let end = text::put_name(out, 0, status);
-    text::put_byte(out, end, b'\n')
+    let mut printer = Printer::new(out, 0);
+    put_line(&mut printer, status);
+    printer.used
 }
 
 // Whether a board has the replay's sizes. One that is too short to tell has no lines: the conversion refuses it.

@@ -7,6 +7,7 @@ use Rattle.status.specs.declared.Status.{Status}
 use Rattle.status.specs.Names.{most_letters, name_of, PutsName}
 use Rattle.status.specs.Laws.{name_short, with_name_holds}
 use Rattle.status.specs.Numbers.{number_of}
+use Rattle.text.specs.declared.Printer.{Printer}
 use Rattle.text.specs.Text.{space_byte, most_digits, number_bytes, decimal_of, numbers_text, name_text}
 
 -- A text of at most so many bytes was put into a buffer, from `at` on. What stood before it and behind it is kept.
@@ -15,6 +16,12 @@ pub record Prints (most : ℕ) (out : List ℕ) (at : ℕ) (text : List ℕ) (ou
   pub end : r ≡ at + length text
   pub shown : take r out' ≡ take at out ++ text
   pub behind : drop r out' ≡ drop r out
+
+-- The same of a printer: it still has the same buffer, of the same length.
+pub record PrintsOn (most : ℕ) (p : Printer) (text : List ℕ) (p' : Printer) : Type 0 where
+  pub same : p'.out.ghost_name ≡ p.out.ghost_name
+  pub many : length p'.out.now ≡ length p.out.now
+  pub printed : Prints most p.out.now p.used text p'.out.now p'.used
 
 -- so the whole buffer is known
 pub prints_whole : {most at r : ℕ} {out text out' : List ℕ} → Prints most out at text out' r → out' ≡ take at out ++ text ++ drop r out

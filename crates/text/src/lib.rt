@@ -1,62 +1,75 @@
-// Text that is put into a buffer that the caller lends: bytes, names and decimal numbers. Each function answers the place behind
-// what it has put. The two are parameters: a struct of a lent buffer and a place would have to promise in every method that the
-// buffer is still the same.
+// Text that is put into a buffer that the caller lends: bytes, names and decimal numbers, each behind what is there.
 #![tactic(auto)]
 
-ghost use Rattle.std.specs.Prelude.{◌+◌, ◌*◌, ◌≤◌, ◌<◌, [], ◌∷◌, length};
+ghost use Rattle.std.specs.Prelude.{◌≡◌, ◌+◌, ◌*◌, ◌≤◌, ◌<◌, [], ◌∷◌, length};
 ghost use Rattle.status.specs.Names.{most_letters};
 ghost use Rattle.text.specs.Text.{most_digits, number_bytes, decimal_of, numbers_text, name_text};
-ghost use Rattle.text.specs.Printing.{Prints};
+ghost use Rattle.text.specs.Printing.{PrintsOn};
 
 use status::Status;
 
 // The most digits of a number.
 const DIGITS: usize = 20;
 
-pub fn put_byte(out: &mut [u8], at: usize, byte: u8) -> usize
-    requires { at < length out.old }
-    ensures { Prints 1 out.old at (byte ∷ []) out.new result }
-{
-    out[at] = byte;
-    at + 1
+// A buffer, and how many bytes of it have been printed to. Who lends the buffer makes one call with its printer, of a function that
+// prints all: behind several calls it isn't proved what the buffer holds.
+#[derive(Drop)]
+pub struct Printer<'a> {
+    pub out: &'a mut [u8],
+    pub used: usize,
 }
 
-// Puts a text into a buffer from a place on, and answers the place behind it.
-pub fn put(out: &mut [u8], at: usize, text: &[u8]) -> usize
-    requires { at + length text.now ≤ length out.old }
-    ensures { Prints (length text.now) out.old at text.now out.new result }
-{
-    let end = at + text.len();
-    out[at..end].copy_from_slice(text);
-    end
-}
-
-fn put_decimal(out: &mut [u8], at: usize, n: u64) -> usize
-    requires { at + most_digits ≤ length out.old }
-    ensures { Prints most_digits out.old at (decimal_of n) out.new result }
-{
-    // The library gives the digits so: in a buffer, with their count.
-    let mut digits = [0u8; DIGITS];
-    let count = io::decimal(n, &mut digits);
-    put(out, at, &digits[..count])
-}
-
-// Each number with a space before it.
-pub fn put_numbers(out: &mut [u8], at: usize, numbers: &[u64]) -> usize
-    requires { at + number_bytes * length numbers.now ≤ length out.old }
-    ensures { Prints (number_bytes * length numbers.now) out.old at (numbers_text numbers.now) out.new result }
-{
-    let mut end = at;
-    for number in numbers {
-        end = put_byte(out, end, b' ');
-        end = put_decimal(out, end, *number);
+impl<'a> Printer<'a> {
+    pub fn new(out: &'a mut [u8], used: usize) -> Printer<'a>
+        ensures same { result.out.ghost_name ≡ out.entry.ghost_name }
+        ensures whole { result.out.now ≡ out.old }
+        ensures from { result.used ≡ used }
+    {
+        Printer { out, used }
     }
-    end
-}
 
-pub fn put_name(out: &mut [u8], at: usize, status: Status) -> usize
-    requires { at + most_letters ≤ length out.old }
-    ensures { Prints most_letters out.old at (name_text status) out.new result }
-{
-    at + status::put_name(&mut out[at..], u64::from(status))
+    pub fn put_byte(&mut self, byte: u8)
+        requires { self.old.used < length self.old.out.now }
+        ensures { PrintsOn 1 self.old (byte ∷ []) self.new }
+    {
+        self.out[self.used] = byte;
+        self.used += 1;
+    }
+
+    pub fn put(&mut self, text: &[u8])
+        requires { self.old.used + length text.now ≤ length self.old.out.now }
+        ensures { PrintsOn (length text.now) self.old text.now self.new }
+    {
+        let end = self.used + text.len();
+        self.out[self.used..end].copy_from_slice(text);
+        self.used = end;
+    }
+
+    fn put_decimal(&mut self, n: u64)
+        requires { self.old.used + most_digits ≤ length self.old.out.now }
+        ensures { PrintsOn most_digits self.old (decimal_of n) self.new }
+    {
+        // The library gives the digits so: in a buffer, with their count.
+        let mut digits = [0u8; DIGITS];
+        let count = io::decimal(n, &mut digits);
+        self.put(&digits[..count]);
+    }
+
+    // Each number with a space before it.
+    pub fn put_numbers(&mut self, numbers: &[u64])
+        requires { self.old.used + number_bytes * length numbers.now ≤ length self.old.out.now }
+        ensures { PrintsOn (number_bytes * length numbers.now) self.old (numbers_text numbers.now) self.new }
+    {
+        for number in numbers {
+            self.put_byte(b' ');
+            self.put_decimal(*number);
+        }
+    }
+
+    pub fn put_name(&mut self, status: Status)
+        requires { self.old.used + most_letters ≤ length self.old.out.now }
+        ensures { PrintsOn most_letters self.old (name_text status) self.new }
+    {
+        self.used += status::put_name(&mut self.out[self.used..], u64::from(status));
+    }
 }

@@ -1,5 +1,5 @@
 -- One law for each way out of a function.
-use Rattle.std.proofs.Common.{◌≡◌, ℕ, ◌+◌, ◌-◌, ◌<◌, ◌≤◌, Bool, true, false, not, leb, List, [], ◌∷◌, length, get_or, take, drop, sym, refl, ap, ◌∙◌, arith, length-drop, take_all, leb-true, eqb, eqb-true}
+use Rattle.std.proofs.Common.{◌≡◌, ℕ, ◌-◌, ◌<◌, Bool, true, false, not, leb, List, [], ◌∷◌, length, get_or, take, drop, sym, refl, ap, ◌∙◌, arith, leb-true, eqb, eqb-true}
 use mathlib.Core.List.{foldl, foldl-append}
 use borrow.Author.Tests.{not-true, not-false}
 use Rattle.std.proofs.lemmas.List.{take-append-drop, nil_from_length}
@@ -13,7 +13,6 @@ use Rattle.status.specs.contracts.Status.{the_type}
 use Rattle.status.specs.declared.Status.TheVariants as status
 use Rattle.status.specs.Numbers.{is_ok}
 use Rattle.status.specs.Tests.{ok_same}
-use Rattle.checks.specs.declared.Registers.{Registers}
 use Rattle.picl.specs.declared.Answer.{Answer}
 use Rattle.picl.specs.Promises.{Calls}
 use Rattle.benchboard.specs.Calls.{full_allowance, call_of, started, Leaves}
@@ -24,7 +23,7 @@ use Rattle.records.specs.Steps.{new_reader, is_new, is_full, step_of, reading_by
 use Rattle.records.specs.Laws.{new_reader_holds}
 use Rattle.trace.specs.declared.Run.{Run}
 use Rattle.trace.specs.declared.Totals.{Totals}
-use Rattle.trace.specs.Run.{no_totals, plus, counted, started_state, called, taken, turn}
+use Rattle.trace.specs.Run.{counted, started_state, called, taken, turn}
 use Rattle.trace.specs.Steps.{Machine, machine_of, run_of, new_run, reading_run, ended_run, resting, turned, waiting, stepped, has_record, fed, finished}
 use Rattle.trace.specs.Promises.{Runs, Feeds}
 use Rattle.trace.specs.Laws.{record_fed}

@@ -2,9 +2,9 @@
 // The bytes of the trace come in parts of any length.
 #![tactic(auto)]
 
-ghost use Rattle.std.specs.Prelude.{◌≡◌, ◌<◌, ◌≤◌, length};
+ghost use Rattle.std.specs.Prelude.{◌≡◌, ◌+◌, ◌<◌, ◌≤◌, length};
 ghost use Rattle.benchboard.specs.Calls.{started};
-ghost use Rattle.text.specs.Printing.{Prints};
+ghost use Rattle.text.specs.Printing.{Prints, PrintsOn};
 ghost use Rattle.trace.specs.Run.{plus, counted, started_state, called, line_text};
 ghost use Rattle.trace.specs.Steps.{machine_of, new_run, reading_run, ended_run, resting, turned, stepped, has_record, fed, finished, broken};
 ghost use Rattle.trace.specs.Promises.{Runs, Feeds};
@@ -14,6 +14,7 @@ use benchboard::FULL_ALLOWANCE;
 use checks::Registers;
 use records::{Call, RECORD_BYTES, Reader};
 use status::Status;
+use text::Printer;
 
 // The board stores made by the calls of each kind, each a sum modulo 2^64. Commits make none.
 #[derive(Clone, Copy, Default, PartialEq, Eq)]
@@ -192,14 +193,24 @@ pub fn fail(run: Run, board: &mut [u64], work: &mut [u64]) -> Run
     take(run, Err(Status::Trace), board, work)
 }
 
-// The line of a run: the name of what ended it, and the totals. Answers how many bytes it has.
+// The line of a run: the name of what ended it, and the totals.
+fn put_run(printer: &mut Printer<'_>, run: Run)
+    requires { printer.old.used + longest ≤ length printer.old.out.now }
+    ensures { PrintsOn longest printer.old (line_text run.status run.totals) printer.new }
+{
+    let totals = run.totals;
+    let numbers = [totals.loads, totals.stores, totals.evictions, totals.scans];
+    printer.put_name(run.status);
+    printer.put_numbers(&numbers);
+    printer.put_byte(b'\n');
+}
+
+// Answers how many bytes the line has.
 pub fn put_line(out: &mut [u8], run: Run) -> usize
     requires { longest ≤ length out.old }
     ensures { Prints longest out.old 0 (line_text run.status run.totals) out.new result }
 {
-    let totals = run.totals;
-    let numbers = [totals.loads, totals.stores, totals.evictions, totals.scans];
-    let name = text::put_name(out, 0, run.status);
-    let end = text::put_numbers(out, name, &numbers);
-    text::put_byte(out, end, b'\n')
+    let mut printer = Printer::new(out, 0);
+    put_run(&mut printer, run);
+    printer.used
 }

@@ -1,7 +1,6 @@
 -- Bytes of a script, one after the other: the loop's invariant, and a law for each of its needs.
-use Rattle.std.proofs.Common.{◌≡◌, ℕ, ◌+◌, ◌-◌, ◌<◌, ◌≤◌, Bool, true, false, not, List, [], ◌∷◌, ◌++◌, length, get_or, take, sym, refl, ap, ◌∙◌, append_assoc, add-one, arith, length-append, take-suc, le-leb}
+use Rattle.std.proofs.Common.{◌≡◌, ℕ, ◌+◌, ◌<◌, ◌≤◌, Bool, true, false, not, List, [], ◌∷◌, ◌++◌, length, get_or, take, refl, ap, ◌∙◌, append_assoc, add-one, arith, length-append, take-suc}
 use mathlib.Core.List.{foldl-append}
-use borrow.Author.Tests.{lt-leb}
 use Rattle.base.specs.Walk.{Walked, walk_start, walk_end, walk_found, walk_next}
 use Rattle.text.specs.Printing.{same_behind}
 use Rattle.transcript.specs.declared.Session.{Session}

@@ -3,7 +3,7 @@
 #![tactic(auto)]
 
 ghost use Rattle.std.specs.Prelude.{◌≡◌, ◌+◌, ◌≤◌, length};
-ghost use Rattle.text.specs.Printing.{Prints};
+ghost use Rattle.text.specs.Printing.{Prints, PrintsOn};
 ghost use Rattle.transcript.specs.Text.{head_text, line_text, bad_text, reply_text};
 ghost use Rattle.transcript.specs.Printing.{longest};
 ghost use Rattle.transcript.specs.Script.{ends};
@@ -13,7 +13,7 @@ ghost use Rattle.transcript.specs.Session.{line_turn, feed_turn, finish_turn, Re
 use replay::{Bench, Line, Reply};
 use script::Reader;
 use status::Status;
-use text::{put_byte, put_name, put_numbers};
+use text::Printer;
 
 // The most bytes of a line: letter, space and name, six numbers with a space before each, and the line feed.
 const LONGEST_LINE: usize = 137;
@@ -41,18 +41,18 @@ pub struct Fed {
 }
 
 // The letter, a space and the name.
-fn put_head(out: &mut [u8], at: usize, letter: u8, status: Status) -> usize
-    requires { at + 10 ≤ length out.old }
-    ensures { Prints 10 out.old at (head_text letter status) out.new result }
+fn put_head(printer: &mut Printer<'_>, letter: u8, status: Status)
+    requires { printer.old.used + 10 ≤ length printer.old.out.now }
+    ensures { PrintsOn 10 printer.old (head_text letter status) printer.new }
 {
-    let next = put_byte(out, at, letter);
-    let start = put_byte(out, next, b' ');
-    put_name(out, start, status)
+    printer.put_byte(letter);
+    printer.put_byte(b' ');
+    printer.put_name(status);
 }
 
-fn put_line(out: &mut [u8], at: usize, letter: u8, line: Line) -> usize
-    requires { at + longest ≤ length out.old }
-    ensures { Prints longest out.old at (line_text letter line) out.new result }
+fn put_line(printer: &mut Printer<'_>, letter: u8, line: Line)
+    requires { printer.old.used + longest ≤ length printer.old.out.now }
+    ensures { PrintsOn longest printer.old (line_text letter line) printer.new }
 {
     let numbers = [
         line.value,
@@ -62,31 +62,41 @@ fn put_line(out: &mut [u8], at: usize, letter: u8, line: Line) -> usize
         line.length,
         line.buffered,
     ];
-    let head = put_head(out, at, letter, line.status);
-    let end = put_numbers(out, head, &numbers);
-    put_byte(out, end, b'\n')
+    put_head(printer, letter, line.status);
+    printer.put_numbers(&numbers);
+    printer.put_byte(b'\n');
 }
 
 // A question mark and the number of the bad line.
-fn put_bad(out: &mut [u8], at: usize, number: u64) -> usize
-    requires { at + longest ≤ length out.old }
-    ensures { Prints longest out.old at (bad_text number) out.new result }
+fn put_bad(printer: &mut Printer<'_>, number: u64)
+    requires { printer.old.used + longest ≤ length printer.old.out.now }
+    ensures { PrintsOn longest printer.old (bad_text number) printer.new }
 {
-    let mark = put_byte(out, at, b'?');
-    let end = put_numbers(out, mark, &[number]);
-    put_byte(out, end, b'\n')
+    printer.put_byte(b'?');
+    printer.put_numbers(&[number]);
+    printer.put_byte(b'\n');
 }
 
-fn put_reply(out: &mut [u8], at: usize, letter: u8, reply: Reply, number: u64) -> usize
-    requires { at + longest ≤ length out.old }
-    ensures { Prints longest out.old at (reply_text letter reply number) out.new result }
+fn put_said(printer: &mut Printer<'_>, letter: u8, reply: Reply, number: u64)
+    requires { printer.old.used + longest ≤ length printer.old.out.now }
+    ensures { PrintsOn longest printer.old (reply_text letter reply number) printer.new }
 {
     match reply {
-        Reply::Quiet => at,
-        Reply::Said(line) => put_line(out, at, letter, line),
-        Reply::Last(line) => put_line(out, at, letter, line),
-        Reply::Bad => put_bad(out, at, number),
+        Reply::Quiet => {}
+        Reply::Said(line) => put_line(printer, letter, line),
+        Reply::Last(line) => put_line(printer, letter, line),
+        Reply::Bad => put_bad(printer, number),
     }
+}
+
+// The reply behind the bytes that are used. Answers how many then are.
+fn put_reply(out: &mut [u8], used: usize, letter: u8, reply: Reply, number: u64) -> usize
+    requires { used + longest ≤ length out.old }
+    ensures { Prints longest out.old used (reply_text letter reply number) out.new result }
+{
+    let mut printer = Printer::new(out, used);
+    put_said(&mut printer, letter, reply, number);
+    printer.used
 }
 
 fn is_end(reply: Reply) -> bool

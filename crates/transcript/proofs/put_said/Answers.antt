@@ -1,5 +1,5 @@
 use Rattle.transcript.specs.Printing.{reply_quiet, reply_said, reply_last, reply_bad}
-use Rattle.transcript.proofs.put_reply.Goals as goal
+use Rattle.transcript.proofs.put_said.Goals as goal
 
 pub returns-in-Quiet : goal.returns-in-Quiet
 returns-in-Quiet c = search (reply_quiet)

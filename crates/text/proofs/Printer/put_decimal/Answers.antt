@@ -1,5 +1,5 @@
 use Rattle.text.proofs.Decimals.{decimal_fits, decimal_printed}
-use Rattle.text.proofs.put_decimal.Goals as goal
+use Rattle.text.proofs.Printer.put_decimal.Goals as goal
 
 pub put-requires : goal.put-requires
 put-requires c = search (decimal_fits)
