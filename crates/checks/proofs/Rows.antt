@@ -1,6 +1,6 @@
 -- The rows behind 1, 2 and 4: one law for each way out of a function.
-use Rattle.std.proofs.Common.{Ok, Err, ◌≡◌, ℕ, ◌+◌, ◌-◌, ◌*◌, ◌<◌, ◌≤◌, Bool, true, false, cond, not, ◌&&◌, ◌||◌, eqb, List, [], ◌∷◌, ◌++◌, length, take, drop, sym, refl, ◌∙◌, arith, le-ltb, lt-ltb, eq-eqb, ne_eqb, le-leb}
-use borrow.Author.Tests.{lt-leb, eqb-false, not-true, not-false}
+use Rattle.std.proofs.Common.{Ok, Err, ◌≡◌, ℕ, ◌+◌, ◌-◌, ◌*◌, ◌/◌, ◌<◌, ◌≤◌, Bool, true, false, cond, not, ◌&&◌, ◌||◌, eqb, List, [], ◌∷◌, ◌++◌, length, take, drop, sym, refl, ◌∙◌, arith, le-ltb, lt-ltb, eq-eqb, ne_eqb, le-leb}
+use borrow.Author.Tests.{lt-leb, not-true, not-false}
 use Rattle.base.specs.Parts.{rest_lent}
 use Rattle.base.specs.Tests.{and_left, and_right}
 use Rattle.layout.specs.Limits.{ways}
@@ -10,14 +10,13 @@ use Rattle.undo.specs.Log.{buffer_proper, buffer_marked}
 use Rattle.slots.specs.declared.Bounds.{Bounds}
 use Rattle.slots.specs.declared.Spot.{Spot}
 use Rattle.slots.specs.Promises.{BoundsReady}
-use Rattle.slots.specs.Passes.{nowhere, first_slot_of}
 use Rattle.slots.specs.Sets.{slots_from, proper_set}
 use Rattle.slots.specs.Slots.{proper_at, undo_due}
 use Rattle.checks.specs.declared.Registers.{Registers}
 use Rattle.checks.specs.declared.View.{View}
 use Rattle.checks.specs.View.{bounds_of, waits, miscounted, good_buffer, good_filter}
 use Rattle.checks.specs.Refusals.{Checked, unvalued, Row, tested, buffer_rows, address_rows, room_rows, target_rows, cursor_rows}
-use Rattle.checks.specs.Promises.{RowsReady, SiteReady, site_rows}
+use Rattle.checks.specs.Promises.{RowsReady, CountReady, count_rows}
 use Rattle.checks.specs.Laws.{passed_first}
 
 -- 7 and 14
@@ -63,21 +62,17 @@ module _ (v : View) (address : ℕ) where
   pub line_inside : address < v.shape.lines → Ok v ≡ tested (address_rows v address) v
   line_inside h = rw (lt-leb v.shape.lines address h)
 
--- 6 and the count
-module _ (v : View) (work : List ℕ) (r : Registers) (site : ℕ) (t : Bool) (nowhere_else : t ≡ eqb site nowhere) where
-  pub set_improper : t ≡ true → Err (unvalued status.Slot) ≡ tested (site_rows v work r site) v
-  set_improper h = rw (← nowhere_else, h)
+-- the count
+module _ (v : View) (work : List ℕ) (r : Registers) (spot : Spot) where
+  pub count_words : CountReady work v spot → (first : ℕ) → first ≡ spot.slot / ways * ways → slot_at (first + ways) ≤ length work
+  count_words ready first e = rw e ready.words
 
-  module _ (found : t ≡ false) where
-    pub set_words : SiteReady work v site → (first : ℕ) → first ≡ first_slot_of site → slot_at (first + ways) ≤ length work
-    set_words ready first e = rw e (ready.words (eqb-false site nowhere (sym nowhere_else ∙ found)))
+  module _ (first : ℕ) (here : first ≡ spot.slot / ways * ways) (m : Bool) (count : m ≡ miscounted v r work (slots_from first)) where
+    pub count_refused : m ≡ true → Err (unvalued status.Regs) ≡ tested (count_rows v work r spot) v
+    count_refused h = rw (← here, ← count, h)
 
-    module _ (first : ℕ) (here : first ≡ first_slot_of site) (m : Bool) (count : m ≡ miscounted v r work (slots_from first)) where
-      pub set_miscounted : m ≡ true → Err (unvalued status.Regs) ≡ tested (site_rows v work r site) v
-      set_miscounted h = rw (← nowhere_else, found, ← here, ← count, h)
-
-      pub set_passed : m ≡ false → Ok v ≡ tested (site_rows v work r site) v
-      set_passed h = rw (← nowhere_else, found, ← here, ← count, h)
+    pub count_passed : m ≡ false → Ok v ≡ tested (count_rows v work r spot) v
+    count_passed h = rw (← here, ← count, h)
 
 -- 8
 module _ (v : View) (work : List ℕ) (r : Registers) (spot : Spot) where

@@ -1,16 +1,19 @@
 -- What a view that was read, and one that passed a call's first tests, tell.
-use Rattle.std.specs.Prelude.{Ok, ◌≡◌, ℕ, ◌+◌, ◌-◌, ◌<◌, ◌≤◌, Bool, true, List, [], ◌∷◌, length, ◌==◌, ◌≢◌}
+use Rattle.std.specs.Prelude.{Result, Ok, Err, ◌≡◌, ℕ, ◌+◌, ◌-◌, ◌*◌, ◌/◌, ◌<◌, ◌≤◌, Bool, true, false, List, [], ◌∷◌, length}
 use Rattle.layout.specs.Limits.{last_epoch, ways, most_slots, buffer_places, most_ahead}
 use Rattle.layout.specs.Memory.{board_words, work_words, slot_at}
 use Rattle.layout.specs.Sizes.{Sizes, Bounded, WholeSets}
 use Rattle.layout.specs.Words.{ControlFits, ShapeFits}
+use Rattle.checks.specs.declared.Refusal.{Refusal}
 use Rattle.checks.specs.declared.Registers.{Registers}
 use Rattle.checks.specs.declared.View.{View}
 use Rattle.status.specs.declared.Status.TheVariants as status
-use Rattle.slots.specs.Passes.{nowhere, first_slot_of}
+use Rattle.slots.specs.declared.Spot.{Spot}
+use Rattle.slots.specs.declared.sets.Site.{Site}
+use Rattle.slots.specs.declared.sets.Site.TheVariants.{Improper, Held, Free}
 use Rattle.slots.specs.Sets.{slots_from, spot_of}
 use Rattle.checks.specs.declared.Line.{Line}
-use Rattle.checks.specs.Refusals.{Row, row, line_checked, store_checked}
+use Rattle.checks.specs.Refusals.{unvalued, Row, row, line_checked, store_checked}
 use Rattle.checks.specs.View.{view_of, proper_pass, miscounted}
 
 pub record Viewed (board : List ℕ) (v : View) : Type 0 where
@@ -69,14 +72,18 @@ pub record Roomy (board work : List ℕ) (r : Registers) (address : ℕ) (l : Li
   pub passed : Ok l.view ≡ store_checked board work r address
   pub at : l.spot ≡ spot_of work l.view.slots address
 
--- 6 and the count's test as a pass over a set tells them: nowhere, or of the set in which the site is
-abbrev pub site_rows : View → List ℕ → Registers → (site : ℕ) → List Row
-site_rows v work r site =
-    row (site == nowhere) status.Slot ∷ row (miscounted v r work (slots_from (first_slot_of site))) status.Regs ∷ []
+-- 6 as a pass over a set tells it, and the count's test of the set in which the slot is
+abbrev pub set_checked : Site → Result Spot Refusal
+set_checked Improper = Err (unvalued status.Slot)
+set_checked (Held slot) = Ok (record { slot = slot; held = true })
+set_checked (Free slot) = Ok (record { slot = slot; held = false })
 
-pub record SiteReady (work : List ℕ) (v : View) (site : ℕ) : Type 0 where
+abbrev pub count_rows : View → List ℕ → Registers → Spot → List Row
+count_rows v work r spot = row (miscounted v r work (slots_from (spot.slot / ways * ways))) status.Regs ∷ []
+
+pub record CountReady (work : List ℕ) (v : View) (spot : Spot) : Type 0 where
   pub some : 1 ≤ v.slots
-  pub words : (site ≢ nowhere) → slot_at (first_slot_of site + ways) ≤ length work
+  pub words : slot_at (spot.slot / ways * ways + ways) ≤ length work
 
 -- the count can do without a slot that was dirty, and with one that is
 pub record Countable (r : Registers) (was : Bool) : Type 0 where

@@ -1,26 +1,29 @@
 -- A call makes its check in stages: what the answer of one stage tells of the whole check, and what it gives the next stage. The premises
 -- are what the code knows there.
-use Rattle.std.specs.Prelude.{Result, Ok, Err, IsErrAnd, MatchResult, ◌≡◌, ℕ, ◌+◌, ◌-◌, ◌<◌, ◌≤◌, Bool, true, false, List, ◌++◌, length, ◌≢◌, refl}
+use Rattle.std.specs.Prelude.{Result, Ok, Err, IsErrAnd, MatchResult, ◌≡◌, ℕ, ◌+◌, ◌-◌, ◌<◌, ◌≤◌, Bool, true, false, cond, List, ◌++◌, refl}
 use Rattle.std.proofs.Common.{sym, ap, ◌∙◌, arith}
 use Rattle.layout.specs.Laws.{control_laws}
-use Rattle.layout.specs.Limits.{last_epoch, ways, most_slots}
-use Rattle.layout.specs.Memory.{slot_at}
+use Rattle.layout.specs.Limits.{last_epoch}
 use Rattle.layout.specs.Words.{ControlFits, encode_slot}
+use Rattle.status.specs.declared.Status.TheVariants as status
+use Rattle.slots.specs.declared.Spot.{Spot}
+use Rattle.slots.specs.declared.sets.Site.{Site}
+use Rattle.slots.specs.declared.sets.Site.TheVariants.{Held, Free}
 use Rattle.slots.specs.Promises.{BoundsReady, SpotReady, TagsReady}
 use Rattle.slots.specs.Laws.{spot_below}
-use Rattle.slots.specs.Passes.{bounds_by, nowhere, first_slot_of, site_for, spot_at}
+use Rattle.slots.specs.Passes.{bounds_by, site_of, site_for}
 use Rattle.slots.specs.Sets.{places_of, proper_set, spot_of}
-use Rattle.slots.specs.Sited.{bounds_by_holds, tags_ready, site_improper, site_somewhere, site_first, site_words, site_proper, spot_again}
+use Rattle.slots.specs.Sited.{bounds_by_holds, tags_ready, site_improper, site_proper, spot_set, spot_words}
 use Rattle.slots.specs.Slots.{dirty_slot}
 use Rattle.checks.specs.declared.Refusal.{Refusal}
 use Rattle.checks.specs.declared.Registers.{Registers}
 use Rattle.checks.specs.declared.Line.{Line}
 use Rattle.checks.specs.declared.View.{View}
 use Rattle.checks.specs.View.{view_of, bounds_of}
-use Rattle.checks.specs.Refusals.{Checked, Row, tested, then, line_rows, buffer_rows, room_rows}
+use Rattle.checks.specs.Refusals.{Checked, unvalued, Row, tested, then, line_rows, buffer_rows, room_rows}
 use Rattle.checks.specs.Refusals.{memories_checked, running_checked, ready_checked, named_checked, line_checked, store_checked}
-use Rattle.checks.specs.Promises.{Running, RowsReady, SiteReady, Sited, Roomy, site_rows}
-use Rattle.checks.specs.Laws.{passed_view, then_passed, memories_shaped, running, ready_running, named_running, named_inside, line_running, line_proper}
+use Rattle.checks.specs.Promises.{Running, RowsReady, CountReady, set_checked, count_rows, Sited, Roomy}
+use Rattle.checks.specs.Laws.{passed_view, then_passed, memories_shaped, running, ready_running, named_running, named_inside, line_running, differ}
 
 -- what `?` hands on is what the check before it has refused
 pub handed_as : {T U : Type 0} (P : T → Type 0) (Q : U → Type 0) (k : Result T U) (why : U) → IsErrAnd k (λ x. x ≡ why) → Q why → MatchResult k P Q
@@ -30,6 +33,14 @@ handed_as P Q (Err x) why same q = rw same q
 pub handed : (whole k : Checked) (why : Refusal) → IsErrAnd k (λ x. x ≡ why) → Err why ≡ whole → k ≡ whole
 handed whole (Ok v) why same e = absurd same
 handed whole (Err x) why same e = rw same e
+
+-- a spot, told as a site
+pub spot_again : (spot : Spot) → set_checked (site_of spot) ≡ Ok spot
+spot_again spot = go spot.held
+  where
+    go : (t : Bool) → set_checked (cond t (Held spot.slot) (Free spot.slot)) ≡ Ok (record { slot = spot.slot; held = t })
+    go true = refl
+    go false = refl
 
 -- rows behind a check that passed
 module _ (before : Checked) (rows : View → List Row) (v : View) (passed : Ok v ≡ before) (k : Checked) (is : k ≡ tested (rows v) v) where
@@ -94,60 +105,69 @@ module _ (board work : List ℕ) (r : Registers) (address : ℕ) (v : View) (pas
     pub named_tags : TagsReady least tags
     named_tags = tags_ready (bounds_of v r) least tags bounds first many
 
-    module _ (site : ℕ) (found : site ≡ site_for (bounds_by v.slots v.shape.lines least tags) work address) where
-      some : ways ≤ v.slots
-      some = named.shaped.sets.some
-
-      most : v.slots ≤ most_slots
-      most = named.shaped.sets.most
-
+    module _ (site : Site) (found : site ≡ site_for (bounds_by v.slots v.shape.lines least tags) work address) where
       here : site ≡ site_for (bounds_of v r) work address
       here = rw (bounds_by_holds (bounds_of v r) least tags bounds first many) at found
 
       abbrev proper : Bool
       proper = proper_set (bounds_of v r) work (places_of v.slots address)
 
-      pub site_ready : SiteReady work v site
-      site_ready =
-          record {
-            some = omega (arith, some);
-            words = λ n. rw here (go proper refl (rw here at n));
-          }
-        where
-          go : (t : Bool) → proper ≡ t → (site_for (bounds_of v r) work address ≢ nowhere)
-              → slot_at (first_slot_of (site_for (bounds_of v r) work address) + ways) ≤ length work
-          go true e n = site_words (bounds_of v r) work address some most e (omega (arith, named.shaped.work_words_holds))
-          go false e n = absurd (n (site_improper (bounds_of v r) work address some most e))
+      -- 6
+      refused : proper ≡ false → set_checked site ≡ Err (unvalued status.Slot)
+      refused e = ap set_checked (here ∙ site_improper (bounds_of v r) work address e)
 
-      site_tested : tested (site_rows v work r site ++ buffer_rows v work r) v ≡ tested (line_rows v work r address) v
-      site_tested = rw here (go proper refl)
-        where
-          go : (t : Bool) → proper ≡ t
-              → tested (site_rows v work r (site_for (bounds_of v r) work address) ++ buffer_rows v work r) v ≡ tested (line_rows v work r address) v
-          go true e =
-              rw (
-                e,
-                site_somewhere (bounds_of v r) work address some most e,
-                site_first (bounds_of v r) work address some most e,
-              )
-          go false e = rw (e, site_improper (bounds_of v r) work address some most e)
+      placed : proper ≡ true → set_checked site ≡ Ok (spot_of work v.slots address)
+      placed e = ap set_checked (here ∙ site_proper (bounds_of v r) work address e) ∙ spot_again (spot_of work v.slots address)
 
-      -- 6, the count, 7 and 14
-      abbrev site_rest : Checked
-      site_rest = tested (site_rows v work r site ++ buffer_rows v work r) v
-
-      pub line_staged : (k : Checked) → k ≡ site_rest → k ≡ line_checked board work r address
+      pub set_refused : (why : Refusal) → Err why ≡ set_checked site → Err why ≡ line_checked board work r address
       unfolding line_checked
-      line_staged k is = staged (named_checked board work r address) (λ w. line_rows w work r address) v passed k (is ∙ site_tested)
+      set_refused why is =
+          staged (named_checked board work r address) (λ w. line_rows w work r address) v passed (Err why) (go proper refl)
+        where
+          go : (t : Bool) → proper ≡ t → Err why ≡ tested (line_rows v work r address) v
+          go true e = let both : Err why ≡ Ok (spot_of work v.slots address) = is ∙ placed e in absurd (differ cc)
+          go false e =
+              let both : ◌≡◌ {A = Result Spot Refusal} (Err why) (Err (unvalued status.Slot)) = is ∙ refused e in
+              let same : why ≡ unvalued status.Slot = cc in
+              rw (e, same)
 
-      -- and where the line is held or put
-      pub line_sited : (w : View) (l : Line) → Ok w ≡ site_rest → l.view ≡ v → l.spot ≡ spot_at site → Sited board work r address l
-      unfolding line_checked
-      line_sited w l is e at =
-          let all : Ok v ≡ line_checked board work r address =
-          staged_passed (named_checked board work r address) (λ w. line_rows w work r address) v w passed (is ∙ site_tested) in
-          let whole = here ∙ site_proper (bounds_of v r) work address some most (line_proper board work r address v all) in
-          record { passed = rw e all; at = rw e (at ∙ ap spot_at whole ∙ spot_again (spot_of work v.slots address)) }
+      module _ (spot : Spot) (is : Ok spot ≡ set_checked site) where
+        sound : proper ≡ true
+        sound = go proper refl
+          where
+            go : (t : Bool) → proper ≡ t → proper ≡ true
+            go true e = e
+            go false e = let both : Ok spot ≡ Err (unvalued status.Slot) = is ∙ refused e in absurd (differ cc)
+
+        whole : spot ≡ spot_of work v.slots address
+        whole = let same : Ok spot ≡ Ok (spot_of work v.slots address) = is ∙ placed sound in cc
+
+        pub count_ready : CountReady work v spot
+        count_ready =
+            record {
+              some = omega (arith, named.shaped.sets.some);
+              words = rw whole (spot_words work v.slots address named.shaped.sets.some (omega (arith, named.shaped.work_words_holds)));
+            }
+
+        -- the count, 7 and 14
+        abbrev spot_rest : Checked
+        spot_rest = tested (count_rows v work r spot ++ buffer_rows v work r) v
+
+        spot_tested : spot_rest ≡ tested (line_rows v work r address) v
+        spot_tested = rw (sound, whole, spot_set work v.slots address named.shaped.sets.some)
+
+        pub line_staged : (k : Checked) → k ≡ spot_rest → k ≡ line_checked board work r address
+        unfolding line_checked
+        line_staged k e = staged (named_checked board work r address) (λ w. line_rows w work r address) v passed k (e ∙ spot_tested)
+
+        -- and where the line is held or put
+        pub line_sited : (w : View) (l : Line) → Ok w ≡ spot_rest → l.view ≡ v → l.spot ≡ spot → Sited board work r address l
+        unfolding line_checked
+        line_sited w l all e at =
+            record {
+              passed = rw e (staged_passed (named_checked board work r address) (λ w. line_rows w work r address) v w passed (all ∙ spot_tested));
+              at = rw e (at ∙ whole);
+            }
 
 -- 8 of store, behind the rows of load
 module _ (board work : List ℕ) (r : Registers) (address : ℕ) (l : Line) (s : Sited board work r address l) where

@@ -1,18 +1,20 @@
 // The paper's table of refusals. A call makes its tests in stages, in the order of specs/Refusals. Each check stands behind another:
 // check_board (1), check_memories (and 2), check_power_up (and 3); check_running (1 2 4), check_ready (1 2 4 7 14), and behind that
-// check_commit (9 10) and check_begin (15). Load and evict make check_line: check_named (1 2 4 5), a pass over their set and check_site (6,
-// the count's 4, 7 and 14); check_store has check_room (8) besides. Scan makes check_running and check_visit (6, the count's 4, 7, 14 and 11).
+// check_commit (9 10) and check_begin (15). Load and evict make check_line: check_named (1 2 4 5), a pass over their set, check_set (6)
+// and check_spot (the count's 4, 7 and 14); check_store has check_room (8) besides. Scan makes check_running and check_visit (6, the count's
+// 4, 7, 14 and 11).
 // Those that calls share are `#[inline(always)]`: then a Result is no struct in memory, and costs a commit 80 instructions less.
 ghost use Rattle.std.specs.Prelude.{Err, MatchResult, ◌≡◌, ◌<◌, ◌≤◌, ◌++◌, length};
 ghost use Rattle.layout.specs.Limits.{last_epoch};
 ghost use Rattle.layout.specs.Words.{ControlFits};
 ghost use Rattle.checks.specs.Refusals.{tested, entry_rows, register_rows, buffer_rows, address_rows, room_rows, epoch_rows, cursor_rows, waiting_rows, scan_rows, target_rows};
 ghost use Rattle.checks.specs.Refusals.{board_checked, memories_checked, power_up_checked, running_checked, ready_checked, named_checked, commit_checked, begin_checked, scan_checked, line_checked, store_checked};
-ghost use Rattle.checks.specs.Promises.{Shaped, RowsReady, SiteReady, site_rows, Sited, Roomy};
+ghost use Rattle.checks.specs.Promises.{Shaped, RowsReady, CountReady, set_checked, count_rows, Sited, Roomy};
 
 use crate::sizes::is_good_work;
 use crate::{Line, Refusal, Registers, View};
-use layout::{LAST_EPOCH, LOG_AT, MOST_AHEAD, SHAPE_AT, Shape};
+use layout::{LAST_EPOCH, LOG_AT, MOST_AHEAD, SHAPE_AT, Shape, WAYS};
+use slots::{Site, Spot};
 use status::Status;
 
 // 1 of the paper's table.
@@ -148,28 +150,37 @@ fn check_named(
     check_address(view, address)
 }
 
-// 6 of load, store and evict and then 4 for the count, by what a pass over the set has found.
-fn check_set(view: View, work: &[u64], registers: Registers, site: usize) -> Result<View, Refusal>
-    requires { SiteReady work.now view site }
-    ensures { result ≡ tested (site_rows view work.now registers site) view }
+// 6 of load, store and evict, by what a pass over the set has found.
+#[inline(always)]
+fn check_set(site: Site) -> Result<Spot, Refusal>
+    ensures { result ≡ set_checked site }
 {
-    if slots::is_nowhere(site) {
-        return Err(Refusal::from(Status::Slot));
+    match site {
+        Site::Free(slot) => Ok(Spot { slot, held: false }),
+        Site::Held(slot) => Ok(Spot { slot, held: true }),
+        Site::Improper => Err(Refusal::from(Status::Slot)),
     }
-    if registers.is_miscounted_set(view, work, slots::first_slot_of(site)) {
+}
+
+// And then 4 for the count, by the set of the slot that was found.
+fn check_count(view: View, work: &[u64], registers: Registers, spot: Spot) -> Result<View, Refusal>
+    requires { CountReady work.now view spot }
+    ensures { result ≡ tested (count_rows view work.now registers spot) view }
+{
+    if registers.is_miscounted_set(view, work, spot.slot / WAYS * WAYS) {
         return Err(Refusal::from(Status::Regs));
     }
     Ok(view)
 }
 
-// The rows behind 5 of load, store and evict: 6, the count's 4, 7 and 14.
+// The rows behind 6 of load, store and evict: the count's 4, 7 and 14.
 #[inline(always)]
-fn check_site(view: View, work: &[u64], registers: Registers, site: usize) -> Result<View, Refusal>
+fn check_spot(view: View, work: &[u64], registers: Registers, spot: Spot) -> Result<View, Refusal>
     requires rows_ready { RowsReady work.now registers view }
-    requires site_ready { SiteReady work.now view site }
-    ensures { result ≡ tested (site_rows view work.now registers site ++ buffer_rows view work.now registers) view }
+    requires count_ready { CountReady work.now view spot }
+    ensures { result ≡ tested (count_rows view work.now registers spot ++ buffer_rows view work.now registers) view }
 {
-    check_set(view, work, registers, site)?;
+    check_count(view, work, registers, spot)?;
     check_buffer(view, work, registers)
 }
 
@@ -188,11 +199,9 @@ pub fn check_line(
     let least = view.least_tag();
     let tags = view.tags(registers);
     let site = slots::site_for(work, view.slots, view.shape.lines, least, tags, address);
-    check_site(view, work, registers, site)?;
-    Ok(Line {
-        view,
-        spot: slots::spot_at(site),
-    })
+    let spot = check_set(site)?;
+    check_spot(view, work, registers, spot)?;
+    Ok(Line { view, spot })
 }
 
 // 8 of store.

@@ -22,8 +22,10 @@ use Rattle.layout.specs.ZeroWord.{empty_slot, encode_empty, decode_zero}
 use Rattle.slots.specs.declared.Bounds.{Bounds}
 use Rattle.slots.specs.declared.sets.Line.{Line}
 use Rattle.slots.specs.declared.sets.Sets.{Sets}
+use Rattle.slots.specs.declared.sets.Site.{Site}
+use Rattle.slots.specs.declared.sets.Site.TheVariants.{Improper, Held, Free}
 use Rattle.slots.specs.Promises.{SpotReady, TagsReady}
-use Rattle.slots.specs.Passes.{near, SetsOf, Remains, bounds_by, LinesReady, line_of, proper_in, no_line, address_or_none, LineIn, twice_of, lowest_of, nowhere, beyond_of, site_by, site_among, site_for}
+use Rattle.slots.specs.Passes.{near, SetsOf, Remains, bounds_by, LinesReady, line_of, proper_in, no_line, address_or_none, LineIn, twice_of, lowest_of, beyond_of, site_by, site_among, site_for}
 use Rattle.slots.specs.Sets.{slots_from, places_of, held_twice, proper_set, victim_of, spot_of}
 use Rattle.slots.specs.Slots.{set_of, proper_tag, proper_at, holds}
 use Rattle.slots.proofs.Lines.{proper_in_holds}
@@ -33,35 +35,35 @@ pub lowest_is : (a b c d x y z : ℕ) → z ≡ min (c + 2) (d + 3) → y ≡ mi
 lowest_is a b c d x y z p q r = rw (r, q, p)
 
 module _ (first address : ℕ) (a b c d : Line) where
-  pub site_first : a.address ≡ address → 2 * first + 1 ≡ site_by first address a b c d
+  pub site_first : a.address ≡ address → Held first ≡ site_by first address a b c d
   site_first h = rw (eq-eqb a.address address h)
 
   module _ (na : a.address ≡ address → ⊥) where
-    pub site_second : b.address ≡ address → 2 * first + 3 ≡ site_by first address a b c d
+    pub site_second : b.address ≡ address → Held (first + 1) ≡ site_by first address a b c d
     site_second h = rw (ne_eqb a.address address na, eq-eqb b.address address h)
 
     module _ (nb : b.address ≡ address → ⊥) where
-      pub site_third : c.address ≡ address → 2 * first + 5 ≡ site_by first address a b c d
+      pub site_third : c.address ≡ address → Held (first + 2) ≡ site_by first address a b c d
       site_third h = rw (ne_eqb a.address address na, ne_eqb b.address address nb, eq-eqb c.address address h)
 
       module _ (nc : c.address ≡ address → ⊥) where
-        pub site_fourth : d.address ≡ address → 2 * first + 7 ≡ site_by first address a b c d
+        pub site_fourth : d.address ≡ address → Held (first + 3) ≡ site_by first address a b c d
         site_fourth h =
             rw (ne_eqb a.address address na, ne_eqb b.address address nb, ne_eqb c.address address nc, eq-eqb d.address address h)
 
         pub site_taken : (way : ℕ) → (d.address ≡ address → ⊥) → way ≡ lowest_of a.form b.form c.form d.form
-            → 2 * (first + way) ≡ site_by first address a b c d
+            → Free (first + way) ≡ site_by first address a b c d
         site_taken way nd e =
             rw (e, ne_eqb a.address address na, ne_eqb b.address address nb, ne_eqb c.address address nc, ne_eqb d.address address nd)
 
-  pub among_beyond : near ≤ beyond_of a b c d → nowhere ≡ site_among first address a b c d
+  pub among_beyond : near ≤ beyond_of a b c d → Improper ≡ site_among first address a b c d
   among_beyond h = rw (le-ltb (beyond_of a b c d) near h)
 
   module _ (close : beyond_of a b c d < near) (t : Bool) (twice : t ≡ twice_of a.address b.address c.address d.address) where
-    pub among_twice : t ≡ true → nowhere ≡ site_among first address a b c d
+    pub among_twice : t ≡ true → Improper ≡ site_among first address a b c d
     among_twice h = rw (lt-ltb (beyond_of a b c d) near close, ← twice, h)
 
-    pub among_site : (r : ℕ) → t ≡ false → r ≡ site_by first address a b c d → r ≡ site_among first address a b c d
+    pub among_site : (r : Site) → t ≡ false → r ≡ site_by first address a b c d → r ≡ site_among first address a b c d
     among_site r h e = e ∙ sym (rw (lt-ltb (beyond_of a b c d) near close, ← twice, h))
 
 -- ---- a proper slot
@@ -278,7 +280,9 @@ module _ (b : Bounds) (work : List ℕ) (set address : ℕ) (fits : address < no
       here j way x p e = holds_named b work set j p way address fits x.address e
 
       site_is : site_by k address l m n o
-          ≡ 2 * first_of (λ j. holds work j address) (slots_from k) (victim_of work (slots_from k)) + bit (any_of (λ j. holds work j address) (slots_from k))
+          ≡ cond (any_of (λ j. holds work j address) (slots_from k))
+          (Held (first_of (λ j. holds work j address) (slots_from k) (victim_of work (slots_from k))))
+          (Free (first_of (λ j. holds work j address) (slots_from k) (victim_of work (slots_from k))))
       site_is =
           rw (
             taken_is,
@@ -293,23 +297,27 @@ module _ (b : Bounds) (work : List ℕ) (set address : ℕ) (fits : address < no
           w = k + lowest_of l.form m.form n.form o.form
 
           go : (p q r t : Bool)
-              → cond p (2 * k + 1) (cond q (2 * k + 3) (cond r (2 * k + 5) (cond t (2 * k + 7) (2 * w))))
-              ≡ 2 * cond p k (cond q (k + 1) (cond r (k + 2) (cond t (k + 3) w))) + bit (p || (q || (r || (t || false))))
+              → cond p (Held k) (cond q (Held (k + 1)) (cond r (Held (k + 2)) (cond t (Held (k + 3)) (Free w))))
+              ≡ cond (p || (q || (r || (t || false))))
+              (Held (cond p k (cond q (k + 1) (cond r (k + 2) (cond t (k + 3) w)))))
+              (Free (cond p k (cond q (k + 1) (cond r (k + 2) (cond t (k + 3) w)))))
           go true q r t = refl
-          go false true r t = omega arith
-          go false false true t = omega arith
-          go false false false true = omega arith
-          go false false false false = omega arith
+          go false true r t = refl
+          go false false true t = refl
+          go false false false true = refl
+          go false false false false = refl
 
     pub among_is : set_of b.slots address ≡ set → site_among k address l m n o ≡ site_for b work address
     unfolding site_for proper_set places_of spot_of
     among_is home = rw (home, all_near) (go (all_of (proper_at b work) (slots_from k)) refl)
       where
         go : (t : Bool) → all_of (proper_at b work) (slots_from k) ≡ t
-            → cond (t && not (twice_of l.address m.address n.address o.address)) (site_by k address l m n o) nowhere
+            → cond (t && not (twice_of l.address m.address n.address o.address)) (site_by k address l m n o) Improper
             ≡ cond (t && not (held_twice work (slots_from k)))
-            (2 * first_of (λ j. holds work j address) (slots_from k) (victim_of work (slots_from k)) + bit (any_of (λ j. holds work j address) (slots_from k)))
-            nowhere
+            (cond (any_of (λ j. holds work j address) (slots_from k))
+            (Held (first_of (λ j. holds work j address) (slots_from k) (victim_of work (slots_from k))))
+            (Free (first_of (λ j. holds work j address) (slots_from k) (victim_of work (slots_from k)))))
+            Improper
         go true all = rw (twice_is all, site_is all)
         go false all = refl
 
@@ -341,7 +349,7 @@ module _ (work : List ℕ) (slots least tags address : ℕ) (ready : SpotReady w
     lines_ready tagged =
         record { tags_ready = tagged; divides = so.dividing; some = omega (arith, remains.below); most = omega arith }
 
-    pub site_found : (lines : ℕ) (l m n o : Line) (r : ℕ)
+    pub site_found : (lines : ℕ) (l m n o : Line) (r : Site)
         → LineIn (bounds_by (ways * s.count) lines least tags) (s.count - away) 0 (get_or work (2 * (ways * set)) 0) l
         → LineIn (bounds_by (ways * s.count) lines least tags) (s.count - away) 1 (get_or work (2 * (ways * set) + 2) 0) m
         → LineIn (bounds_by (ways * s.count) lines least tags) (s.count - away) 2 (get_or work (2 * (ways * set) + 4) 0) n

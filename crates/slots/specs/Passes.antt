@@ -3,11 +3,13 @@ use Rattle.std.specs.Prelude.{ℕ, ◌+◌, ◌-◌, ◌*◌, ◌/◌, ◌%◌, 
 use Rattle.std.specs.Int.Bits.{bit_or}
 use Rattle.layout.specs.Limits.{address_bits, ways, most_slots}
 use Rattle.layout.specs.SlotTests.{slot_form}
-use Rattle.layout.specs.Words.{bit, decode_slot}
+use Rattle.layout.specs.Words.{decode_slot}
 use Rattle.layout.specs.declared.Slot.{Slot}
 use Rattle.slots.specs.declared.Bounds.{Bounds}
 use Rattle.slots.specs.declared.sets.Line.{Line}
 use Rattle.slots.specs.declared.sets.Sets.{Sets}
+use Rattle.slots.specs.declared.sets.Site.{Site}
+use Rattle.slots.specs.declared.sets.Site.TheVariants.{Improper, Held, Free}
 use Rattle.slots.specs.declared.Spot.{Spot}
 use Rattle.slots.specs.Promises.{TagsReady}
 use Rattle.slots.specs.Slots.{set_of, proper_tag}
@@ -84,34 +86,25 @@ twice_of a b c d = (eqb b a || (eqb c a || eqb d a)) || ((eqb c b || eqb d b) ||
 abbrev pub lowest_of : (a b c d : ℕ) → ℕ
 lowest_of a b c d = min a (min (b + 1) (min (c + 2) (d + 3))) % ways
 
--- a spot as one number, and one that is none
-abbrev pub site_of : Spot → ℕ
-site_of spot = 2 * spot.slot + bit spot.held
+-- what is found in a proper set
+abbrev pub site_of : Spot → Site
+site_of spot = cond spot.held (Held spot.slot) (Free spot.slot)
 
-abbrev pub nowhere : ℕ
-nowhere = 2 * most_slots
-
-abbrev pub spot_at : ℕ → Spot
-spot_at site = record { slot = site / 2; held = eqb (site % 2) 1 }
-
-abbrev pub first_slot_of : ℕ → ℕ
-first_slot_of site = site / (2 * ways) * ways
-
-abbrev pub site_by : (first address : ℕ) → (a b c d : Line) → ℕ
+abbrev pub site_by : (first address : ℕ) → (a b c d : Line) → Site
 site_by first address a b c d =
-    cond (eqb a.address address) (2 * first + 1)
-    (cond (eqb b.address address) (2 * first + 3)
-    (cond (eqb c.address address) (2 * first + 5)
-    (cond (eqb d.address address) (2 * first + 7) (2 * (first + lowest_of a.form b.form c.form d.form)))))
+    cond (eqb a.address address) (Held first)
+    (cond (eqb b.address address) (Held (first + 1))
+    (cond (eqb c.address address) (Held (first + 2))
+    (cond (eqb d.address address) (Held (first + 3)) (Free (first + lowest_of a.form b.form c.form d.form)))))
 
 abbrev pub beyond_of : (a b c d : Line) → ℕ
 beyond_of a b c d = bit_or (bit_or (bit_or a.beyond b.beyond) c.beyond) d.beyond
 
-abbrev pub site_among : (first address : ℕ) → (a b c d : Line) → ℕ
+abbrev pub site_among : (first address : ℕ) → (a b c d : Line) → Site
 site_among first address a b c d =
-    cond (ltb (beyond_of a b c d) near && not (twice_of a.address b.address c.address d.address)) (site_by first address a b c d) nowhere
+    cond (ltb (beyond_of a b c d) near && not (twice_of a.address b.address c.address d.address)) (site_by first address a b c d) Improper
 
 -- where the line at an address is held or put, if its set is proper
-unfoldable pub site_for : Bounds → List ℕ → (address : ℕ) → ℕ
+unfoldable pub site_for : Bounds → List ℕ → (address : ℕ) → Site
 site_for b work address =
-    cond (proper_set b work (places_of b.slots address)) (site_of (spot_of work b.slots address)) nowhere
+    cond (proper_set b work (places_of b.slots address)) (site_of (spot_of work b.slots address)) Improper

@@ -1,16 +1,16 @@
 -- What a pass over a set is told, and what its answer tells.
-use Rattle.std.specs.Prelude.{ℕ, ◌+◌, ◌-◌, ◌*◌, ◌/◌, ◌%◌, ◌<◌, ◌≤◌, ◌≡◌, Bool, true, false, List, eqb, length}
-use Rattle.std.proofs.Common.{ap, ◌∙◌, arith, eq-eqb, ne_eqb}
+use Rattle.std.specs.Prelude.{ℕ, ◌+◌, ◌-◌, ◌*◌, ◌/◌, ◌≤◌, ◌≡◌, Bool, true, false, List, length}
+use Rattle.std.proofs.Common.{ap, ◌∙◌, arith}
 use Rattle.layout.specs.declared.Slot.{Slot}
 use Rattle.layout.specs.Laws.{slot_laws}
-use Rattle.layout.specs.Limits.{ways, most_slots}
+use Rattle.layout.specs.Limits.{ways}
 use Rattle.layout.specs.Memory.{slot_at, slot_words}
-use Rattle.layout.specs.Words.{bit, encode_slot, decode_slot}
+use Rattle.layout.specs.Words.{encode_slot, decode_slot}
 use Rattle.slots.specs.declared.Bounds.{Bounds}
-use Rattle.slots.specs.declared.Spot.{Spot}
+use Rattle.slots.specs.declared.sets.Site.TheVariants.{Improper}
 use Rattle.slots.specs.Promises.{BoundsReady, TagsReady}
-use Rattle.slots.specs.Laws.{set_below, spot_belongs, spot_below}
-use Rattle.slots.specs.Passes.{bounds_by, site_of, nowhere, spot_at, first_slot_of, site_for}
+use Rattle.slots.specs.Laws.{set_below, spot_belongs}
+use Rattle.slots.specs.Passes.{bounds_by, site_of, site_for}
 use Rattle.slots.specs.Sets.{slots_from, places_of, proper_set, spot_of}
 use Rattle.slots.specs.Slots.{set_of, dirty_slot}
 
@@ -45,62 +45,27 @@ tags_ready b least tags ready is few =
 
 -- ---- the answer
 
-pub spot_again : (spot : Spot) → spot_at (site_of spot) ≡ spot
-spot_again spot = go spot.held
-  where
-    go : (t : Bool) → spot_at (2 * spot.slot + bit t) ≡ record { slot = spot.slot; held = t }
-    go true =
-        let slot : (2 * spot.slot + 1) / 2 ≡ spot.slot = omega arith in
-        let held : eqb ((2 * spot.slot + 1) % 2) 1 ≡ true = eq-eqb ((2 * spot.slot + 1) % 2) 1 (omega arith) in
-        λ i. record { slot = slot i; held = held i }
-    go false =
-        let slot : (2 * spot.slot + 0) / 2 ≡ spot.slot = omega arith in
-        let held : eqb ((2 * spot.slot + 0) % 2) 1 ≡ false = ne_eqb ((2 * spot.slot + 0) % 2) 1 (omega arith) in
-        λ i. record { slot = slot i; held = held i }
-
--- the slot of a site
-site_slot : (spot : Spot) → site_of spot / (2 * ways) ≡ spot.slot / ways
-site_slot spot = go spot.held
-  where
-    go : (t : Bool) → (2 * spot.slot + bit t) / (2 * ways) ≡ spot.slot / ways
-    go true = omega arith
-    go false = omega arith
-
-site_below : (spot : Spot) → spot.slot < most_slots → site_of spot < nowhere
-site_below spot h = go spot.held
-  where
-    go : (t : Bool) → 2 * spot.slot + bit t < nowhere
-    go true = omega arith
-    go false = omega arith
-
-module _ (b : Bounds) (work : List ℕ) (address : ℕ) (some : ways ≤ b.slots) (most : b.slots ≤ most_slots) where
+module _ (b : Bounds) (work : List ℕ) (address : ℕ) where
   abbrev proper : Bool
   proper = proper_set b work (places_of b.slots address)
 
-  pub site_improper : proper ≡ false → site_for b work address ≡ nowhere
+  pub site_improper : proper ≡ false → site_for b work address ≡ Improper
   unfolding site_for
   site_improper h = rw h
 
-  module _ (h : proper ≡ true) where
-    pub site_proper : site_for b work address ≡ site_of (spot_of work b.slots address)
-    unfolding site_for
-    site_proper = rw h
+  pub site_proper : proper ≡ true → site_for b work address ≡ site_of (spot_of work b.slots address)
+  unfolding site_for
+  site_proper h = rw h
 
-    pub site_somewhere : eqb (site_for b work address) nowhere ≡ false
-    site_somewhere =
-        rw site_proper
-        (ne_eqb (site_of (spot_of work b.slots address)) nowhere
-        (λ e. omega (arith, site_below (spot_of work b.slots address) (omega (arith, spot_below work b.slots address some)))))
+-- the set of the slot that is found
+module _ (work : List ℕ) (slots address : ℕ) (some : ways ≤ slots) where
+  pub spot_set : slots_from ((spot_of work slots address).slot / ways * ways) ≡ places_of slots address
+  unfolding places_of
+  spot_set =
+      let same : (spot_of work slots address).slot / ways * ways ≡ ways * set_of slots address = omega (arith, spot_belongs work slots address) in
+      rw same
 
-    pub site_first : slots_from (first_slot_of (site_for b work address)) ≡ places_of b.slots address
-    unfolding places_of
-    site_first =
-        let same : first_slot_of (site_for b work address) ≡ ways * set_of b.slots address =
-        rw (site_proper, site_slot (spot_of work b.slots address)) (omega (arith, spot_belongs work b.slots address)) in
-        rw same
-
-    pub site_words : slot_words * b.slots ≤ length work → slot_at (first_slot_of (site_for b work address) + ways) ≤ length work
-    site_words words =
-        let below = spot_below work b.slots address some in
-        let within = set_below b.slots address some in
-        rw (site_proper, site_slot (spot_of work b.slots address)) (omega (arith, spot_belongs work b.slots address))
+  pub spot_words : slot_words * slots ≤ length work → slot_at ((spot_of work slots address).slot / ways * ways + ways) ≤ length work
+  spot_words words =
+      let within = set_below slots address some in
+      omega (arith, spot_belongs work slots address)

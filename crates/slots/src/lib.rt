@@ -12,7 +12,7 @@ ghost use Rattle.slots.specs.Slots.{proper_at, dirty_at, clean_slot, dirty_slot,
 ghost use Rattle.slots.specs.Promises.{BoundsReady};
 
 use layout::{SLOT_WORDS, Slot, WAYS};
-pub use sets::{first_slot_of, is_all_dirty, is_any_dirty, is_nowhere, site_for, spot_at};
+pub use sets::{Site, is_all_dirty, is_any_dirty, site_for};
 
 // The slot that an address takes, and whether it is held there: a slot in either case, so no Option.
 #[derive(Clone, Copy)]

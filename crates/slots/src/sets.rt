@@ -1,17 +1,27 @@
 // The sets of four slots: one pass over a set tells whether it is proper, and where the line at an address is held or put.
-ghost use Rattle.std.specs.Prelude.{◌+◌, ◌-◌, ◌*◌, ◌^◌, ◌<◌, ◌≤◌, length, eqb, ◌≡◌};
+ghost use Rattle.std.specs.Prelude.{◌+◌, ◌-◌, ◌*◌, ◌^◌, ◌<◌, ◌≤◌, length, ◌≡◌};
 ghost use Rattle.base.specs.Several.{all_of, any_of};
 ghost use Rattle.layout.specs.Limits.{address_bits, ways, most_slots};
 ghost use Rattle.layout.specs.Memory.{slot_at, slot_words};
 ghost use Rattle.layout.specs.Sizes.{WholeSets};
 ghost use Rattle.slots.specs.Promises.{SpotReady, TagsReady};
 ghost use Rattle.slots.specs.Passes.{near, Dividing, SetsOf, fraction_of, Remains, bounds_by, LinesReady, lineless, LineIn, twice_of, lowest_of};
-ghost use Rattle.slots.specs.Passes.{nowhere, spot_at, first_slot_of, site_by, site_among, site_for};
+ghost use Rattle.slots.specs.Passes.{site_by, site_among, site_for};
 ghost use Rattle.slots.specs.Sets.{slots_from};
 ghost use Rattle.slots.specs.Slots.{dirty_at};
 
-use crate::{Spot, is_dirty_at};
-use layout::{ADDRESSES, MOST_SLOTS, SLOT_WORDS, WAYS};
+use crate::is_dirty_at;
+use layout::{ADDRESSES, SLOT_WORDS, WAYS};
+
+// What a pass over the set of an address finds: the slot that a line which is not held takes, or the slot that holds it, or that the set is not
+// proper. A kind and one slot come back in two registers, an Option of a Spot through memory. Improper stands last: the number of a kind is then
+// whether the line is held, which takes 2 to 5 instructions less a call.
+#[derive(Clone, Copy)]
+pub enum Site {
+    Free(usize),
+    Held(usize),
+    Improper,
+}
 
 // The number of sets, and 2^32 divided by it, rounded up.
 #[derive(Clone, Copy)]
@@ -118,9 +128,9 @@ fn lowest(a: u64, b: u64, c: u64, d: u64) -> usize
     (first_of_least % WAYS as u64) as usize
 }
 
-// A spot as one number: the slot, doubled, and one more where the line is held. The four lines are tested by name: a position in an array of them
-// costs 15 to 19 instructions a call.
-fn site(first: usize, address: u64, a: Line, b: Line, c: Line, d: Line) -> usize
+// Where the line at an address is in a proper set. The four lines are tested by name: a position in an array of them costs 15 to 19
+// instructions a call.
+fn locate(first: usize, address: u64, a: Line, b: Line, c: Line, d: Line) -> Site
     requires ways_bound { first + ways ≤ most_slots }
     requires form_bound { b.form + 3 < 2 ^ 64 }
     requires form_bound_2 { c.form + 3 < 2 ^ 64 }
@@ -128,24 +138,22 @@ fn site(first: usize, address: u64, a: Line, b: Line, c: Line, d: Line) -> usize
     ensures { result ≡ site_by first address a b c d }
 {
     if a.address == address {
-        return 2 * first + 1;
+        return Site::Held(first);
     }
     if b.address == address {
-        return 2 * first + 3;
+        return Site::Held(first + 1);
     }
     if c.address == address {
-        return 2 * first + 5;
+        return Site::Held(first + 2);
     }
     if d.address == address {
-        return 2 * first + 7;
+        return Site::Held(first + 3);
     }
-    2 * (first + lowest(a.form, b.form, c.form, d.form))
+    Site::Free(first + lowest(a.form, b.form, c.form, d.form))
 }
 
-const NOWHERE: usize = 2 * MOST_SLOTS;
-
 // The site of an address among the lines of a set, if these are proper and no two the same.
-fn site_among(first: usize, address: u64, a: Line, b: Line, c: Line, d: Line) -> usize
+fn site_among(first: usize, address: u64, a: Line, b: Line, c: Line, d: Line) -> Site
     requires ways_bound { first + ways ≤ most_slots }
     requires form_bound { b.form + 3 < 2 ^ 64 }
     requires form_bound_2 { c.form + 3 < 2 ^ 64 }
@@ -153,12 +161,12 @@ fn site_among(first: usize, address: u64, a: Line, b: Line, c: Line, d: Line) ->
     ensures { result ≡ site_among first address a b c d }
 {
     if a.beyond | b.beyond | c.beyond | d.beyond >= NEAR {
-        return NOWHERE;
+        return Site::Improper;
     }
     if is_twice(a.address, b.address, c.address, d.address) {
-        return NOWHERE;
+        return Site::Improper;
     }
-    site(first, address, a, b, c, d)
+    locate(first, address, a, b, c, d)
 }
 
 // Where the other slots of a set stand behind its first.
@@ -170,14 +178,8 @@ const FOURTH: usize = 3 * SLOT_WORDS;
 
 // One pass over the set of an address. It is not joined to the calls that make it, and takes as many arguments as stay in registers: so the
 // persisted epoch and the running one come as the least tag and the number of tags.
-pub fn site_for(
-    work: &[u64],
-    slots: usize,
-    lines: u64,
-    least: u64,
-    tags: u64,
-    address: u64,
-) -> usize
+#[inline(never)]
+pub fn site_for(work: &[u64], slots: usize, lines: u64, least: u64, tags: u64, address: u64) -> Site
     requires spot_ready { SpotReady work.now slots address }
     requires tags_ready { TagsReady least tags }
     ensures { result ≡ site_for (bounds_by slots lines least tags) work.now address }
@@ -192,30 +194,6 @@ pub fn site_for(
     let c = line_in(work[at + THIRD], lines, least, tags, sets, away, 2);
     let d = line_in(work[at + FOURTH], lines, least, tags, sets, away, 3);
     site_among(first, address, a, b, c, d)
-}
-
-// Whether a pass has found its set not to be proper.
-pub fn is_nowhere(site: usize) -> bool
-    ensures { result ≡ eqb site nowhere }
-{
-    site == NOWHERE
-}
-
-// What the site of a proper set stands for.
-pub fn spot_at(site: usize) -> Spot
-    ensures { result ≡ spot_at site }
-{
-    Spot {
-        slot: site / 2,
-        held: site % 2 == 1,
-    }
-}
-
-// The first slot of the set in which a site is.
-pub fn first_slot_of(site: usize) -> usize
-    ensures { result ≡ first_slot_of site }
-{
-    site / (2 * WAYS) * WAYS
 }
 
 // Whether one of four slots is dirty.

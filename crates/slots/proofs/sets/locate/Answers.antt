@@ -1,5 +1,5 @@
 use Rattle.slots.proofs.Sites.{site_first, site_second, site_third, site_fourth, site_taken}
-use Rattle.slots.proofs.sets.site.Goals as goal
+use Rattle.slots.proofs.sets.locate.Goals as goal
 
 pub returns-then-a-address : goal.returns-then-a-address
 returns-then-a-address c = search (site_first)
