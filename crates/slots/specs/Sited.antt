@@ -1,13 +1,13 @@
 -- What a pass over a set is told, and what its answer tells.
-use Rattle.std.specs.Prelude.{ℕ, ◌+◌, ◌-◌, ◌*◌, ◌/◌, ◌≤◌, ◌≡◌, Bool, true, false, List, length}
-use Rattle.std.proofs.Common.{ap, ◌∙◌, arith}
+use Rattle.std.specs.Prelude.{ℕ, ◌+◌, ◌-◌, ◌*◌, ◌/◌, ◌≤◌, ◌≡◌, ◌≢◌, Bool, true, false, cond, List, length}
+use Rattle.std.proofs.Common.{sym, ap, ◌∙◌, arith}
 use Rattle.layout.specs.declared.Slot.{Slot}
 use Rattle.layout.specs.Laws.{slot_laws}
 use Rattle.layout.specs.Limits.{ways}
 use Rattle.layout.specs.Memory.{slot_at, slot_words}
 use Rattle.layout.specs.Words.{encode_slot, decode_slot}
 use Rattle.slots.specs.declared.Bounds.{Bounds}
-use Rattle.slots.specs.declared.sets.Site.TheVariants.{Improper}
+use Rattle.slots.specs.declared.sets.Site.TheVariants.{Improper, Held, Free}
 use Rattle.slots.specs.Promises.{BoundsReady, TagsReady}
 use Rattle.slots.specs.Laws.{set_below, spot_belongs}
 use Rattle.slots.specs.Passes.{bounds_by, site_of, site_for}
@@ -56,6 +56,13 @@ module _ (b : Bounds) (work : List ℕ) (address : ℕ) where
   pub site_proper : proper ≡ true → site_for b work address ≡ site_of (spot_of work b.slots address)
   unfolding site_for
   site_proper h = rw h
+
+  pub site_somewhere : proper ≡ true → site_for b work address ≢ Improper
+  site_somewhere h e = omega (arith, go (spot_of work b.slots address).held (sym (site_proper h) ∙ e))
+    where
+      go : (t : Bool) → cond t (Held (spot_of work b.slots address).slot) (Free (spot_of work b.slots address).slot) ≡ Improper → ◌≡◌ {A = ℕ} 0 1
+      go true e = cc
+      go false e = cc
 
 -- the set of the slot that is found
 module _ (work : List ℕ) (slots address : ℕ) (some : ways ≤ slots) where
