@@ -3,7 +3,7 @@ use Rattle.std.proofs.Common.{◌≡◌, ℕ, suc, ◌+◌, ◌<◌, List, [], �
 use Rattle.layout.specs.Bytes.{bytes_of_word, bytes_of}
 use Rattle.intel_hex.specs.Records.{record_bytes}
 use Rattle.intel_hex.specs.Reading.{word_many, pair_many}
-use Rattle.intel_hex.specs.Promises.{Gathers}
+use Rattle.intel_hex.specs.Places.{pair_bytes}
 
 module _ (lines into : List ℕ) (first : ℕ) (within : first < length lines) where
   abbrev line : ℕ
@@ -13,14 +13,11 @@ module _ (lines into : List ℕ) (first : ℕ) (within : first < length lines) w
     put : part ≡ bytes_of line
     put = copied ∙ is
 
-    pub gather_one : first + 1 ≡ length lines → Gathers (drop first lines) into (part ++ drop bytes_of_word into) bytes_of_word
+    pub gather_one : first + 1 ≡ length lines → take bytes_of_word (part ++ drop bytes_of_word into) ≡ pair_bytes (drop first lines)
     gather_one last =
         let none : drop (suc first) lines ≡ [] = drop_of_length-le lines {i = suc first} (omega (arith, last)) in
         let alone : drop first lines ≡ line ∷ [] = drop-cons lines first 0 within ∙ ap (λ (l : List ℕ). line ∷ l) none in
-        record {
-          many = omega arith;
-          front = rw (alone, put) (take_at (bytes_of line) (drop bytes_of_word into) bytes_of_word (word_many line));
-        }
+        rw (alone, put) (take_at (bytes_of line) (drop bytes_of_word into) bytes_of_word (word_many line))
 
     module _ (more : first + 1 ≡ length lines → ⊥) where
       abbrev next : ℕ
@@ -35,15 +32,12 @@ module _ (lines into : List ℕ) (first : ℕ) (within : first < length lines) w
       begun = part ++ drop bytes_of_word into
 
       pub gather_two : (part₂ word₂ : List ℕ) → part₂ ≡ word₂ → word₂ ≡ bytes_of next
-          → Gathers (drop first lines) into (take bytes_of_word begun ++ (part₂ ++ drop bytes_of_word (drop bytes_of_word begun))) record_bytes
+          → take record_bytes (take bytes_of_word begun ++ (part₂ ++ drop bytes_of_word (drop bytes_of_word begun))) ≡ pair_bytes (drop first lines)
       gather_two part₂ word₂ copied₂ is₂ =
           let behind = drop bytes_of_word (drop bytes_of_word begun) in
           let ahead : take bytes_of_word begun ≡ bytes_of line = rw put (take_at (bytes_of line) (drop bytes_of_word into) bytes_of_word (word_many line)) in
           let joined : take bytes_of_word begun ++ (part₂ ++ behind) ≡ (bytes_of line ++ bytes_of next) ++ behind
           = rw (ahead, copied₂, is₂) (sym (append_assoc (bytes_of line) (bytes_of next) behind)) in
-          record {
-            many = omega arith;
-            front = ap (λ (l : List ℕ). take record_bytes l) joined
-                ∙ take_at (bytes_of line ++ bytes_of next) behind record_bytes (pair_many line next)
-                ∙ rw both;
-          }
+          ap (λ (l : List ℕ). take record_bytes l) joined
+          ∙ take_at (bytes_of line ++ bytes_of next) behind record_bytes (pair_many line next)
+          ∙ rw both

@@ -1,15 +1,16 @@
 -- A record is put part by part: its data, what stands before them, what stands behind.
-use Rattle.std.proofs.Common.{◌≡◌, ℕ, suc, ◌+◌, ◌-◌, ◌*◌, ◌/◌, ◌%◌, ◌^◌, ◌<◌, ◌≤◌, ◌≢◌, List, [], ◌∷◌, ◌++◌, length, get_or, take, drop, set, sym, refl, ap, ◌∙◌, append_assoc, arith, length-append, length-set, length-take-le}
+use Rattle.std.proofs.Common.{◌≡◌, ℕ, suc, ◌+◌, ◌-◌, ◌*◌, ◌/◌, ◌%◌, ◌^◌, ◌<◌, ◌≤◌, ◌≢◌, List, [], ◌∷◌, ◌++◌, length, get_or, drop, set, sym, refl, ap, ◌∙◌, append_assoc, arith, length-append, length-set}
 use lib.Seq.{sets, sets-eq, length-sets, set_comm}
 use Rattle.layout.specs.Bytes.{byte_bits, word_of}
 use Rattle.layout.specs.Fields.{pack, unpack, width}
 use Rattle.status.specs.Names.{bytes}
 use Rattle.intel_hex.specs.Records.{byte_digits, digits_of, line_feed, text_of, sum_of, check_of, checked, two_bytes, record_text, bank_type, bank_text, data_type, data_text, record_bytes, end_text}
 use Rattle.intel_hex.specs.Places.{pair_bytes}
+use Rattle.intel_hex.specs.Reading.{word_many, pair_many}
 use Rattle.intel_hex.specs.Export.{most_text}
 use Rattle.std.specs.Int.{w16, w64, to_be_bytes, from_be_bytes}
 use Rattle.intel_hex.specs.Laws.{digits_many, record_length}
-use Rattle.intel_hex.specs.Promises.{data_at, tail_bytes, text_bytes, head_of, PutsBytes, PutsHead, Puts, Gathers}
+use Rattle.intel_hex.specs.Promises.{data_at, tail_bytes, text_bytes, head_of, PutsBytes, PutsHead, Puts}
 use Rattle.intel_hex.proofs.ByteDigits.{sets_append, digits_append, sum_append}
 
 pub two_made : (n : ℕ) (bs : List ℕ) → bs ≡ to_be_bytes w64 n → (get_or bs 6 0 ∷ get_or bs 7 0 ∷ []) ≡ two_bytes n
@@ -160,17 +161,19 @@ pub bank_put : (text text' two : List ℕ) (bank r : ℕ) → two ≡ two_bytes 
 unfolding bank_text
 bank_put text text' two bank r e p = rw e at p
 
-module _ (lines into into' : List ℕ) (count : ℕ) (gathered : Gathers lines into into' count) (all : length into' ≡ record_bytes) where
-  pub gathered_many : count ≡ length (take count into')
-  gathered_many = sym (length-take-le count into' (omega (arith, all, gathered.many)))
+pair_few : (lines : List ℕ) → length (pair_bytes lines) ≤ record_bytes
+pair_few [] = omega arith
+pair_few (x ∷ []) = rw (word_many x) (omega arith)
+pair_few (x ∷ y ∷ lines) = rw (pair_many x y) (omega arith)
 
-  pub gathered_few : length (take count into') ≤ record_bytes
-  gathered_few = rw (← gathered_many) gathered.many
+module _ (lines held : List ℕ) (gathered : held ≡ pair_bytes lines) where
+  pub gathered_few : length held ≤ record_bytes
+  gathered_few = rw gathered (pair_few lines)
 
-  pub gathered_fits : (text : List ℕ) → most_text ≤ length text → text_bytes (length (take count into')) ≤ length text
-  gathered_fits text h = rw (← gathered_many) (omega (arith, h, gathered.many))
+  pub gathered_fits : (text : List ℕ) → most_text ≤ length text → text_bytes (length held) ≤ length text
+  gathered_fits text h = let few = gathered_few in omega (arith, h, few)
 
-  pub lines_put : (text text' : List ℕ) (address r : ℕ) → Puts (record_text address data_type (take count into')) text text' r
+  pub lines_put : (text text' : List ℕ) (address r : ℕ) → Puts (record_text address data_type held) text text' r
       → Puts (data_text address (pair_bytes lines)) text text' r
   unfolding data_text
-  lines_put text text' address r p = rw gathered.front at p
+  lines_put text text' address r p = rw gathered at p

@@ -21,7 +21,7 @@ use Rattle.intel_hex.specs.Records.{digit_bits, byte_digits, digits_of, line_fee
 use Rattle.intel_hex.specs.Reading.{count_in, address_in, type_in, held_in}
 use Rattle.intel_hex.specs.Contents.{value_of, paired, content_of}
 use Rattle.intel_hex.specs.Import.{capital, in_capitals, well_formed}
-use Rattle.intel_hex.specs.Places.{pair_bytes, last_of}
+use Rattle.intel_hex.specs.Places.{last_of}
 use Rattle.intel_hex.specs.Export.{most_text}
 
 -- the figures are ten, and between them and the letters stand seven other characters
@@ -65,11 +65,6 @@ pub record PutsHead (count address type : ℕ) (text text' : List ℕ) (sum : �
 pub record Puts (written text text' : List ℕ) (r : ℕ) : Type 0 where
   pub many : r ≡ length written
   pub left : text' ≡ written ++ drop (length written) text
-
--- the bytes of a line, and of the next one where there is one, at the start of an array
-pub record Gathers (lines : List ℕ) (into into' : List ℕ) (r : ℕ) : Type 0 where
-  pub many : r ≤ record_bytes
-  pub front : take r into' ≡ pair_bytes lines
 
 -- 16 and 17 passed: what is known of a record's number before the record is written
 pub record Numbered (lines text : List ℕ) (number last : ℕ) : Type 0 where

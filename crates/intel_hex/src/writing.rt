@@ -5,7 +5,7 @@ ghost use Rattle.layout.specs.Bytes.{bytes_of_word};
 ghost use Rattle.intel_hex.specs.Records.{digits_of, line_feed, two_bytes, record_text, bank_text, data_text, end_text, record_bytes};
 ghost use Rattle.intel_hex.specs.Places.{pair_bytes};
 ghost use Rattle.intel_hex.specs.Export.{most_text};
-ghost use Rattle.intel_hex.specs.Promises.{data_at, tail_bytes, text_bytes, PutsHead, Puts, Gathers};
+ghost use Rattle.intel_hex.specs.Promises.{data_at, tail_bytes, text_bytes, PutsHead, Puts};
 
 use crate::digits::{BYTE_DIGITS, put_byte, put_bytes};
 use crate::record;
@@ -57,18 +57,18 @@ fn put(text: &mut [u8], address: u64, kind: u8, held: &[u8]) -> usize
     end + TAIL_BYTES
 }
 
-// Gathers the bytes of a line, and of the next one where there is one. Answers how many they are.
-fn gather(into: &mut [u8], lines: &[u64], first: usize) -> usize
+// The bytes of a line, and of the next one where there is one, gathered in an array.
+fn gather<'a>(into: &'a mut [u8], lines: &[u64], first: usize) -> &'a [u8]
     requires first_in_bounds { first < length lines.now }
     requires record_bytes_in_bounds { record_bytes ≤ length into.old }
-    ensures { Gathers (drop first lines.now) into.old into.new result }
+    ensures { result.now ≡ pair_bytes (drop first lines.now) }
 {
     into[..BYTES_OF_WORD].copy_from_slice(&layout::bytes_of(lines[first]));
     if first + 1 == lines.len() {
-        return BYTES_OF_WORD;
+        return &into[..BYTES_OF_WORD];
     }
     into[BYTES_OF_WORD..MOST_DATA].copy_from_slice(&layout::bytes_of(lines[first + 1]));
-    MOST_DATA
+    &into[..MOST_DATA]
 }
 
 pub fn put_lines(text: &mut [u8], lines: &[u64], first: usize) -> usize
@@ -77,13 +77,8 @@ pub fn put_lines(text: &mut [u8], lines: &[u64], first: usize) -> usize
     ensures { Puts (data_text (bytes_of_word * first) (pair_bytes (drop first lines.now))) text.old text.new result }
 {
     let mut data = [0; MOST_DATA];
-    let count = gather(&mut data, lines, first);
-    put(
-        text,
-        BYTES_OF_WORD as u64 * first as u64,
-        DATA_TYPE,
-        &data[..count],
-    )
+    let held = gather(&mut data, lines, first);
+    put(text, BYTES_OF_WORD as u64 * first as u64, DATA_TYPE, held)
 }
 
 pub fn put_bank(text: &mut [u8], bank: u64) -> usize
