@@ -29,6 +29,7 @@ fn digit(n: u8) -> u8
     b'0' + n + gap_before(n)
 }
 
+// What puts a part of a record is told its place, and no struct moves on through the text: the data are put before what stands ahead of them.
 pub fn put_byte(text: &mut [u8], at: usize, byte: u8)
     requires { at + 1 < length text.old }
     ensures { text.new ≡ sets text.old at (digits_of (byte ∷ [])) }
