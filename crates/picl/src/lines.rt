@@ -9,6 +9,7 @@ ghost use Rattle.picl.specs.Promises.{Calls};
 use crate::{Answer, finish_slot, progress, refused};
 use checks::{Line, Registers};
 use layout::SLOT_WORDS;
+use steps::Write;
 
 fn load_line(
     board: &mut [u64],
@@ -60,15 +61,12 @@ fn store_line(
     let k = line.spot.slot;
     let was = slots::is_dirty_at(work, k);
     let start = progress(line.view, registers, allowance);
-    let done = steps::store(
-        board,
-        work,
-        start,
+    let write = Write {
         address,
-        line.spot,
-        registers.epoch,
+        epoch: registers.epoch,
         value,
-    );
+    };
+    let done = steps::store(board, work, start, line.spot, write);
     finish_slot(work, k, was, done, allowance, 0, registers)
 }
 

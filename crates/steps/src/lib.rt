@@ -18,6 +18,14 @@ use layout::{BUFFER_PLACES, Entry, SLOT_WORDS, Slot};
 use slots::Spot;
 use undo::{LogState, Progress};
 
+// What a store writes: its line's address and new data, and the epoch that it is made in.
+#[derive(Clone, Copy)]
+pub struct Write {
+    pub address: u64,
+    pub epoch: u64,
+    pub value: u64,
+}
+
 // Old data that holds from an epoch on until another.
 fn entry_between(address: u64, from: u64, till: u64) -> Entry
     requires { from ≤ till }
@@ -77,22 +85,21 @@ fn store_held(
     work: &mut [u64],
     progress: Progress,
     k: usize,
-    address: u64,
-    epoch: u64,
-    value: u64,
+    write: Write,
 ) -> Progress
-    requires { StoreHeldReady board.old work.old progress.undo k address epoch }
-    ensures { Acts board.old progress.meter (storing_held progress.undo work.old k address epoch value) board.new work.new result }
+    requires { StoreHeldReady board.old work.old progress.undo k write.address write.epoch }
+    ensures { Acts board.old progress.meter (storing_held progress.undo work.old k write.address write.epoch write.value) board.new work.new result }
 {
     let slot = slots::slot_at(work, k);
-    if !slots::is_entry_due(slot, epoch) {
-        let word = slots::dirty_word(address, epoch);
-        base::set_pair(work, SLOT_WORDS * k, word, value);
+    if !slots::is_entry_due(slot, write.epoch) {
+        let word = slots::dirty_word(write.address, write.epoch);
+        base::set_pair(work, SLOT_WORDS * k, word, write.value);
         return progress;
     }
-    let entry = entry_for(slot, progress.undo.control.persisted, epoch, address);
+    let persisted = progress.undo.control.persisted;
+    let entry = entry_for(slot, persisted, write.epoch, write.address);
     let old = work[SLOT_WORDS * k + 1];
-    log_store(board, work, progress, k, entry, old, value)
+    log_store(board, work, progress, k, entry, old, write.value)
 }
 
 // A store to a line that slot k takes from the board: what `store_held` does once the slot is filled, without filling it.
@@ -101,19 +108,19 @@ fn store_absent(
     work: &mut [u64],
     progress: Progress,
     k: usize,
-    address: u64,
-    epoch: u64,
-    value: u64,
+    write: Write,
 ) -> Progress
-    requires { StoreAbsentReady board.old work.old progress.undo k address epoch }
+    requires { StoreAbsentReady board.old work.old progress.undo k write.address write.epoch }
     ensures { Acts board.old progress.meter
-        (storing_held progress.undo (filled work.old k address (line_in board.old progress.undo address)) k address epoch value)
+        (storing_held progress.undo (filled work.old k write.address (line_in board.old progress.undo write.address)) k
+        write.address write.epoch write.value)
         board.new work.new result }
 {
-    let at = layout::lines_at(progress.undo.entries) + address as usize;
+    let at = layout::lines_at(progress.undo.entries) + write.address as usize;
     let old = board[at];
-    let entry = entry_between(address, progress.undo.control.persisted, epoch);
-    log_store(board, work, progress, k, entry, old, value)
+    let persisted = progress.undo.control.persisted;
+    let entry = entry_between(write.address, persisted, write.epoch);
+    log_store(board, work, progress, k, entry, old, write.value)
 }
 
 // The line of slot k to the board, and clean from then on.
@@ -192,20 +199,19 @@ pub fn store(
     board: &mut [u64],
     work: &mut [u64],
     progress: Progress,
-    address: u64,
     spot: Spot,
-    epoch: u64,
-    value: u64,
+    write: Write,
 ) -> Progress
-    requires { StoreReady board.old work.old progress.undo address spot epoch }
-    ensures { Carries board.old progress.meter (storing board.old progress.undo work.old address spot epoch value) board.new work.new result }
+    requires { StoreReady board.old work.old progress.undo write.address spot write.epoch }
+    ensures { Carries board.old progress.meter
+        (storing board.old progress.undo work.old write.address spot write.epoch write.value) board.new work.new result }
 {
     if spot.held {
-        return store_held(board, work, progress, spot.slot, address, epoch, value);
+        return store_held(board, work, progress, spot.slot, write);
     }
     let slot = slots::slot_at(work, spot.slot);
     let left = moves::write_back(board, work, progress, spot.slot, slot);
-    store_absent(board, work, left, spot.slot, address, epoch, value)
+    store_absent(board, work, left, spot.slot, write)
 }
 
 // An empty slot where the line at an address was held.
