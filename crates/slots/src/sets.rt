@@ -85,27 +85,37 @@ fn no_line(way: u64, beyond: u64, form: u64) -> Line
     }
 }
 
-// What a slot of a set is found to be. `away` is what the number of the set lacks of the number of sets: an address belongs in the set where it and
-// `away` together are a multiple.
-fn line_in(word: u64, lines: u64, least: u64, tags: u64, sets: Sets, away: u64, way: u64) -> Line
-    requires lines_ready { LinesReady least tags sets away }
+// What all slots of a set are tested by: the number of lines, the tags that a dirty slot may have, and which set it is. `away` is what the number
+// of the set lacks of the number of sets: an address belongs in the set where it and `away` together are a multiple.
+#[derive(Clone, Copy)]
+struct Pass {
+    lines: u64,
+    least: u64,
+    tags: u64,
+    sets: Sets,
+    away: u64,
+}
+
+// What a slot of a set is found to be.
+fn line_in(pass: Pass, way: u64, word: u64) -> Line
+    requires lines_ready { LinesReady pass.least pass.tags pass.sets pass.away }
     requires way_lt_ways { way < ways }
-    ensures { LineIn (bounds_by (ways * sets.count) lines least tags) (sets.count - away) way word result }
+    ensures { LineIn (bounds_by (ways * pass.sets.count) pass.lines pass.least pass.tags) (pass.sets.count - pass.away) way word result }
 {
     let form = layout::slot_form(word);
-    if !layout::is_line(word, least, tags) {
+    if !layout::is_line(word, pass.least, pass.tags) {
         if word == 0 {
             return no_line(way, 0, form);
         }
         return no_line(way, NEAR, form);
     }
     let address = layout::slot_address(word);
-    if address >= lines {
+    if address >= pass.lines {
         return no_line(way, NEAR, form);
     }
     Line {
         address,
-        beyond: fraction(sets, address + away),
+        beyond: fraction(pass.sets, address + pass.away),
         form,
     }
 }
@@ -186,13 +196,19 @@ pub fn site_for(work: &[u64], slots: usize, lines: u64, least: u64, tags: u64, a
 {
     let sets = sets_of(slots);
     let set = set_of(sets, address);
-    let away = sets.count - set;
+    let pass = Pass {
+        lines,
+        least,
+        tags,
+        sets,
+        away: sets.count - set,
+    };
     let first = WAYS * set as usize;
     let at = SLOT_WORDS * first;
-    let a = line_in(work[at], lines, least, tags, sets, away, 0);
-    let b = line_in(work[at + SECOND], lines, least, tags, sets, away, 1);
-    let c = line_in(work[at + THIRD], lines, least, tags, sets, away, 2);
-    let d = line_in(work[at + FOURTH], lines, least, tags, sets, away, 3);
+    let a = line_in(pass, 0, work[at]);
+    let b = line_in(pass, 1, work[at + SECOND]);
+    let c = line_in(pass, 2, work[at + THIRD]);
+    let d = line_in(pass, 3, work[at + FOURTH]);
     site_among(first, address, a, b, c, d)
 }
 

@@ -7,8 +7,8 @@ returns-then-word-eq0 c = search (line_empty)
 pub returns-then-not-is_line : goal.returns-then-not-is_line
 returns-then-not-is_line c = search (line_none)
 
-pub returns-then-address-lines : goal.returns-then-address-lines
-returns-then-address-lines c = search (line_outside)
+pub returns-then-address-pass : goal.returns-then-address-pass
+returns-then-address-pass c = search (line_outside)
 
 pub returns : goal.returns
 returns c = search (line_full)

@@ -12,4 +12,4 @@ pub site_among-requires : goal.site_among-requires
 site_among-requires c = search (set_room, line_room, c.set_of-set.result, c.sets_of-sets.result, rules)
 
 pub returns : goal.returns
-returns c = search (site_found, c.set_of-set.result, c.sets_of-sets.result)
+returns c = search (site_found, c.sets_of-sets.result)
