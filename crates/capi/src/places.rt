@@ -34,6 +34,7 @@ pub fn has_answer(answer: &[u64]) -> bool
     answer.len() >= ANSWER_WORDS
 }
 
+// A reader's words have a test of their own, in importing.rt: one of both would be told at each of nine calls how many words are due.
 pub fn has_places(registers: &[u64], answer: &[u64]) -> bool
     ensures { result ≡ has_places registers.now answer.now }
 {
