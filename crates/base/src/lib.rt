@@ -5,6 +5,8 @@
 ghost use Rattle.std.specs.Prelude.{◌≡◌, ◌+◌, ◌<◌, length, replicate};
 ghost use Rattle.base.specs.Parts.{set_pair};
 
+// The library's fill, with what it comes to for words: fill's own clause has a premise on clones, which each caller would have to
+// answer.
 pub fn clear(part: &mut [u64])
     ensures { part.new ≡ replicate (length part.old) 0 }
 {

@@ -41,6 +41,7 @@ pub fn start(board: &mut [u64], work: &mut [u64], lines: u64, entries: u64) -> A
 {
     let report = picl::format(board, lines, entries);
     if report.status != Status::Ok {
+        // Here alone a report becomes an answer, so there is no From.
         return Answer {
             status: report.status,
             value: report.value,
@@ -51,7 +52,8 @@ pub fn start(board: &mut [u64], work: &mut [u64], lines: u64, entries: u64) -> A
     picl::power_up(board, work, FULL_ALLOWANCE)
 }
 
-// The call itself, on the words that are the board and the work memory.
+// The call itself, on the words that are the board and the work memory. Memories, registers and allowance stay parameters of their
+// own, as `picl` takes them for C.
 pub fn perform(
     board: &mut [u64],
     work: &mut [u64],

@@ -6,6 +6,7 @@ ghost use Rattle.capi.specs.Crossing.{reader_put};
 use crate::places::has_answer;
 use intel_hex::Reader;
 
+// By the number that C is given: so reader_put says it, and its edit.
 const OK: u64 = 0;
 
 const UPPER_AT: usize = 0;

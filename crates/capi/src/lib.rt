@@ -1,5 +1,5 @@
 // The calls for C, as include/picl.h declares them: memories as pointer and length, registers and answer in small lent arrays of
-// words, the paper's number as result.
+// words, the paper's number as result. Each is written out: C calls it by its name, with parameters of its own.
 #![tactic(auto)]
 
 mod importing;
@@ -268,6 +268,7 @@ pub extern "C" fn picl_trace_write(
         return TOO_SHORT;
     }
     let status = put_record(place, records::write(kind, address, value));
+    // Field by field, here and below, and not by Report::unstored: the laws that close the two calls read the fields.
     report(
         answer,
         Report {

@@ -25,7 +25,7 @@ const STORES_AT: usize = 1;
 
 const ANSWER_WORDS: usize = 2;
 
-// The number of a call whose registers, reader, answer, record or name's text is too short.
+// The number of a call whose registers, reader, answer, record or name's text is too short. C's own: no Status has it.
 pub const TOO_SHORT: u64 = 255;
 
 pub fn has_answer(answer: &[u64]) -> bool

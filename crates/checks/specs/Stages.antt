@@ -25,6 +25,14 @@ use Rattle.checks.specs.Refusals.{memories_checked, running_checked, ready_check
 use Rattle.checks.specs.Promises.{Running, RowsReady, CountReady, set_checked, count_rows, Sited, Roomy}
 use Rattle.checks.specs.Laws.{passed_view, then_passed, memories_shaped, running, ready_running, named_running, named_inside, line_running, differ}
 
+-- a check that is known by what a function has answered
+module _ (whole k : Checked) (is : k ≡ whole) where
+  pub told_refused : (why : Refusal) → k ≡ Err why → Err why ≡ whole
+  told_refused why e = sym e ∙ is
+
+  pub told_passed : (v : View) → k ≡ Ok v → Ok v ≡ whole
+  told_passed v e = sym e ∙ is
+
 -- what `?` hands on is what the check before it has refused
 pub handed_as : {T U : Type 0} (P : T → Type 0) (Q : U → Type 0) (k : Result T U) (why : U) → IsErrAnd k (λ x. x ≡ why) → Q why → MatchResult k P Q
 handed_as P Q (Ok v) why same q = absurd same

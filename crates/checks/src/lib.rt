@@ -136,7 +136,8 @@ impl Registers {
     }
 
     // Ahead of the persisted epoch, and not too far. One comparison for both ends: an epoch that is not ahead wraps round to more than
-    // any limit.
+    // any limit. `std::num`'s difference, here and below: its clause says what the difference and what was taken off come to; the numbers' own
+    // method has a remainder there.
     fn is_proper_epoch(self, view: View) -> bool
         requires { ControlFits view.control }
         ensures { result ≡ proper_epoch view self }
@@ -150,7 +151,8 @@ impl Registers {
         ) < MOST_AHEAD
     }
 
-    // Whether an epoch has ended and is not persisted. Both ends in one comparison, as above.
+    // Whether an epoch has ended and is not persisted. Both ends in one comparison, as above. That the running epoch is ahead stays a clause:
+    // it ties registers to a view, and neither holds the other.
     fn waits(self, view: View, epoch: u64) -> bool
         requires persisted_lt_epoch { view.control.persisted < self.epoch }
         requires epoch_le_last_epoch { self.epoch ≤ last_epoch }
@@ -229,7 +231,8 @@ impl Registers {
     }
 }
 
-// What a call reads of the two memories before its tests.
+// What a call reads of the two memories before its tests. That its fields fit is no ghost field: View is the record that view_of and all rows
+// of the table are stated on.
 #[derive(Clone, Copy)]
 pub struct View {
     pub control: Control,

@@ -89,8 +89,8 @@ pub fn check_running(board: &[u64], work: &[u64], registers: Registers) -> Resul
     check_registers(view, registers)
 }
 
-// RowsReady is a `requires` of six functions: as the ghost field of a struct of view, work memory and registers it was tried, and then each
-// clause says `self.old.view` and `self.old.work`, which is no plainer.
+// RowsReady is a `requires` of six functions and no ghost field of a struct of view, work memory and registers: that struct would be made, and
+// the fact proved, in the same four checks that prove it now for their calls, and its work memory be another name for theirs in every clause.
 
 // 7 and 14. One pass tells that neither holds; only where one does, another tells which.
 fn check_buffer(view: View, work: &[u64], registers: Registers) -> Result<View, Refusal>

@@ -9,7 +9,8 @@ ghost use Rattle.image.specs.Image.{image_of};
 
 use text::Printer;
 
-// The words of an image, to a memory of as many. That is what read_words promises; this name of it is public, and stays.
+// The words of an image, to a memory of as many: `layout::read_words` under this name, so that who reads images and who writes them
+// name one crate.
 pub fn read(words: &mut [u64], image: &[u8])
     requires { length image.now ≡ bytes_of_word * length words.old }
     ensures { words.new ≡ words_of image.now }

@@ -1,4 +1,5 @@
-// Bytes as digits, two to a byte, and digits as bytes.
+// Bytes as digits, two to a byte, and digits as bytes. Loops over two slices go by number: behind a zip a proof knows nothing of what was
+// written.
 ghost use Rattle.std.specs.Prelude.{◌≡◌, ◌+◌, ◌*◌, ◌^◌, ◌<◌, ◌≤◌, ◌&&◌, [], ◌∷◌, length};
 ghost use Rattle.std.proofs.lemmas.List.Edits.{sets};
 ghost use Rattle.intel_hex.specs.Records.{digit, digit_bits, byte_digits, digits_of};
@@ -22,6 +23,7 @@ fn gap_before(n: u8) -> u8
     GAP
 }
 
+// Not char::from_digit, which gives small letters: a record's are capitals.
 fn digit(n: u8) -> u8
     requires { n < 2 ^ digit_bits }
     ensures { result ≡ digit n }
@@ -56,7 +58,8 @@ const LETTERS: u8 = DIGIT_VALUES - FIGURES;
 
 const SMALL: u8 = b'a' - b'A';
 
-// What a character stands for, if it is a digit in either case.
+// What a character stands for, if it is a digit in either case. Not char::to_digit: a char would be made of each byte for it, and a byte again
+// of its u32.
 fn read_character(c: u8) -> Option<u8>
     ensures { Means c result }
 {
@@ -71,8 +74,8 @@ fn read_character(c: u8) -> Option<u8>
     None
 }
 
-// Answers whether all characters are digits. The values go to a lent slice, since there is no heap for as many as there are.
-// Compilers make vector instructions of this loop, and of the next.
+// Answers whether all characters are digits. All values are written to a lent slice, also behind one that is none: no test ends the loop, of
+// which compilers make vector instructions, and of the next.
 pub fn read_values(into: &mut [u8], characters: &[u8]) -> bool
     requires { length into.old ≡ length characters.now }
     ensures { ReadsValues characters.now into.new result }

@@ -28,7 +28,8 @@ pub fn count_of(bytes: usize) -> usize
     (bytes - END_BYTES) / BYTE_DIGITS
 }
 
-// Whether a text begins and ends as a record does, and has these digits for the count and the type. Byte by byte: what is compared stands apart.
+// Whether a text begins and ends as a record does, and has these digits for the count and the type. Byte by byte, as
+// Framed has it: slices would be compared in three places, each to be taken apart again.
 fn is_framed(text: &[u8], count: [u8; BYTE_DIGITS], kind: [u8; BYTE_DIGITS]) -> bool
     requires { text_bytes 0 ≤ length text.now }
     ensures { Decides (Framed text.now count kind) result }
@@ -112,7 +113,8 @@ fn digits_of(text: &[u8]) -> [u8; ALL_DIGITS]
 // The address, and the last byte behind it.
 const PLACE_BYTES: usize = ADDRESS_BYTES + 1;
 
-// The data of a record of lines. Answers where it belongs, if the text is such a record.
+// The data of a record of lines. Answers where it belongs, if the text is such a record. The data go to a lent array: read_bytes fills a slice,
+// and in the answer they would be moved once more.
 pub fn read_lines(held: &mut [u8], text: &[u8]) -> Option<u64>
     requires text_value { has_lines (length text.now) ≡ true }
     requires held_len { length held.old ≡ record_bytes }

@@ -75,7 +75,8 @@ fn has_lines(bytes: usize) -> bool
     bytes == LINE_TEXT
 }
 
-// A record that is offered to a board that passes 1: the reader, the record's text, and what the board's test has read.
+// A record that is offered to a board that passes 1: the reader, the record's text, and what the board's test has read. Ready stays a clause: it
+// is a fact on the board too, which each function is lent anew.
 #[derive(Clone, Copy)]
 struct Offer<'a> {
     reader: Reader,
@@ -124,8 +125,8 @@ impl Offer<'_> {
             return Err(Status::Record);
         }
         Ok(Reader {
-            upper: self.reader.upper,
             ended: true,
+            ..self.reader
         })
     }
 

@@ -44,6 +44,7 @@ fn put_tail(text: &mut [u8], at: usize, check: u8)
 }
 
 // Answers how many bytes the record has. The data are put first: behind them nothing but their sum has to be kept at hand.
+// The last byte is by `std::num`'s subtraction, whose clause says that it and the others come to 0.
 fn put(text: &mut [u8], address: u64, kind: u8, held: &[u8]) -> usize
     requires held_len_bound { length held.now ≤ record_bytes }
     requires held_in_bounds { text_bytes (length held.now) ≤ length text.old }
@@ -57,7 +58,7 @@ fn put(text: &mut [u8], address: u64, kind: u8, held: &[u8]) -> usize
     end + TAIL_BYTES
 }
 
-// The bytes of a line, and of the next one where there is one, gathered in an array.
+// The bytes of a line, and of the next one where there is one, gathered in an array, since there is no heap for them.
 fn gather<'a>(into: &'a mut [u8], lines: &[u64], first: usize) -> &'a [u8]
     requires first_in_bounds { first < length lines.now }
     requires record_bytes_in_bounds { record_bytes ≤ length into.old }
@@ -71,6 +72,7 @@ fn gather<'a>(into: &'a mut [u8], lines: &[u64], first: usize) -> &'a [u8]
     &into[..MOST_DATA]
 }
 
+// A text stays a slice: what is written to an array of its first bytes would have to be told of the whole text again.
 pub fn put_lines(text: &mut [u8], lines: &[u64], first: usize) -> usize
     requires first_in_bounds { first < length lines.now }
     requires most_text_in_bounds { most_text ≤ length text.old }

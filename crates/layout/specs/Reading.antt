@@ -7,6 +7,7 @@ use Rattle.layout.specs.Limits.{word_bits}
 use Rattle.layout.specs.Fields.{width, unpack, Packing, decode}
 use Rattle.layout.specs.Words.{Decoded, IsBit}
 use Rattle.layout.specs.Laws.{Laws}
+use Rattle.layout.specs.Bytes.{byte_widths, bytes_of_word, bytes_of}
 
 -- the fields below the top; then all
 unfoldable pub lower : List ℕ → ℕ → List ℕ
@@ -38,3 +39,8 @@ decoded {p} l whole w h = rw (read_is p.widths w (rw whole h)) (record { is = re
 pub is_bit : (b : Bool) → IsBit b (bool_byte b)
 is_bit true = record { is = refl; below = omega arith }
 is_bit false = record { is = refl; below = omega arith }
+
+-- a word's bytes are such fields
+pub bytes_read : (w : ℕ) → w < 2 ^ word_bits → read (byte_widths bytes_of_word) w ≡ bytes_of w
+unfolding bytes_of width
+bytes_read w h = read_is (byte_widths bytes_of_word) w h

@@ -340,7 +340,7 @@ pub fn is_line(word: u64, least: u64, tags: u64) -> bool
     more / SPARES + more % SPARES * SPARE_TO_TOP < tags
 }
 
-// A flag as a field of one bit has it.
+// A flag as a field of one bit has it: u64::from, with a clause that it is below 2.
 pub fn bit(flag: bool) -> u64
     ensures { IsBit flag result }
 {

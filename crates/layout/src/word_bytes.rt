@@ -7,6 +7,7 @@ pub const BYTES_OF_WORD: usize = 8;
 
 const BYTE_BITS: u32 = 8;
 
+// The library's to_be_bytes, its clause in this crate's own definition, which all laws on bytes speak of.
 pub fn bytes_of(word: u64) -> [u8; BYTES_OF_WORD]
     ensures { result ≡ bytes_of word }
 {

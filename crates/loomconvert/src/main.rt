@@ -69,7 +69,8 @@ fn convert_words(old: &[u64], board: &mut [u64]) -> Result<(), Status>
     }
 }
 
-// Converts an image, to the first words of a board. Answers how many these are.
+// Converts an image, to the first words of a board. Answers how many these are. The memories are arrays of the largest size, lent in
+// part: a Vec could fail here, and a conversion can't.
 fn convert_image(image: &[u8], board: &mut [u64; BOARD_WORDS]) -> Result<usize, Status>
     ensures words { MatchResult result (λ n. output image.now ≡ image_of (take n board.new)) (λ why. output image.now ≡ refusal_text why) }
     ensures most { IfOk result (λ n. n ≤ BOARD_WORDS) }

@@ -31,7 +31,8 @@ const TEXT_BYTES: usize = 4096;
 // A read of the file goes through a buffer of so many bytes.
 const FILE_BYTES: usize = 65536;
 
-// Reads once. The run goes on where the file may have more for it.
+// Reads once. The run goes on where the file may have more for it. Run, board and work memory go beside each other, here and below,
+// since `trace`'s functions, to which they all go, take them so.
 fn run_some(
     run: Run,
     file: &mut impl Read,
@@ -67,7 +68,8 @@ fn run_all(run: Run, file: &mut impl Read, board: &mut [u64], work: &mut [u64]) 
 }
 
 // An argument, in a buffer. One that is missing or too long is empty.
-// It is read by its bytes: `env::args` fails for all arguments where one is no text, and here that one alone is no number, or no file's name.
+// It is read by its bytes: `env::args` fails for all arguments where one is no text, and here that one alone is no number, or no
+// file's name.
 fn argument<'a>(rt: &impl Env, place: usize, buffer: &'a mut [u8]) -> &'a [u8] {
     let length = rt.arg(place, buffer).unwrap_or(0);
     &buffer[..length]
@@ -129,6 +131,7 @@ fn sizes(rt: &impl Env) -> Option<(u64, u64, u64)>
 // The run that the arguments ask for. The board powers up before the file is opened.
 fn run_arguments<R: Env + Files>(rt: &R) -> Option<Run> {
     let (lines, entries, slots) = sizes(rt)?;
+    // Of the largest sizes, and lent in part: fixed memory.
     let mut board = [0u64; BOARD_WORDS];
     let mut work = [0u64; WORK_WORDS];
     let board = &mut board[..layout::board_words(lines, entries)];

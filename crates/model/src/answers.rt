@@ -27,7 +27,7 @@ pub enum Refusal {
     Outside = 20,
 }
 
-// What became of a call: it went through, it was refused, or "12 cut".
+// What became of a call: it went through, it was refused, or "12 cut". No Result: a cut is neither of the two, and has made stores.
 #[derive(Clone, Copy, PartialEq, Eq)]
 pub enum Status {
     Ok,
@@ -45,7 +45,8 @@ impl From<Status> for u64 {
     }
 }
 
-// A call's answer: its status, its value, the board stores made, the registers.
+// A call's answer: its status, its value, the board stores made, the registers. No Result: stores and registers stand in every
+// answer, a refused one too.
 #[derive(Clone, Copy, PartialEq, Eq)]
 pub struct Answer {
     pub status: Status,

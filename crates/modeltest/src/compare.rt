@@ -162,6 +162,7 @@ impl fmt::Display for Note {
 
 // What the test has seen: calls, those of them on boards that the converter made, differences, the most stores
 // of a call that is no power-up, of each row its numbers, and what is printed of the first differences.
+// It goes beside a state and a seed, in no struct with them: there is one score, and a state and a seed of its own for each call.
 #[derive(Clone, Copy)]
 pub struct Score {
     pub calls: u64,

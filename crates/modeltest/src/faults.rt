@@ -122,6 +122,7 @@ impl fmt::Display for Fault {
     }
 }
 
+// A fault is an enum and no closure: it is printed, has a row of its own, and is asked beforehand whether a board admits it.
 impl Conversion {
     // The place of the packed word of entry i of the old log.
     fn entry(&self, i: u64) -> u64 {

@@ -98,7 +98,8 @@ impl Seed {
         Seed(self.0 ^ ((purpose as u64) << 56)).hashed().0
     }
 
-    // A number below a bound; 0 where there is none.
+    // A number below a bound; 0 where there is none. Where one is matched, an arm has as many numbers as its share of the draws is: an
+    // enum of the arms would need the shares beside it.
     pub fn below(self, purpose: Purpose, bound: u64) -> u64
         ensures { 0 < bound → result < bound }
     {

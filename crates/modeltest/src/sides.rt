@@ -65,6 +65,7 @@ impl Outcome {
     }
 }
 
+// The two impls look alike and stay two: the functions that they call and the answers that they get are those of two crates.
 pub trait Side {
     fn call(board: &mut [u64], work: &mut [u64], registers: Words, call: Call) -> Outcome;
 

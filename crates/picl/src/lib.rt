@@ -34,7 +34,7 @@ pub struct Answer {
     pub registers: Registers,
 }
 
-// The answer of a call that returns no registers.
+// The answer of a call that returns no registers. Answer has no Report in it: the definitions of answers have the four fields side by side.
 #[derive(Clone, Copy)]
 pub struct Report {
     pub status: Status,
@@ -127,6 +127,7 @@ fn finish(
 }
 
 // The end of a call that has worked on slot k, which it had found dirty or not: the count of dirty slots changes as the slot has.
+// Slot and flag stay two: only this function asks for both.
 fn finish_slot(
     work: &mut [u64],
     k: usize,

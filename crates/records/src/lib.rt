@@ -52,7 +52,8 @@ impl TryFrom<u64> for Kind {
     }
 }
 
-// The first bytes of a record, as many as count says: those of its first word, then those of its value.
+// The first bytes of a record, as many as count says: those of its first word, then those of its value. Two words and a count, and
+// no array of bytes: nothing is kept that would have to be copied.
 #[derive(Clone, Copy, PartialEq, Eq)]
 pub struct Reader {
     count: usize,
@@ -61,7 +62,7 @@ pub struct Reader {
 }
 
 // The call of the three, where a record has a place for them. A store takes all that fits; of the others none takes a value, and
-// commit and scan no address.
+// commit and scan no address. The kind is a number: C gives the writer any, and the packed word holds any.
 #[tactic(auto, using(base::specs::Tests::tests), unfolding(crate::specs::Records::call_in, crate::specs::Records::has_place, crate::specs::Records::call_of))]
 fn call_in(kind: u64, address: u64, value: u64) -> Result<Call, Status>
     ensures { result ≡ call_in kind address value }

@@ -26,7 +26,7 @@ pub enum Request {
     PowerUp,
 }
 
-// A line of output, behind its letter.
+// A line of output, behind its letter. Status and value are printed both, whatever they are: no Result.
 #[derive(Clone, Copy, PartialEq, Eq)]
 pub struct Line {
     pub status: Status,
@@ -38,7 +38,8 @@ pub struct Line {
     pub buffered: u64,
 }
 
-// What a command prints, and whether the replay goes on. A Result of an Option would need a second enum for the two ends, and says no more.
+// What a command prints, and whether the replay goes on. A Result of an Option would need a second enum for the two ends, and says
+// no more.
 #[derive(Clone, Copy, PartialEq, Eq)]
 pub enum Reply {
     // Nothing is printed, and the replay goes on.

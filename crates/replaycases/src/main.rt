@@ -24,7 +24,7 @@ const NAME_BYTES: usize = 48;
 const BAR: u8 = b'|';
 
 // Puts what the script prints into a buffer, and answers how many bytes that is. No case prints as much as the buffer holds. One that
-// did would lack its last lines here, and fail.
+// did would lack its last lines here, and fail. The memories are arrays of a bench's largest sizes: nothing here can fail.
 fn print(script: &[u8], out: &mut [u8; BUFFER_BYTES]) -> usize
     ensures { result ≤ BUFFER_BYTES }
 {

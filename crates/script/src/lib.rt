@@ -19,7 +19,7 @@ const MOST: usize = 3;
 // What a line asks for.
 #[derive(Clone, Copy, PartialEq, Eq)]
 pub enum Command {
-    // `n N L S`
+    // `n N L S`: no struct of the three, which are taken apart at once: N and L are the board's size, S the work memory's.
     Format(u64, u64, u64),
     // `s a value`, `l a`, `e a`, `c` or `a`
     Call(Call),
@@ -35,9 +35,10 @@ struct Line {
     letter: u8,
     // How many numbers have begun: as many as there were spaces.
     count: usize,
-    // The last numbers that have begun. The one that is being read stands last.
+    // The last numbers that have begun. The one that is being read stands last. An array beside a count: there is no heap here.
     numbers: [u64; MOST],
-    // Whether the field that is being read has a byte.
+    // Whether the field that is being read has a byte. It is asked of the letter and of every number alike, so none of them is an
+    // Option.
     full: bool,
 }
 
@@ -160,7 +161,7 @@ impl Reader {
         }
     }
 
-    // The letter of a line that is not bad.
+    // The letter of a line that is not bad, and 0 of a bad one (`letter_by`): no Option, since what a bad line prints has no letter.
     pub fn letter(self) -> u8
         ensures { result ≡ letter_by self }
     {

@@ -52,7 +52,7 @@ pub fn is_proper_at(work: &[u64], bounds: Bounds, k: usize) -> bool
     (address as u32 % (bounds.slots as u32 / WAYS as u32)) as usize == k / WAYS
 }
 
-// What the word of slot k says.
+// What the word of slot k says. That the work memory has slot k stays a clause of each function: each is asked for another slot.
 pub fn slot_at(work: &[u64], k: usize) -> Slot
     requires { slot_at k + slot_words ≤ length work.now }
     ensures { Decoded SlotFits (slot_in work.now k) result }

@@ -66,7 +66,8 @@ fn set_of(sets: Sets, address: u64) -> u64
 const NEAR: u64 = 1 << 17;
 
 // What one slot of a set is found to be: the address of its line, or a number that is no address, and of each slot another; how far it is from
-// being proper, which is less than NEAR where it is; and its word without the address.
+// being proper, which is less than NEAR where it is; and its word without the address. Numbers and no Options: no two slots without a line have one
+// address, so is_twice is six comparisons, and one or of all `beyond` finds what is improper.
 #[derive(Clone, Copy)]
 struct Line {
     address: u64,
@@ -128,6 +129,7 @@ fn is_twice(a: u64, b: u64, c: u64, d: u64) -> bool
 }
 
 // The slot of a set that an incoming line takes, the victim. The forms have no last bits of their own, so that these tell the slots apart.
+// That a form leaves room for them stays a clause: the forms come here alone, so an invariant of Line would be told again.
 fn lowest(a: u64, b: u64, c: u64, d: u64) -> usize
     requires b_bound { b + 3 < 2 ^ 64 }
     requires c_bound { c + 3 < 2 ^ 64 }
@@ -139,7 +141,7 @@ fn lowest(a: u64, b: u64, c: u64, d: u64) -> usize
 }
 
 // Where the line at an address is in a proper set. The four lines are tested by name: a position in an array of them costs 15 to 19
-// instructions a call.
+// instructions a call, and the rows jacquard, last-slots and evict of bench/run then take more than the hand-written side.
 fn locate(first: usize, address: u64, a: Line, b: Line, c: Line, d: Line) -> Site
     requires ways_bound { first + ways ≤ most_slots }
     requires form_bound { b.form + 3 < 2 ^ 64 }

@@ -26,7 +26,7 @@ use Rattle.status.specs.declared.Status.TheVariants.{
   Record,
   Outside,
 }
-use Rattle.status.specs.Numbers.{is_ok}
+use Rattle.status.specs.Numbers.{is_ok, is_cut}
 
 -- a status is ok where the code's test says so
 pub ok_same : (s : Status) → sameb the_type s Ok ≡ is_ok s
@@ -51,3 +51,27 @@ ok_same LogHeld = refl
 ok_same Target = refl
 ok_same Record = refl
 ok_same Outside = refl
+
+-- and cut likewise
+pub cut_same : (s : Status) → sameb the_type s Cut ≡ is_cut s
+cut_same Ok = refl
+cut_same Shape = refl
+cut_same Work = refl
+cut_same Entry = refl
+cut_same Regs = refl
+cut_same Address = refl
+cut_same Slot = refl
+cut_same Buffer = refl
+cut_same Room = refl
+cut_same Waiting = refl
+cut_same Last = refl
+cut_same None = refl
+cut_same Cut = refl
+cut_same Trace = refl
+cut_same Filter = refl
+cut_same Short = refl
+cut_same Past = refl
+cut_same LogHeld = refl
+cut_same Target = refl
+cut_same Record = refl
+cut_same Outside = refl

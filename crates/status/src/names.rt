@@ -1,6 +1,6 @@
 // The names of the numbers, held unpadded, end to end, and not each by itself: `letters_many` says that they take as many bytes as they
-// have letters. They are bytes: taken from a &str of all letters, a name costs picl_name 240 bytes more of code (110 on x86-64).
-// Nothing outside this file knows how.
+// have letters. They are bytes, since boards are short of memory: with a &str of all letters picl_name takes 350 bytes of code on x86-64
+// in place of 110. Nothing outside this file knows how.
 ghost use Rattle.std.specs.Prelude.{◌<◌, ◌≡◌, length};
 ghost use Rattle.status.specs.Names.{names, PutsName};
 ghost use Rattle.status.specs.Letters.{letters, starts, Spans};
@@ -10,7 +10,8 @@ const NAMES: usize = 19;
 
 const LETTERS: usize = 92;
 
-// The names in the order of their numbers, as many bytes as they have letters.
+// The names in the order of their numbers, as many bytes as they have letters. A function and no constant: its clause says that these are
+// the names of specs/.
 fn letters() -> [u8; LETTERS]
     ensures { result ≡ letters }
 {
@@ -26,7 +27,8 @@ fn starts() -> [u8; NAMES + 1]
     ]
 }
 
-// The letters of one name: from start up to, not including, end.
+// The letters of one name: from start up to, not including, end. Not a Range: Spans says of its two fields that they lie in order among
+// the letters.
 #[derive(Clone, Copy)]
 struct Span {
     start: usize,
@@ -43,8 +45,8 @@ fn span_of(number: usize) -> Span
     Span { start, end }
 }
 
-// Puts the name of a number at the start of a text, and answers how many letters it has: 0 for a number without a name. The
-// bytes behind the name are not touched, and a text that is too short for it not at all.
+// Puts the name of a number at the start of a text, and answers how many letters it has: 0 for a number without a name, as C is
+// told too, and so no Option. The bytes behind the name are not touched, and a text that is too short for it not at all.
 pub fn put_name(text: &mut [u8], number: u64) -> usize
     ensures { PutsName number text.old text.new result }
 {

@@ -1,5 +1,5 @@
 // What the calls do once their tests have passed: the steps of load, store, evict and scan. Board and work memory are lent side by side: behind a
-// call that is lent a struct of both, its caller no longer knows what either has.
+// call that is lent a struct of both, its caller no longer knows what either has. So what a step asks of the two stays its clause.
 #![tactic(auto)]
 
 mod moves;
@@ -50,7 +50,8 @@ fn entry_for(slot: Slot, persisted: u64, epoch: u64, address: u64) -> Entry
     entry_between(address, slot.tag, epoch)
 }
 
-// An entry to the end of the buffer, which stands behind the slots.
+// An entry to the end of the buffer, which stands behind the slots. Entry and old data are two: they are two words, and all definitions of a log
+// take both.
 fn push_entry(work: &mut [u64], undo: LogState, entry: Entry, old: u64) -> LogState
     requires { LogReady work.old undo entry }
     ensures { Logs work.old undo entry old work.new result }

@@ -1,4 +1,5 @@
-// Text that is put into a buffer that the caller lends: bytes, names and decimal numbers, each behind what is there.
+// Text that is put into a buffer that the caller lends: bytes, names and decimal numbers, each behind what is there. Not by std's
+// `write!`: to a lent slice it promises no byte, and a Vec would need a heap.
 #![tactic(auto)]
 
 ghost use Rattle.std.specs.Prelude.{◌≡◌, ◌+◌, ◌*◌, ◌≤◌, ◌<◌, [], ◌∷◌, length};
@@ -12,7 +13,8 @@ use status::Status;
 const DIGITS: usize = 20;
 
 // A buffer, and how many bytes of it have been printed to. Who lends the buffer makes one call with its printer, of a function that
-// prints all: behind several calls it isn't proved what the buffer holds.
+// prints all: behind several calls it isn't proved what the buffer holds. Those three lines stand in each such function: one that took
+// the call as a closure would need its whole contract told again.
 #[derive(Drop)]
 pub struct Printer<'a> {
     pub out: &'a mut [u8],
@@ -49,7 +51,7 @@ impl<'a> Printer<'a> {
         requires { self.old.used + most_digits ≤ length self.old.out.now }
         ensures { PrintsOn most_digits self.old (decimal_of n) self.new }
     {
-        // The library gives the digits so: in a buffer, with their count.
+        // `io` promises the digits as `decimal_of` has them, in a buffer and with their count.
         let mut digits = [0u8; DIGITS];
         let count = io::decimal(n, &mut digits);
         self.put(&digits[..count]);

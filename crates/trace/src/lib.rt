@@ -25,7 +25,8 @@ pub struct Totals {
     pub scans: u64,
 }
 
-// A run between two bytes of its trace. The memories are the caller's.
+// A run between two bytes of its trace. The memories are the caller's, of any length, and stay two slices beside it: `start`,
+// `feed_bytes`, `finish` and `fail` promise what they leave on each (`Runs`).
 #[derive(Clone, Copy)]
 pub struct Run {
     // What has ended the run, or ok. The line prints ok as it prints the others, so an Option would be turned back into it there.
@@ -172,6 +173,7 @@ pub fn feed_bytes(mut run: Run, input: &[u8], board: &mut [u64], work: &mut [u64
     ensures { Runs (fed (machine_of run board.old work.old) input.now) board.new work.new result }
 {
     let mut rest = input;
+    // A while loop: each turn takes a whole record, or else one byte.
     while !rest.is_empty() {
         let taken = feed_some(&mut run, rest, board, work);
         rest = &rest[taken..];

@@ -1,5 +1,6 @@
 // A replay's text: a script goes in byte by byte, and the lines that it prints are put into a buffer that the caller lends and
-// empties.
+// empties. Board, work memory and buffer stay three slices beside the session: they are the caller's, of any length that is enough,
+// and `feed_bytes` and `finish` promise what they leave on each (`Feeds`, `Turns`).
 #![tactic(auto)]
 
 ghost use Rattle.std.specs.Prelude.{◌≡◌, ◌+◌, ◌≤◌, length};
@@ -29,7 +30,7 @@ pub struct Session {
     pub begun: bool,
     // Whether the replay has ended: what follows in the script is not read. It still has its bench, and so much in the buffer.
     pub over: bool,
-    // How many bytes of the buffer have been printed to.
+    // How many bytes of the buffer have been printed to. The buffer is the caller's, who empties it, and so no part of the session.
     pub used: usize,
 }
 
@@ -40,7 +41,8 @@ pub struct Fed {
     pub taken: usize,
 }
 
-// The letter, a space and the name.
+// The letter, a space and the name. What prints asks for the room that it needs, and leaves less of it: so the room is no invariant of
+// the printer.
 fn put_head(printer: &mut Printer<'_>, letter: u8, status: Status)
     requires { printer.old.used + 10 ≤ length printer.old.out.now }
     ensures { PrintsOn 10 printer.old (head_text letter status) printer.new }

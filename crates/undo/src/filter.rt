@@ -1,6 +1,6 @@
 // The filter of the undo buffer: which addresses may have an entry there. No other module knows where its bits stand. The buffer is lent
-// whole: the places of its entries, and the filter's words behind them. It is a slice: a lent part becomes an array only by a test, whose other way
-// out no call would take.
+// whole: the places of its entries, and the filter's words behind them. It is a slice and no array: its length comes from that of the lent work
+// memory, so each caller would make the array, and prove by the same fact that it is there.
 ghost use Rattle.std.specs.Prelude.{◌^◌, ◌<◌, length, ◌≡◌};
 ghost use Rattle.layout.specs.Limits.{address_bits, filter_size};
 ghost use Rattle.layout.specs.Memory.{filter_words, buffer_words};
@@ -88,10 +88,10 @@ pub fn is_hit(buffer: &[u64], count: u64, address: u64) -> bool
 fn ones_in(word: u64) -> u64
     ensures { CountsOnes word result }
 {
-    u64::count_ones(word) as u64
+    word.count_ones() as u64
 }
 
-// The number of bits that are set.
+// The number of bits that are set. A for: of a sum() of the counts a proof does not know that it fits a word.
 pub fn bits_set(buffer: &[u64]) -> u64
     requires { length buffer.now ≡ buffer_words }
     ensures { result ≡ ones_of buffer.now filter_words }

@@ -1,4 +1,5 @@
-// The undo log on the board, and the undo buffer before it.
+// The undo log on the board, and the undo buffer before it. Board and log stay two parameters: behind a call that is lent a struct with the board
+// in it, its caller no longer knows what the board has.
 #![tactic(auto)]
 
 mod filter;
@@ -24,8 +25,8 @@ use layout::{CONTROL_AT, Control, ENTRY_WORDS, Entry, LOG_AT, MOST_AHEAD};
 pub use recovery::recover;
 
 // The undo log as a call carries it: what the control word says, how many entries the ring has place for (the paper's L)
-// and how many the buffer holds. It has no invariant of its own: the definitions `counted` and `flushed`
-// make values of it from any other.
+// and how many the buffer holds. `Sound` stays a clause and is no invariant of it: the definitions `counted` and `flushed` make values of any other
+// one, sound or not.
 #[derive(Clone, Copy)]
 pub struct LogState {
     pub control: Control,
@@ -39,11 +40,9 @@ impl LogState {
         requires { self.buffered < buffer_places }
         ensures { result ≡ counted self }
     {
-        let control = self.control;
         LogState {
-            control,
-            entries: self.entries,
             buffered: self.buffered + 1,
+            ..self
         }
     }
 
@@ -54,12 +53,11 @@ impl LogState {
     {
         LogState {
             control: Control {
-                persisted: self.control.persisted,
-                start: self.control.start,
                 length: self.control.length + self.buffered,
+                ..self.control
             },
-            entries: self.entries,
             buffered: 0,
+            ..self
         }
     }
 }
@@ -71,7 +69,7 @@ pub struct Progress {
     pub meter: Meter,
 }
 
-// Whether an epoch is neither below the least nor above the most.
+// Whether an epoch is neither below the least nor above the most. Two comparisons and no contains() of a range, which is lent what it compares.
 fn is_between(epoch: u64, least: u64, most: u64) -> bool
     ensures { result ≡ leb least epoch && leb epoch most }
 {
@@ -164,7 +162,8 @@ fn improper_in(entries: &[[u64; ENTRY_WORDS]], lines: u64, persisted: u64, bound
     }
 }
 
-// The place of the first improper entry of the log, the oldest counted 0, or the log's length where all are proper.
+// The place of the first improper entry of the log, the oldest counted 0, or the log's length where all are proper. The length and no Option: so
+// the definition has it, and row 3 of the table compares the two.
 pub fn first_improper(board: &[u64], undo: LogState, lines: u64) -> u64
     requires sound { Sound undo }
     requires le_lines { 1 ≤ lines }
@@ -187,7 +186,7 @@ pub fn first_improper(board: &[u64], undo: LogState, lines: u64) -> u64
     }
 }
 
-// How many entries, from the first on, are useless once the target is persisted.
+// How many entries, from the first on, are useless once the target is persisted. A for and no take_while: see is_buffer_sound.
 fn useless_in(entries: &[[u64; ENTRY_WORDS]], target: u64) -> usize
     requires { target < 2 ^ epoch_bits }
     ensures { result ≡ first (useless_at entries.now target) (length entries.now) }
@@ -213,8 +212,8 @@ fn dropped_by(board: &[u64], undo: LogState, target: u64) -> u64
     (run + useless_in(newer, target)) as u64
 }
 
-// Whether the buffered entry with this first word is proper. Not `is_proper_word` at 0 and the epoch: the till is not needed besides, and tests
-// on the word as it is cost an instruction less an entry.
+// Whether the buffered entry with this first word is proper. Not `is_proper_word` at 0 and the epoch, which would take the word apart for a till
+// that nothing here asks for.
 fn is_buffered_proper(word: u64, lines: u64, epoch: u64) -> bool
     requires le_lines { 1 ≤ lines }
     requires lines_le_most_lines { lines ≤ most_lines }
@@ -230,7 +229,7 @@ fn is_buffered_proper(word: u64, lines: u64, epoch: u64) -> bool
     layout::is_formed_word(word)
 }
 
-// Whether the first entries of the buffer, count of them, are proper.
+// Whether the first entries of the buffer, count of them, are proper. A for as in is_buffer_sound, with which it shares the laws of its proof.
 pub fn is_buffer_proper(buffer: &[u64], count: usize, lines: u64, epoch: u64) -> bool
     requires count_in_bounds { entry_words * count ≤ length buffer.now }
     requires le_lines { 1 ≤ lines }
@@ -246,8 +245,8 @@ pub fn is_buffer_proper(buffer: &[u64], count: usize, lines: u64, epoch: u64) ->
     true
 }
 
-// The same, and whether the filter has both bits of each: in one pass, since every call asks it. A for: with `all` here and `take_while` in
-// `useless_in` a call takes up to 12 instructions more.
+// The same, and whether the filter has both bits of each: in one pass, since every call asks it. A for: with all() here and take_while() in
+// `useless_in` the row last-slots of bench/run takes 1.014 of the hand-written instructions.
 pub fn is_buffer_sound(buffer: &[u64], count: usize, lines: u64, epoch: u64) -> bool
     requires buffer_len { length buffer.now ≡ buffer_words }
     requires count_le_buffer_places { count ≤ buffer_places }
