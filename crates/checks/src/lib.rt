@@ -151,8 +151,8 @@ impl Registers {
         ) < MOST_AHEAD
     }
 
-    // Whether an epoch has ended and is not persisted. Both ends in one comparison, as above. That the running epoch is ahead stays a clause:
-    // it ties registers to a view, and neither holds the other.
+    // Whether an epoch has ended and is not persisted. Both ends in one comparison, as above. That the running epoch is ahead, and
+    // not beyond the last, stays a clause: it ties registers to a view, neither holds the other, and a caller hands in any registers.
     fn waits(self, view: View, epoch: u64) -> bool
         requires persisted_lt_epoch { view.control.persisted < self.epoch }
         requires epoch_le_last_epoch { self.epoch ≤ last_epoch }

@@ -125,7 +125,8 @@ pub fn work_words(slots: usize) -> usize
     SLOT_WORDS * slots + BUFFER_WORDS
 }
 
-// The number of slots of a work memory of so many words.
+// The number of slots of a work memory of so many words. That it has room for the buffer stays a clause, here and below: it is said of a
+// number, and a type for that would be made only to be asked once.
 pub fn slots_of(words: usize) -> usize
     requires { buffer_words ≤ words }
     ensures { result ≡ slots_of words }

@@ -4,7 +4,8 @@ ghost use Rattle.std.specs.Prelude.{◌<◌};
 use crate::packing::Field;
 use crate::random::Seed;
 
-// Behind the lent words there may be room for more, which no call may touch: so it is no slice and no Vec.
+// Behind the lent words there may be room for more, which no call may touch: so it is no slice and no Vec. That there is room stays a clause
+// of what indexes: the rooms are constants, and each literal of a type that said so would prove it as well.
 #[derive(Clone, Copy)]
 pub struct Memory<const ROOM: usize> {
     pub room: [u64; ROOM],

@@ -214,7 +214,7 @@ pub fn site_for(work: &[u64], slots: usize, lines: u64, least: u64, tags: u64, a
     site_among(first, address, a, b, c, d)
 }
 
-// Whether one of four slots is dirty.
+// Whether one of four slots is dirty. That the work memory has the four stays a clause, as at `slot_at`.
 pub fn is_any_dirty(work: &[u64], first: usize) -> bool
     requires { slot_at (first + ways) ≤ length work.now }
     ensures { result ≡ any_of (dirty_at work.now) (slots_from first) }
