@@ -138,14 +138,11 @@ impl Session {
     }
 
     // One more byte of the line that is being read.
-    fn reading(self, byte: u8) -> Session
-        ensures { result ≡ reading_session self byte }
+    fn read(&mut self, byte: u8)
+        ensures { self.new ≡ reading_session self.old byte }
     {
-        Session {
-            reader: self.reader.step(byte),
-            begun: true,
-            ..self
-        }
+        self.reader = self.reader.step(byte);
+        self.begun = true;
     }
 
     fn closed(self) -> Session
@@ -176,18 +173,20 @@ fn end_line(session: Session, board: &mut [u64], work: &mut [u64], out: &mut [u8
     }
 }
 
-// One byte of the script.
-fn feed(session: Session, byte: u8, board: &mut [u64], work: &mut [u64], out: &mut [u8]) -> Session
-    requires { Ready session board.old work.old out.old }
-    ensures { Turns (session.used + longest) session out.old (feed_turn (machine_of session board.old work.old) byte) board.new work.new out.new result }
+// One byte of the script. The session is changed in its place: most bytes change its reader alone, and a copy of the whole would cost them half
+// as much again.
+fn feed(session: &mut Session, byte: u8, board: &mut [u64], work: &mut [u64], out: &mut [u8])
+    requires { Ready session.old board.old work.old out.old }
+    ensures { Turns (session.old.used + longest) session.old out.old (feed_turn (machine_of session.old board.old work.old) byte) board.new work.new out.new session.new }
 {
     if session.over {
-        return session;
+        return;
     }
     if byte == b'\n' {
-        return end_line(session, board, work, out);
+        *session = end_line(*session, board, work, out);
+        return;
     }
-    session.reading(byte)
+    session.read(byte);
 }
 
 // Bytes of the script, one after the other: all of them, or until the buffer may not hold one more line.
@@ -205,7 +204,7 @@ pub fn feed_bytes(
         if !session.is_roomy(out.len()) {
             return Fed { session, taken };
         }
-        session = feed(session, *byte, board, work, out);
+        feed(&mut session, *byte, board, work, out);
     }
     Fed {
         session,

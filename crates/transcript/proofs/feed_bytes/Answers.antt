@@ -5,8 +5,8 @@ use Rattle.transcript.proofs.feed_bytes.Goals as goal
 pub loop-taken-init : goal.loop-taken-init
 loop-taken-init c = search (feeding_start)
 
-pub feed-session-requires : goal.feed-session-requires
-feed-session-requires c =
+pub feed-requires : goal.feed-requires
+feed-requires c =
     feed_ready _ _ _ _ _ _ _ _ _ _ c.loop-taken.invariant _ c.is_roomy.ensures (ap not c.if-not-is_roomy.false)
 
 pub loop-taken-preserved : goal.loop-taken-preserved
