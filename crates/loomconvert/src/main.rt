@@ -12,7 +12,6 @@ ghost use Rattle.loomconvert.specs.Output.{most_refusal, most_output, refusal_te
 use benchboard::BOARD_WORDS;
 use layout::{BYTES_OF_WORD, LOG_AT, SHAPE_AT, Shape};
 use status::Status;
-use std::alloc::Global;
 use std::io;
 use std::io::Read;
 use text::Printer;
@@ -20,8 +19,8 @@ use text::Printer;
 // The bytes of the largest image.
 const MOST_BYTES: usize = BYTES_OF_WORD * BOARD_WORDS;
 
-// So many bytes of the input are read: one that has them all is no image.
-const READ_BYTES: usize = MOST_BYTES + 1;
+// So many bytes of the input are read, if it has as many: then it is no image, since the largest has fewer.
+const READ_BYTES: usize = 65536;
 
 // A board by itself has no slots, and so no more than a bench has.
 const NO_SLOTS: u64 = 0;
@@ -100,19 +99,20 @@ fn put_output(out: &mut [u8; MOST_BYTES], input: &[u8]) -> usize
     }
 }
 
-// The input, or its first bytes, which are more than an image has. What can't be read is no image, and so empty.
-fn read_input(alloc: Global, source: impl Read + Drop) -> io::Result<Vec<u8>> {
-    let mut input = Vec::with_capacity(alloc, READ_BYTES)?;
-    let read = source.take(READ_BYTES as u64).read_to_end(&mut input);
-    if read.is_err() {
-        input.clear();
-    }
-    Ok(input)
+// Puts the input to the start of a buffer, or its first bytes, where it has more. Answers how many: none, where a read fails, since what
+// can't be read is no image. No Vec, as above.
+fn read_input(source: impl Read + Drop, input: &mut [u8; READ_BYTES]) -> usize
+    ensures { result ≤ READ_BYTES }
+{
+    let mut room = &mut input[..];
+    let count = io::copy(&mut source.take(READ_BYTES as u64), &mut room).unwrap_or(0);
+    (count as usize).min(READ_BYTES)
 }
 
 fn main(rt: HostRuntime) -> io::Result<()> {
-    let input = read_input(rt.alloc(), rt.stdin())?;
+    let mut input = [0u8; READ_BYTES];
     let mut out = [0u8; MOST_BYTES];
-    let length = put_output(&mut out, input.as_slice());
+    let count = read_input(rt.stdin(), &mut input);
+    let length = put_output(&mut out, &input[..count]);
     rt.write_all(&out[..length])
 }
