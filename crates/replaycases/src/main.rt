@@ -5,7 +5,6 @@
 ghost use Rattle.std.specs.Prelude.{◌≤◌, length};
 
 use benchboard::{BOARD_WORDS, WORK_WORDS};
-use std::alloc::{AllocError, Global};
 use std::io::Read;
 use std::rt::Files;
 use std::{fs, io, str};
@@ -19,6 +18,9 @@ const NAMES_BYTES: usize = 4096;
 
 // A name that has more names no file.
 const NAME_BYTES: usize = 48;
+
+// As long as the longer of the two suffixes of a case's files.
+const SUFFIX_BYTES: usize = 9;
 
 // It ends a script, and another begins behind it in the same file.
 const BAR: u8 = b'|';
@@ -64,34 +66,45 @@ fn difference(scripts: &[u8], expected: &[u8]) -> Option<usize> {
     None
 }
 
-// The file of a case's name and a suffix, opened. A name that is no text names none.
-fn open<R: Files + AllocGlobal>(rt: &R, name: &[u8], suffix: &str) -> io::Result<R::File> {
+// The file of a case's name and a suffix, opened. A name that is no text names none. Names and files are read into arrays, and not into what a
+// heap has: nothing here can fail but the files.
+fn open<R: Files>(rt: &R, name: &[u8], suffix: &[u8]) -> io::Result<R::File> {
     if name.len() > NAME_BYTES {
         return fs::open(rt, "");
     }
-    match str::from_utf8(name) {
-        Ok(name) => fs::open(rt, format!(in rt.alloc(); "{name}{suffix}")?),
+    let mut path = [0u8; NAME_BYTES + SUFFIX_BYTES];
+    for (place, byte) in path.iter_mut().zip(name.iter().chain(suffix)) {
+        *place = *byte;
+    }
+    let end = name.len() + suffix.len().min(SUFFIX_BYTES);
+    match str::from_utf8(&path[..end]) {
+        Ok(path) => fs::open(rt, path),
         Err(_) => Err(io::Error::from(io::ErrorKind::InvalidInput)),
     }
 }
 
-// The first bytes of a file, at most so many: what comes until it is at its end, or a read fails.
-fn read(alloc: Global, file: impl Read + Drop, most: usize) -> Result<Vec<u8>, AllocError> {
-    let mut bytes = Vec::with_capacity(alloc, most)?;
-    let _ = file.take(most as u64).read_to_end(&mut bytes);
-    Ok(bytes)
+// Puts the first bytes of a file into a buffer: what comes until that is full, the file is at its end, or a read fails. Answers how many.
+fn read(file: impl Read + Drop, bytes: &mut [u8]) -> usize
+    ensures { result ≤ length bytes.new }
+{
+    let most = bytes.len();
+    let mut room = &mut *bytes;
+    let _ = io::copy(&mut file.take(most as u64), &mut room);
+    most.saturating_sub(room.len())
 }
 
 // Prints the case's line, and answers whether the case passed.
-fn judge<R: Files + Print + AllocGlobal>(
+fn judge<R: Files + Print>(
     rt: &R,
     name: &[u8],
     scripts: R::File,
     expected: R::File,
 ) -> io::Result<bool> {
-    let scripts = read(rt.alloc(), scripts, BUFFER_BYTES)?;
-    let expected = read(rt.alloc(), expected, BUFFER_BYTES)?;
-    let place = difference(scripts.as_slice(), expected.as_slice());
+    let mut script = [0u8; BUFFER_BYTES];
+    let mut wanted = [0u8; BUFFER_BYTES];
+    let script_bytes = read(scripts, &mut script);
+    let wanted_bytes = read(expected, &mut wanted);
+    let place = difference(&script[..script_bytes], &wanted[..wanted_bytes]);
     rt.write_all(name)?;
     match place {
         None => println!(rt; " ok")?,
@@ -101,7 +114,7 @@ fn judge<R: Files + Print + AllocGlobal>(
 }
 
 // A case whose files do not open has failed.
-fn run_case<R: Files + Print + Eprint + AllocGlobal>(rt: &R, name: &[u8]) -> io::Result<bool> {
+fn run_case<R: Files + Print + Eprint>(rt: &R, name: &[u8]) -> io::Result<bool> {
     match open_both(rt, name) {
         Ok((scripts, expected)) => judge(rt, name, scripts, expected),
         Err(error) => {
@@ -112,25 +125,26 @@ fn run_case<R: Files + Print + Eprint + AllocGlobal>(rt: &R, name: &[u8]) -> io:
     }
 }
 
-fn open_both<R: Files + AllocGlobal>(rt: &R, name: &[u8]) -> io::Result<(R::File, R::File)> {
-    let scripts = open(rt, name, ".script")?;
-    let expected = open(rt, name, ".expected")?;
+fn open_both<R: Files>(rt: &R, name: &[u8]) -> io::Result<(R::File, R::File)> {
+    let scripts = open(rt, name, b".script")?;
+    let expected = open(rt, name, b".expected")?;
     Ok((scripts, expected))
 }
 
-fn run_all<R: Files + Print + Eprint + AllocGlobal>(rt: &R, names: &[u8]) -> io::Result<()> {
-    let mut results = Vec::new(rt.alloc());
+fn run_all<R: Files + Print + Eprint>(rt: &R, names: &[u8]) -> io::Result<()> {
+    let mut cases = 0u64;
+    let mut passed = 0u64;
     for line in names.split_inclusive(|byte| *byte == b'\n') {
         let name = line.strip_suffix(b"\n").unwrap_or(line);
-        results.push(run_case(rt, name)?)?;
+        passed = passed.saturating_add(u64::from(run_case(rt, name)?));
+        cases = cases.saturating_add(1);
     }
-    let passed = results.iter().filter(|passed| **passed).count();
-    let cases = results.len();
     println!(rt; "{cases} cases, {passed} ok")
 }
 
 fn main(rt: HostRuntime) -> io::Result<()> {
+    let mut names = [0u8; NAMES_BYTES];
     let file = fs::open(&rt, "cases")?;
-    let names = read(rt.alloc(), file, NAMES_BYTES)?;
-    run_all(&rt, names.as_slice())
+    let count = read(file, &mut names);
+    run_all(&rt, &names[..count])
 }
