@@ -23,22 +23,25 @@ fn called<S: Side>(board: &mut [u64], call: Call) -> Outcome {
 }
 
 impl<const ROOM: usize> Boards<ROOM> {
-    // Boards of any words.
-    pub fn any(words: u64, seed: Seed) -> Boards<ROOM> {
-        let mut board = Memory {
-            room: [0; ROOM],
-            words,
-        };
-        board.fill(seed);
-        Boards::both(board)
-    }
-
     pub fn both(board: Memory<ROOM>) -> Boards<ROOM> {
         let found = board;
         Boards {
             found,
             wanted: board,
         }
+    }
+
+    // The model's board as the library's.
+    pub fn agree(&mut self) {
+        self.wanted.words = self.found.words;
+        self.wanted.room.copy_from_slice(&self.found.room);
+    }
+
+    // Boards of any words, so many of them lent.
+    pub fn fill(&mut self, words: u64, seed: Seed) {
+        self.found.words = words;
+        self.found.fill(seed);
+        self.agree();
     }
 
     // The answers and the boards of both sides compared, behind a call of a row.

@@ -83,42 +83,55 @@ fn write<L: Layout>(board: &mut Large, lines: u64, entries: u64, seed: Seed) {
 }
 
 // A size, converted.
-fn convert(old: &mut Large, size: Size, score: &mut Score) {
+fn convert(old: &mut Large, boards: &mut Boards<LARGE_ROOM>, size: Size, score: &mut Score) {
     write::<Old>(old, size.lines(), size.entries(), Seed(size.lines()));
     old.words = size.words();
-    let mut boards = Boards::<LARGE_ROOM>::any(size.words(), Seed(size as u64));
+    boards.fill(size.words(), Seed(size as u64));
     let outcome = boards.convert(old.lent(), score);
     score.see(Row::OldSize(size), outcome.number);
 }
 
 // A size, formatted.
-fn format(size: Size, score: &mut Score) {
-    let mut boards = Boards::<LARGE_ROOM>::any(size.words(), Seed(size as u64));
+fn format(boards: &mut Boards<LARGE_ROOM>, size: Size, score: &mut Score) {
+    boards.fill(size.words(), Seed(size as u64));
     let outcome = boards.call(Call::format(size.lines(), size.entries()), score);
     score.see(Row::FormatSize(size), outcome.number);
 }
 
 // The longest ring, with a log as long that starts at its last place and has a word for its newest entry, is
 // powered up.
-fn power_up(board: &mut Large, newest: u64, score: &mut Score) {
+fn power_up(boards: &mut Boards<LARGE_ROOM>, newest: u64, score: &mut Score) {
     let last = MOST_ENTRIES - 1;
+    let board = &mut boards.found;
     write::<New>(board, USED_LINES, MOST_ENTRIES, Seed(newest));
     board.words = board_words(USED_LINES, MOST_ENTRIES);
     board.put(log_place(last, MOST_ENTRIES, last), newest);
-    let outcome = Boards::both(*board).call(Call::plain(Kind::PowerUp), score);
+    boards.agree();
+    let outcome = boards.call(Call::plain(Kind::PowerUp), score);
     score.see(Row::FullLog, outcome.number);
 }
 
+// All of it on the same three memories: these are the most that the test has on its stack.
 pub fn large_boards(score: &mut Score) {
-    let mut board = Memory {
+    let mut old = Memory {
         room: [0; LARGE_ROOM],
         words: 0,
     };
+    let mut boards = Boards {
+        found: Memory {
+            room: [0; LARGE_ROOM],
+            words: 0,
+        },
+        wanted: Memory {
+            room: [0; LARGE_ROOM],
+            words: 0,
+        },
+    };
     for size in Size::ALL {
-        convert(&mut board, size, score);
-        format(size, score);
+        convert(&mut old, &mut boards, size, score);
+        format(&mut boards, size, score);
     }
     let newest = New::entry_word(0, PERSISTED_EPOCH, PERSISTED_EPOCH + 1);
-    power_up(&mut board, newest, score);
-    power_up(&mut board, 0, score);
+    power_up(&mut boards, newest, score);
+    power_up(&mut boards, 0, score);
 }
