@@ -2,7 +2,8 @@
 // and so may its lines: input and output go through buffers of a fixed size.
 #![tactic(auto)]
 
-ghost use Rattle.std.specs.Prelude.{◌<◌, ◌≤◌, length, IfOk};
+ghost use Rattle.std.specs.Prelude.{◌≡◌, ◌<◌, ◌≤◌, length, IfOk};
+ghost use Rattle.transcript.specs.Session.{emptied_session};
 
 use benchboard::{BOARD_WORDS, WORK_WORDS};
 use std::io;
@@ -12,6 +13,15 @@ use transcript::Session;
 
 // A read goes through a buffer of so many bytes, and so does what is printed.
 const BUFFER_BYTES: usize = 65536;
+
+// Writes out what has been printed, and answers the session behind that.
+fn write_out(rt: &impl Print, session: Session, out: &[u8]) -> io::Result<Session>
+    requires { session.used ≤ length out.now }
+    ensures { IfOk result (λ after. after ≡ emptied_session session) }
+{
+    rt.write_all(&out[..session.used])?;
+    Ok(session.emptied())
+}
 
 // A replay, its memories, and what it prints. In contracts: whether it is over.
 #[derive(Drop)]
@@ -58,9 +68,7 @@ impl Replay {
             &mut self.work,
             &mut self.out,
         );
-        let after = fed.session;
-        self.session = after.emptied();
-        rt.write_all(&self.out[..after.used])?;
+        self.session = write_out(rt, fed.session, &self.out)?;
         Ok(fed.taken)
     }
 
@@ -75,14 +83,14 @@ impl Replay {
     }
 
     fn finish(&mut self, rt: &impl Print) -> io::Result<()> {
-        let after = transcript::finish(
+        let finished = transcript::finish(
             self.session,
             &mut self.board,
             &mut self.work,
             &mut self.out,
         );
-        self.session = after.emptied();
-        rt.write_all(&self.out[..after.used])
+        self.session = write_out(rt, finished, &self.out)?;
+        Ok(())
     }
 
     // Reads once. Where nothing comes, or the read fails, the script is at its end.

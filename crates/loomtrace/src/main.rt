@@ -3,7 +3,7 @@
 // of a fixed size.
 #![tactic(auto)]
 
-ghost use Rattle.std.specs.Prelude.{◌≤◌, IfSome};
+ghost use Rattle.std.specs.Prelude.{◌≤◌, length, IfSome};
 ghost use Rattle.benchboard.specs.Sizes.{bench_board, bench_work};
 ghost use Rattle.layout.specs.Memory.{board_words, work_words};
 
@@ -70,7 +70,9 @@ fn run_all(run: Run, file: &mut impl Read, board: &mut [u64], work: &mut [u64]) 
 // An argument, in a buffer. One that is missing or too long is empty.
 // It is read by its bytes: `env::args` fails for all arguments where one is no text, and here that one alone is no number, or no
 // file's name.
-fn argument<'a>(rt: &impl Env, place: usize, buffer: &'a mut [u8]) -> &'a [u8] {
+fn argument<'a>(rt: &impl Env, place: usize, buffer: &'a mut [u8]) -> &'a [u8]
+    ensures { length result.now ≤ length buffer.old }
+{
     let length = rt.arg(place, buffer).unwrap_or(0);
     &buffer[..length]
 }
