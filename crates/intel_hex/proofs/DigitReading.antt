@@ -40,7 +40,17 @@ zero_figure = 48
 abbrev small_a : ℕ
 small_a = 97
 
--- by one test of all characters
+behind_is : (other c r : ℕ) → other ≤ characters → r < characters → (r + other) % characters ≡ c → r ≡ behind other c
+behind_is other c r o h e = omega (arith, o, h, e)
+
+-- by one test of all characters each
+folds : ℕ → Bool
+folds c = eqb (capital c) (cond (ltb (behind small_a c) letters) (c - small) c)
+
+all_fold : characters ≤ first folds characters
+unfolding folds capital place_in first_from
+all_fold = omega arith
+
 reads : ℕ → Bool
 reads c =
     let figure = behind zero_figure c in
@@ -53,6 +63,17 @@ unfolding reads capital value_of place_in first_from
 all_read = omega arith
 
 module _ (c : ℕ) (byte : c < characters) where
+  fold_is : capital c ≡ cond (ltb (behind small_a c) letters) (c - small) c
+  unfolding folds
+  fold_is = eqb-true (capital c) _ (first_all folds characters all_fold c byte)
+
+  -- what a case fold makes of a small letter's digit, and of every other character
+  pub folded : (r : ℕ) → r < characters → (r + small_a) % characters ≡ c → r < letters → c - small ≡ capital c
+  folded r h e few = let is = behind_is small_a c r (omega arith) h e in rw (fold_is, ← is, lt-ltb r letters few)
+
+  pub kept : (r : ℕ) → r < characters → (r + small_a) % characters ≡ c → letters ≤ r → c ≡ capital c
+  kept r h e many = let is = behind_is small_a c r (omega arith) h e in rw (fold_is, ← is, le-ltb r letters many)
+
   read_is : reads c ≡ true
   read_is = first_all reads characters all_read c byte
 

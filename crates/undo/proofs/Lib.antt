@@ -4,3 +4,4 @@ pub mod Stretching
 pub mod Reading
 pub mod Storing
 pub mod Restoring
+pub mod Kept
