@@ -100,19 +100,25 @@ fn put_output(out: &mut [u8; MOST_BYTES], input: &[u8]) -> usize
 }
 
 // Puts the input to the start of a buffer, or its first bytes, where it has more. Answers how many: none, where a read fails, since what
-// can't be read is no image. No Vec, as above.
-fn read_input(source: impl Read + Drop, input: &mut [u8; READ_BYTES]) -> usize
-    ensures { result ≤ READ_BYTES }
+// can't be read is no image. No Vec, as above; and no `io::copy`, whose reads are shorter: what comes as one packet would be cut.
+fn read_input(source: &mut impl Read, input: &mut [u8]) -> usize
+    ensures { result ≤ length input.new }
 {
-    let mut room = &mut input[..];
-    let count = io::copy(&mut source.take(READ_BYTES as u64), &mut room).unwrap_or(0);
-    (count as usize).min(READ_BYTES)
+    let mut count = 0;
+    while count < input.len() {
+        match source.read(&mut input[count..]) {
+            Err(_) => return 0,
+            Ok(0) => break,
+            Ok(more) => count += more,
+        }
+    }
+    count
 }
 
 fn main(rt: HostRuntime) -> io::Result<()> {
     let mut input = [0u8; READ_BYTES];
     let mut out = [0u8; MOST_BYTES];
-    let count = read_input(rt.stdin(), &mut input);
+    let count = read_input(&mut rt.stdin(), &mut input);
     let length = put_output(&mut out, &input[..count]);
     rt.write_all(&out[..length])
 }

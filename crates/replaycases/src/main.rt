@@ -66,8 +66,8 @@ fn difference(scripts: &[u8], expected: &[u8]) -> Option<usize> {
     None
 }
 
-// The file of a case's name and a suffix, opened. A name that is no text names none. Names and files are read into arrays, and not into what a
-// heap has: nothing here can fail but the files.
+// The file of a case's name and a suffix, opened. A name that is no text names none. Names and files are read into arrays, which a heap
+// has no part in: no memory can run out here.
 fn open<R: Files>(rt: &R, name: &[u8], suffix: &[u8]) -> io::Result<R::File> {
     if name.len() > NAME_BYTES {
         return fs::open(rt, "");
@@ -84,13 +84,18 @@ fn open<R: Files>(rt: &R, name: &[u8], suffix: &[u8]) -> io::Result<R::File> {
 }
 
 // Puts the first bytes of a file into a buffer: what comes until that is full, the file is at its end, or a read fails. Answers how many.
-fn read(file: impl Read + Drop, bytes: &mut [u8]) -> usize
+fn read(mut file: impl Read + Drop, bytes: &mut [u8]) -> usize
     ensures { result ≤ length bytes.new }
 {
-    let most = bytes.len();
-    let mut room = &mut *bytes;
-    let _ = io::copy(&mut file.take(most as u64), &mut room);
-    most.saturating_sub(room.len())
+    let mut count = 0;
+    while count < bytes.len() {
+        let more = file.read(&mut bytes[count..]).unwrap_or(0);
+        if more == 0 {
+            break;
+        }
+        count += more;
+    }
+    count
 }
 
 // Prints the case's line, and answers whether the case passed.
