@@ -6,11 +6,14 @@ use mathlib.Core.Bool.{Bool, true, false, cond, not, ◌&&◌, and-false}
 use mathlib.Core.List.{List, []}
 use native.Mathlib.Numerals.{add-one}
 use native.Mathlib.Omega.{arith}
-use borrow.Author.Tests.{lt-ltb, le-leb, lt-leb, ltb-true, ltb-false, leb-true, not-true, not-false}
+use borrow.Author.Tests.{lt-ltb, le-leb, lt-leb, ltb-true, ltb-false, leb-true, eqb-false, not-true, not-false}
+use Rattle.std.proofs.Common.{eqb-true}
 use mir.Syntax.{w64}
 use mir.Val.{Fits}
-use lib.Dec.{ltb, leb}
-use lib.ListN.{length, get_or}
+use lib.Dec.{ltb, leb, eqb}
+use lib.ListN.{length, get_or, take, drop, length-drop}
+use lib.Seq.{get_or-drop}
+use Rattle.std.proofs.Common.{take_all}
 use Rattle.std.specs.Prelude.{None, Some}
 use Rattle.std.specs.List.{slice_get}
 use Rattle.std.specs.Option.{is_some}
@@ -248,6 +251,22 @@ module _ {board : List ℕ} {u : LogState} {older newer : List (List ℕ)} (s : 
           within = omega (arith, s.all, run_most);
         }
 
+  -- the same of what it keeps
+  module _ (target kept : ℕ) (is : kept + first (useless_at older target) (length older) ≡ length older) where
+    abbrev useless : ℕ
+    useless = first (useless_at older target) (length older)
+
+    pub kept_early : 0 < kept → DroppedBy board u target (u.control.length - (kept + length newer))
+    kept_early h =
+        let dropped : u.control.length - (kept + length newer) ≡ useless = omega (arith, is, s.all) in
+        rw dropped (run_early target useless refl (omega (arith, is)))
+
+    pub kept_late : kept ≤ 0 → (behind : ℕ) → behind + first (useless_at newer target) (length newer) ≡ length newer
+        → DroppedBy board u target (u.control.length - behind)
+    kept_late h behind x =
+        let dropped : u.control.length - behind ≡ useless + first (useless_at newer target) (length newer) = omega (arith, is, x, s.all) in
+        rw dropped (run_late target useless refl (omega (arith, is)) (first (useless_at newer target) (length newer)) refl)
+
 -- the test of a buffered entry's word, one law for each way out
 module _ (word lines epoch : ℕ) (t : Bool) (address : t ≡ ltb (decode_entry word).address lines) where
   pub buffered_outside : not t ≡ true → false ≡ proper_word lines 0 epoch (decode_entry word)
@@ -296,19 +315,55 @@ module _ (entries : List (List ℕ)) (lines persisted bound : ℕ) where
       unfolding least_till
       order_next e x d = record { walked = walk_next s.walked t tested h x; carried = rw (add-one, d.is) }
 
--- the walk over a stretch up to the first entry that is not useless
-module _ (entries : List (List ℕ)) (target i : ℕ) (w : Walked (useless_at entries target) (length entries) i) where
-  pub useless_end : length entries ≤ i → length entries ≡ first (useless_at entries target) (length entries)
-  useless_end h = let e : length entries ≡ i = omega (arith, w.within) in e ∙ walk_end w h
+-- the walk over a stretch up to the first entry that is not useless: what it has left are the last of the entries
+pub record Left (entries rest : List (List ℕ)) (target : ℕ) : Type 0 where
+  pub few : length rest ≤ length entries
+  pub same : (j : ℕ) → get_or rest j [] ≡ get_or entries (length entries - length rest + j) []
+  pub walked : Walked (useless_at entries target) (length entries) (length entries - length rest)
 
-  module _ (h : i < length entries) (t : Bool) (tested : t ≡ leb (entry_of entries i).till target) where
-    pub useless_found : not t ≡ true → i ≡ first (useless_at entries target) (length entries)
-    unfolding useless_at
-    useless_found x = walk_found w t tested h x
+pub left_start : (entries : List (List ℕ)) (target : ℕ) → Left entries entries target
+left_start entries target =
+    let none : length entries - length entries ≡ 0 = omega arith in
+    record {
+      few = omega arith;
+      same = λ j. ap (λ (k : ℕ). get_or entries k []) (omega arith);
+      walked = rw none (walk_start (useless_at entries target) (length entries));
+    }
 
-    pub useless_next : not t ≡ false → Walked (useless_at entries target) (length entries) (i + 1)
+module _ (entries rest : List (List ℕ)) (target : ℕ) (l : Left entries rest target) (e : Bool) (empty : e ≡ eqb (length rest) 0) where
+  pub kept_none : not e ≡ false → 0 + first (useless_at entries target) (length entries) ≡ length entries
+  kept_none h =
+      let none : length rest ≡ 0 = eqb-true (length rest) 0 (sym empty ∙ not-false e h) in
+      let all : length entries - length rest ≡ first (useless_at entries target) (length entries) = walk_end l.walked (omega (arith, none)) in
+      omega (arith, none, all)
+
+  module _ (some : not e ≡ true) (t : Bool) (tested : t ≡ leb (entry_of rest 0).till target) where
+    one : 1 ≤ length rest
+    one = omega (arith, eqb-false (length rest) 0 (sym empty ∙ not-true e some))
+
+    abbrev at : ℕ
+    at = length entries - length rest
+
+    tested_here : t ≡ useless_at entries target at
     unfolding useless_at
-    useless_next x = walk_next w t tested h x
+    tested_here =
+        tested ∙ ap (λ (x : List ℕ). leb (decode_entry (get_or x 0 0)).till target)
+        (l.same 0 ∙ ap (λ (k : ℕ). get_or entries k []) (omega arith))
+
+    pub kept_found : not t ≡ true → length rest + first (useless_at entries target) (length entries) ≡ length entries
+    kept_found x =
+        let passed : at ≡ first (useless_at entries target) (length entries) = walk_found l.walked t tested_here (omega (arith, one, l.few)) x in
+        omega (arith, passed, l.few)
+
+    pub kept_next : not t ≡ false → Left entries (take (length rest - 1) (drop 1 rest)) target
+    kept_next x =
+        let fewer : length (drop 1 rest) ≡ length rest - 1 = length-drop 1 rest in
+        let next : length entries - length (drop 1 rest) ≡ at + 1 = omega (arith, fewer, one, l.few) in
+        rw (take_all (length rest - 1) (drop 1 rest) (omega (arith, fewer))) (record {
+          few = omega (arith, fewer, l.few);
+          same = λ j. get_or-drop 1 rest j [] ∙ l.same (1 + j) ∙ ap (λ (k : ℕ). get_or entries k []) (omega (arith, next));
+          walked = rw next (walk_next l.walked t tested_here (omega (arith, one, l.few)) x);
+        })
 
 -- the walk over the buffered entries that tests each, and the filter's bits of each
 abbrev pub sound_at : List ℕ → (lines epoch : ℕ) → ℕ → Bool
