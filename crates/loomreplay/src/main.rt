@@ -40,7 +40,7 @@ impl Model for Replay {
 
     ghost view = { λ r. r.session.over };
 
-    // All that was printed has been written out.
+    // Memories and buffer have room for the next byte.
     ghost invariant = { λ r. Ready r.session r.board r.work r.out };
 }
 
@@ -55,7 +55,7 @@ impl Replay {
     }
 
     // Replays as much of the input as there is room for, which is some of it, and answers how many bytes. Where what is
-    // printed can't be written, that is lost.
+    // printed can't be written, that is lost, and the replay is over for its caller.
     fn feed(&mut self, rt: &impl Print, input: &[u8]) -> io::Result<usize>
         requires { 0 < length input.now }
         ensures some { IfOk result (λ taken. 0 < taken) }

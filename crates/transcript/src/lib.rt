@@ -173,8 +173,8 @@ fn end_line(session: Session, board: &mut [u64], work: &mut [u64], out: &mut [u8
     }
 }
 
-// One byte of the script. The session is changed in its place: most bytes change its reader alone, and a copy of the whole would cost them half
-// as much again.
+// One byte of the script. The session is changed in its place: most bytes change its reader alone, and a copy of the whole would more than double
+// what they cost.
 fn feed(session: &mut Session, byte: u8, board: &mut [u64], work: &mut [u64], out: &mut [u8])
     requires { Ready session.old board.old work.old out.old }
     ensures { Turns (session.old.used + longest) session.old out.old (feed_turn (machine_of session.old board.old work.old) byte) board.new work.new out.new session.new }
